@@ -1,0 +1,24 @@
+//! The types that the layers of Demacrofier share: texts and lists that contracts see as plain values, places in
+//! files, refusals and limits, and the tokens, definitions and expansions of translation phases 3 to 7
+//! (ISO/IEC 9899:2011, 5.1.1.2).
+#![tactic(auto)]
+
+mod expansion;
+mod list;
+mod name;
+mod place;
+mod stop;
+#[cfg(test)]
+mod tests;
+mod text;
+mod token;
+mod unit;
+
+pub use expansion::{Definition, Expansion, Mark, Origin, Trail};
+pub use list::List;
+pub use name::is_normal_name;
+pub use place::{Place, Span, place_at};
+pub use stop::{Limit, Memory, Refusal, Stop};
+pub use text::Text;
+pub use token::{CToken, Class, PpKind, PpToken, Token};
+pub use unit::{Read, Unit, UnitTokens, Use};
