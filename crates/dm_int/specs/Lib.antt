@@ -1,0 +1,4 @@
+pub mod Kinds
+pub mod Operators
+pub mod Ranges
+pub mod Results
