@@ -1,0 +1,10 @@
+pub mod Answers
+pub mod Calls
+pub mod Faults
+pub mod Files
+pub mod MemoryFolder
+pub mod MemorySink
+pub mod Output
+pub mod RealFolder
+pub mod RealSink
+pub mod Stored
