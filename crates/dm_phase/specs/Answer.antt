@@ -1,0 +1,33 @@
+-- What reading answers, up to want of memory.
+use Rattle.std.specs.Prelude.{◌≡◌, ℕ, List, Result, Ok, Err}
+use Rattle.dm_token.specs.Places.{place_of}
+use Rattle.dm_token.specs.declared.stop.Refusal.{Refusal}
+use Rattle.dm_token.specs.declared.stop.Stop.{Stop}
+use Rattle.dm_token.specs.declared.stop.Stop.TheVariants.{Memory, Refused, Limit, ReadFault}
+use Rattle.dm_phase.specs.declared.Character.{Character}
+use Rattle.dm_phase.specs.Phases.{flat_text}
+
+-- The refusal of a text whose last newline is deleted with this backslash.
+abbrev pub refusal_at : ℕ → List ℕ → Character → Refusal
+refusal_at file bytes backslash = record { number = 8; detail = 0; place = place_of file bytes backslash.at }
+
+-- A text, or that refusal.
+abbrev pub unless_refused : ℕ → List ℕ → Result (List Character) Character → Result (List Character) Refusal
+unless_refused file bytes (Ok text) = Ok text
+unless_refused file bytes (Err backslash) = Err (refusal_at file bytes backslash)
+
+-- The text of the file of this number after phases 1 and 2, or its refusal.
+unfoldable pub flat_of : ℕ → List ℕ → Result (List Character) Refusal
+flat_of file bytes = unless_refused file bytes (flat_text bytes)
+
+-- A stop is the refusal that is meant, or want of memory.
+abbrev pub Stops : {Y : Type 0} → Stop → Result Y Refusal → Type 0
+Stops Memory meant = Unit {0}
+Stops (Refused refusal) meant = meant ≡ Err refusal
+Stops (Limit limit) meant = ⊥
+Stops (ReadFault file) meant = ⊥
+
+-- What a function gives, seen by view, is what is meant, unless memory ran out.
+abbrev pub Gives : {X Y : Type 0} → (X → Y) → Result X Stop → Result Y Refusal → Type 0
+Gives view (Ok x) meant = meant ≡ Ok (view x)
+Gives view (Err stop) meant = Stops stop meant

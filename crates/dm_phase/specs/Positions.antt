@@ -1,0 +1,63 @@
+-- Where the characters of a text stand in the file.
+use Rattle.std.proofs.Common.{◌≡◌, ℕ, zero, suc, ◌+◌, ◌<◌, ◌≤◌, max, List, [], ◌∷◌, ◌++◌, length, get_or, arith}
+use Rattle.dm_token.specs.Places.{newline}
+use Rattle.dm_phase.specs.declared.Character.{Character}
+
+-- Each character begins after the one before it, not before that one's end, and none ends behind the file.
+abbrev pub InOrder : ℕ → ℕ → List Character → Type 0
+InOrder first end [] = Unit {0}
+InOrder first end (c ∷ text) = (first ≤ c.at) × (c.at + c.width ≤ end) × InOrder (c.at + max 1 c.width) end text
+
+-- A character and those behind it end in a newline.
+abbrev pub LastIsNewline : Character → List Character → Type 0
+LastIsNewline c [] = c.byte ≡ newline
+LastIsNewline c (d ∷ text) = LastIsNewline d text
+
+-- A text that isn't empty ends in a newline.
+abbrev pub EndsInNewline : List Character → Type 0
+EndsInNewline [] = Unit {0}
+EndsInNewline (c ∷ text) = LastIsNewline c text
+
+-- A text may begin later than it has to.
+pub InOrder-weaker : (first later end : ℕ) (text : List Character) → first ≤ later → InOrder later end text → InOrder first end text
+InOrder-weaker first later end [] h order = tt
+InOrder-weaker first later end (c ∷ text) h order = (omega arith, order.1, order.2)
+
+-- What is behind a front of a text is in order too.
+pub InOrder-behind : (first end : ℕ) (front text : List Character) → InOrder first end (front ++ text) → InOrder first end text
+InOrder-behind first end [] text order = order
+InOrder-behind first end (c ∷ front) text order =
+    InOrder-weaker first (c.at + max 1 c.width) end text (omega arith) (InOrder-behind (c.at + max 1 c.width) end front text order.2)
+
+-- Each character begins at the first offset or behind it, and ends by the end.
+pub InOrder-at : (first end : ℕ) (text : List Character) (i : ℕ) (d : Character) → InOrder first end text → i < length text → (first ≤ (get_or text i d).at) × ((get_or text i d).at + (get_or text i d).width ≤ end)
+InOrder-at first end [] i d order h = absurd (omega arith)
+InOrder-at first end (c ∷ text) zero d order h = (order.0, order.1)
+InOrder-at first end (c ∷ text) (suc i) d order h =
+    let there : (c.at + max 1 c.width ≤ (get_or text i d).at) × ((get_or text i d).at + (get_or text i d).width ≤ end) = InOrder-at (c.at + max 1 c.width) end text i d order.2 (omega arith) in
+    (omega arith, there.1)
+
+-- Of two characters the later one begins behind the other, and not before its end.
+pub InOrder-pair : (first end : ℕ) (text : List Character) (i j : ℕ) (d : Character) → InOrder first end text → i < j → j < length text → ((get_or text i d).at < (get_or text j d).at) × ((get_or text i d).at + (get_or text i d).width ≤ (get_or text j d).at)
+InOrder-pair first end [] i j d order h k = absurd (omega arith)
+InOrder-pair first end (c ∷ text) i zero d order h k = absurd (omega arith)
+InOrder-pair first end (c ∷ text) zero (suc j) d order h k =
+    let there : (c.at + max 1 c.width ≤ (get_or text j d).at) × ((get_or text j d).at + (get_or text j d).width ≤ end) = InOrder-at (c.at + max 1 c.width) end text j d order.2 (omega arith) in
+    (omega arith, omega arith)
+InOrder-pair first end (c ∷ text) (suc i) (suc j) d order h k =
+    InOrder-pair (c.at + max 1 c.width) end text i j d order.2 (omega arith) (omega arith)
+
+-- So many characters fit.
+pub length-in_order : (first end : ℕ) (text : List Character) → InOrder first end text → length text + first ≤ max first (end + 1)
+length-in_order first end [] h = omega arith
+length-in_order first end (c ∷ text) h = omega (arith, length-in_order (c.at + max 1 c.width) end text h.2)
+
+-- Without its first character a text ends as it did.
+pub EndsInNewline-tail : (c : Character) (text : List Character) → EndsInNewline (c ∷ text) → EndsInNewline text
+EndsInNewline-tail c [] h = tt
+EndsInNewline-tail c (d ∷ text) h = h
+
+-- What is behind a front of a text ends as the text does.
+pub EndsInNewline-behind : (front text : List Character) → EndsInNewline (front ++ text) → EndsInNewline text
+EndsInNewline-behind [] text h = h
+EndsInNewline-behind (c ∷ front) text h = EndsInNewline-behind front text (EndsInNewline-tail c (front ++ text) h)
