@@ -1,0 +1,9 @@
+pub mod AloneLemmas
+pub mod CommentLemmas
+pub mod ExistLemmas
+pub mod KindLemmas
+pub mod PlaceLemmas
+pub mod ProgressLemmas
+pub mod ReachLemmas
+pub mod RunLemmas
+pub mod UniqueLemmas

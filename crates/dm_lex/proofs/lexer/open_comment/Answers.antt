@@ -1,0 +1,30 @@
+use Rattle.std.proofs.Common.{◌≡◌, ◌∙◌, ap, subst, sym, ℕ, List, length, drop}
+use Rattle.dm_phase.specs.declared.Character.{Character}
+use Rattle.dm_token.specs.declared.place.Place.{Place}
+use Rattle.dm_token.specs.declared.stop.Refusal.{Refusal}
+use Rattle.dm_token.specs.Places.{place_of}
+use Rattle.dm_lex.specs.Cuts.{bytes_of, IsOpen}
+use Rattle.dm_lex.specs.Tokens.{start_of}
+use Rattle.dm_lex.specs.Progress.{offset_of}
+use Rattle.dm_lex.proofs.ProgressLemmas.{offset_inside, bytes_of-rest, start_of-rest, file_of-here}
+use Rattle.dm_lex.proofs.lexer.open_comment.Goals as goal
+
+pub moved-requires-clause-inside : goal.moved-requires-clause-inside
+moved-requires-clause-inside c =
+    let h = offset_inside (length c.args.source.now.bytes.now) c.args.source.now.characters.now c.args.lexer.now.at c.requires.source.in_order c.requires.more in
+    h.0
+
+pub returns : goal.returns
+returns c =
+    let source = c.args.source.now in
+    let text : List Character = source.characters.now in
+    let at : ℕ = c.args.lexer.now.at in
+    let left : drop at source.text.now ≡ bytes_of (drop at text) = ap (drop at) c.requires.source.text ∙ sym (bytes_of-rest text at) in
+    let place : c.moved.result ≡ place_of source.file source.bytes.now (start_of (drop at text)) =
+    c.moved.ensures ∙ (ap (λ f. place_of f source.bytes.now (offset_of text at)) (file_of-here _ _ _ _ _ c.requires.progress.here)
+    ∙ ap (place_of source.file source.bytes.now) (sym (start_of-rest text at c.requires.more))) in (
+      c.requires.progress.pieces.0,
+      drop at text,
+      (c.requires.progress.pieces.1.cut, subst (λ (t : List ℕ). IsOpen t) left c.requires.comment),
+      ap (λ (p : Place). let r : Refusal = record { number = 2; detail = 0; place = p } in r) place,
+    )

@@ -1,0 +1,245 @@
+//! Taking one piece of a text after another.
+
+ghost use Rattle.std.specs.Prelude.{◌≡◌, ◌+◌, ◌<◌, ◌≤◌, ◌^◌, [], length, drop, take, slice_index, slice_range, IfOk, IfErr, OnOk, true, false};
+ghost use Rattle.dm_spell.specs.Tables.{punctuator_rows};
+ghost use Rattle.dm_token.specs.Places.{place_of};
+ghost use Rattle.dm_token.specs.declared.stop.Stop.TheVariants.{Refused, Memory as no_memory};
+ghost use Rattle.dm_lex.specs.Classes.{quotation_mark, apostrophe};
+ghost use Rattle.dm_lex.specs.Cuts.{is_blank as blank, bytes_of, first_state, IsOpen};
+ghost use Rattle.dm_lex.specs.Reach.{IsCommentLength};
+ghost use Rattle.dm_lex.specs.Tokens.{StopsAt, token_from};
+ghost use Rattle.dm_lex.specs.Progress.{IsSource, IsProgress, offset_of};
+
+use crate::comment::comment_length;
+use crate::scan::{Found, token_at};
+use crate::state::{
+    Line, State, allows_header, is_blank, is_start, line_behind, line_behind_blank,
+};
+use dm_phase::Character;
+use dm_spell::Spellings;
+use dm_token::{Place, PpToken, Refusal, Stop, Text};
+use std::alloc::Global;
+
+/// A text and the file that it comes from.
+#[derive(Drop)]
+pub struct Source<'a> {
+    pub file: u32,
+    /// The bytes of the file.
+    pub bytes: &'a [u8],
+    /// Its characters after phases 1 and 2.
+    pub characters: &'a [Character],
+    /// Their bytes.
+    pub text: &'a [u8],
+}
+
+/// How far a text is cut.
+#[derive(Drop)]
+pub struct Lexer {
+    /// The number of characters that are cut.
+    pub at: usize,
+    pub state: State,
+    /// No apostrophe that is met before this place closes.
+    pub single: usize,
+    /// No quotation mark that is met before this place closes.
+    pub double: usize,
+    /// The place of the last token.
+    pub here: Place,
+    pub tokens: Vec<PpToken>,
+}
+
+impl Lexer {
+    pub fn new(alloc: Global, file: u32) -> Lexer
+        ensures at { result.at ≡ 0 }
+        ensures state { result.state ≡ first_state }
+        ensures single { result.single ≡ 0 }
+        ensures double { result.double ≡ 0 }
+        ensures here { result.here ≡ record { file = file; byte = 0; line = 1; column = 1 } }
+        ensures tokens { result.tokens.items ≡ [] }
+    {
+        Lexer {
+            at: 0,
+            state: State {
+                line: Line::Start,
+                blank: true,
+            },
+            single: 0,
+            double: 0,
+            here: Place {
+                file,
+                byte: 0,
+                line: 1,
+                column: 1,
+            },
+            tokens: Vec::new(alloc),
+        }
+    }
+}
+
+/// Takes the piece at the front of what is left.
+pub fn take_piece(
+    alloc: Global,
+    source: &Source,
+    table: &Spellings<'static, 54>,
+    lexer: &mut Lexer,
+) -> Result<(), Stop>
+    requires source { IsSource source.now }
+    requires table { table.now ≡ punctuator_rows }
+    requires progress { IsProgress source.now lexer.old }
+    requires more { lexer.old.at < length source.now.characters.now }
+    ensures progress { OnOk result (IsProgress source.now lexer.new) }
+    ensures further { OnOk result (lexer.old.at < lexer.new.at) }
+    ensures stop { IfErr result (λ stop. StopsAt source.now.file source.now.bytes.now source.now.characters.now stop) }
+{
+    if is_blank(source.text[lexer.at]) {
+        take_blank(source, lexer);
+        return Ok(());
+    }
+    match comment_length(source.text, lexer.at) {
+        None => Err(open_comment(source, lexer)),
+        Some(0) => take_token(alloc, source, table, lexer),
+        Some(far) => {
+            take_comment(source, lexer, far);
+            Ok(())
+        }
+    }
+}
+
+// Takes a blank.
+fn take_blank(source: &Source, lexer: &mut Lexer)
+    requires source { IsSource source.now }
+    requires progress { IsProgress source.now lexer.old }
+    requires more { lexer.old.at < length source.now.characters.now }
+    requires blank { blank (slice_index source.now.text.now lexer.old.at) ≡ true }
+    ensures progress { IsProgress source.now lexer.new }
+    ensures further { lexer.old.at < lexer.new.at }
+{
+    let line = line_behind_blank(lexer.state.line, source.text[lexer.at]);
+    lexer.state = State { line, blank: true };
+    lexer.at += 1;
+}
+
+// Takes a comment.
+fn take_comment(source: &Source, lexer: &mut Lexer, far: usize)
+    requires source { IsSource source.now }
+    requires progress { IsProgress source.now lexer.old }
+    requires comment { IsCommentLength (drop lexer.old.at source.now.text.now) far }
+    requires some { 0 < far }
+    ensures progress { IsProgress source.now lexer.new }
+    ensures further { lexer.old.at < lexer.new.at }
+{
+    lexer.state.blank = true;
+    lexer.at += far;
+}
+
+// The refusal of the comment that begins here.
+fn open_comment(source: &Source, lexer: &Lexer) -> Stop
+    requires source { IsSource source.now }
+    requires progress { IsProgress source.now lexer.now }
+    requires more { lexer.now.at < length source.now.characters.now }
+    requires comment { IsOpen (drop lexer.now.at source.now.text.now) }
+    ensures { StopsAt source.now.file source.now.bytes.now source.now.characters.now result }
+{
+    let at = source.characters[lexer.at].at;
+    Stop::Refused(Refusal {
+        number: 2,
+        detail: 0,
+        place: moved(lexer.here, source.bytes, at),
+    })
+}
+
+// Takes a token.
+fn take_token(
+    alloc: Global,
+    source: &Source,
+    table: &Spellings<'static, 54>,
+    lexer: &mut Lexer,
+) -> Result<(), Stop>
+    requires source { IsSource source.now }
+    requires table { table.now ≡ punctuator_rows }
+    requires progress { IsProgress source.now lexer.old }
+    requires more { lexer.old.at < length source.now.characters.now }
+    requires blank { blank (slice_index source.now.text.now lexer.old.at) ≡ false }
+    requires comment { IsCommentLength (drop lexer.old.at source.now.text.now) 0 }
+    ensures progress { OnOk result (IsProgress source.now lexer.new) }
+    ensures further { OnOk result (lexer.old.at < lexer.new.at) }
+    ensures stop { IfErr result (λ stop. StopsAt source.now.file source.now.bytes.now source.now.characters.now stop) }
+{
+    let at = lexer.at;
+    let mut single = lexer.single;
+    let mut double = lexer.double;
+    let header = allows_header(lexer.state);
+    let found = token_at(table, source.text, at, header, &mut single, &mut double);
+    let here = moved(lexer.here, source.bytes, source.characters[at].at);
+    let token = make_token(alloc, source, lexer, found, here)?;
+    let line = line_behind(lexer.state.line, spelling_of(source, at, found.length));
+    lexer.tokens.push(token)?;
+    lexer.state = State { line, blank: false };
+    lexer.single = single;
+    lexer.double = double;
+    lexer.here = here;
+    lexer.at = at + found.length;
+    Ok(())
+}
+
+// The bytes of the characters at a place.
+fn spelling_of<'a>(source: &Source<'a>, at: usize, count: usize) -> &'a [u8]
+    requires { at + count ≤ length source.now.text.now }
+    ensures { result.now ≡ take count (drop at source.now.text.now) }
+{
+    let text = source.text;
+    text.split_at(at).1.split_at(count).0
+}
+
+// The token that is found.
+fn make_token(
+    alloc: Global,
+    source: &Source,
+    lexer: &Lexer,
+    found: Found,
+    here: Place,
+) -> Result<PpToken, Stop>
+    requires source { IsSource source.now }
+    requires inside { lexer.now.at + found.length ≤ length source.now.characters.now }
+    requires some { 0 < found.length }
+    requires here { here ≡ place_of source.now.file source.now.bytes.now (offset_of source.now.characters.now lexer.now.at) }
+    ensures token { IfOk result (λ token. token ≡
+        token_from source.now.file source.now.bytes.now lexer.now.state found.kind (take found.length (drop lexer.now.at source.now.characters.now))) }
+    ensures stop { IfErr result (λ stop. stop ≡ no_memory) }
+{
+    let spelling = spelling_of(source, lexer.at, found.length);
+    let last = source.characters[lexer.at + found.length - 1];
+    Ok(PpToken {
+        kind: found.kind,
+        spelling: Text::from_bytes(alloc, spelling)?,
+        place: here,
+        end: last.at + last.width,
+        blank_before: lexer.state.blank,
+        line_first: is_start(lexer.state.line),
+    })
+}
+
+// The place of an offset that isn't before the place `from`.
+fn moved(from: Place, bytes: &[u8], to: u32) -> Place
+    requires from { from ≡ place_of from.file bytes.now from.byte }
+    requires further { from.byte ≤ to }
+    requires inside { to ≤ length bytes.now }
+    requires short { length bytes.now ≤ 1048576 }
+    ensures { result ≡ place_of from.file bytes.now to }
+{
+    let mut line = from.line;
+    let mut column = from.column;
+    for at in from.byte as usize..to as usize {
+        if bytes[at] == b'\n' {
+            line += 1;
+            column = 1;
+        } else {
+            column += 1;
+        }
+    }
+    Place {
+        file: from.file,
+        byte: to,
+        line,
+        column,
+    }
+}
