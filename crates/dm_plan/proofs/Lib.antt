@@ -1,0 +1,12 @@
+mod Parts
+mod Numbers
+mod Names
+mod Splits
+mod Definitions
+mod Pushes
+mod Totals
+mod Mains
+mod Rewritings
+mod Leaving
+mod Meaning
+mod Findings
