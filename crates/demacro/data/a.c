@@ -1,0 +1,3 @@
+int putchar(int c);
+#define N 65
+int main(void) { putchar(N + 1); return 0; }

@@ -1,0 +1,102 @@
+-- How a call of the program ends.
+use Rattle.std.specs.Prelude.{◌≡◌, ◌≢◌, ◌≤◌, ℕ, List, length, Option, Some, None, Result, Ok, Err}
+use Rattle.dm_token.specs.declared.stop.Memory.{Memory}
+use Rattle.dm_token.specs.Places.{line_at, column_at}
+use Rattle.dm_core.specs.Programs.{Program, IsFirstForm, text_of, rewritten}
+use Rattle.dm_core.specs.Forms.{first_of, LeavesFormAt, MeansTheSame}
+use Rattle.dm_io.specs.Files.{Files, file_at, with_file, MayHaveSpoiled}
+use Rattle.dm_io.specs.Output.{appended, MayHaveAppended}
+use Rattle.dm_io.specs.Faults.{Rose}
+use Rattle.demacro.specs.Words.{named_file}
+use Rattle.demacro.specs.Texts.{usage_line, refusal_line, not_found, not_yet, limit_line, read_fault_line, write_fault_line, report_of}
+use Rattle.demacro.specs.Outside.{Outside, most_bytes, HasText, IsAbsent, IsTooLong, Puts, KeepsFiles}
+
+-- the endings, with the program that was applied, or with the bytes that are no program and where they leave the form
+pub data Ending : Type 0 where
+  done : Program → Ending
+  wrong_words : Ending
+  file_absent : Ending
+  form_left : List ℕ → ℕ → Ending
+  file_too_long : Ending
+  read_failed : Ending
+  write_failed : Program → Ending
+  output_failed : Program → Ending
+  memory_wanted : Ending
+
+-- the exit status of each
+abbrev pub status_of : Ending → ℕ
+status_of (done program) = 0
+status_of wrong_words = 1
+status_of file_absent = 3
+status_of (form_left bytes offset) = 3
+status_of file_too_long = 4
+status_of read_failed = 5
+status_of (write_failed program) = 6
+status_of (output_failed program) = 7
+status_of memory_wanted = 8
+
+-- the file holds a program of the first form, which is rewritten to one with the same outcome
+pub record IsApplied (before : Outside) (name : List ℕ) (program : Program) : Type 0 where
+  pub lawful : IsFirstForm program
+  pub had : HasText before.files name (text_of program)
+  pub same_meaning : MeansTheSame (text_of program) (text_of (rewritten program))
+
+-- the file holds the rewritten program, and all other files stay
+abbrev pub IsRewritten : Outside → Outside → List ℕ → Program → Type 0
+IsRewritten before after name program = after.files ≡ with_file before.files name (text_of (rewritten program))
+
+-- the report on a program's macros
+abbrev pub report_on : List ℕ → Program → List ℕ
+report_on name program = report_of name (first_of program).names
+
+-- what each ending with good words means
+abbrev pub EndsAt : List ℕ → Outside → Outside → Ending → Type 0
+EndsAt name before after (done program) =
+    IsApplied before name program × IsRewritten before after name program × (after.written ≡ appended before.written (report_on name program))
+EndsAt name before after wrong_words = ⊥
+EndsAt name before after file_absent =
+    IsAbsent before.files name × KeepsFiles before after × Puts before after (refusal_line name 1 1 not_found)
+EndsAt name before after (form_left bytes offset) =
+    HasText before.files name bytes × LeavesFormAt bytes offset × KeepsFiles before after × Puts before after (refusal_line name (line_at bytes offset) (column_at bytes offset) not_yet)
+EndsAt name before after file_too_long =
+    IsTooLong before.files name × KeepsFiles before after × Puts before after (limit_line name)
+EndsAt name before after read_failed =
+    Rose before.folder_faults after.folder_faults × KeepsFiles before after × Puts before after (read_fault_line name)
+EndsAt name before after (write_failed program) =
+    IsApplied before name program × (text_of (rewritten program) ≢ text_of program) × Rose before.folder_faults after.folder_faults × MayHaveSpoiled before.files after.files name × Puts before after (write_fault_line name)
+EndsAt name before after (output_failed program) =
+    IsApplied before name program × IsRewritten before after name program × Rose before.sink_faults after.sink_faults × MayHaveAppended before.written after.written (report_on name program)
+EndsAt name before after memory_wanted = KeepsFiles before after × (after.written ≡ before.written)
+
+-- what each ending means with other words
+abbrev pub EndsWithoutFile : Outside → Outside → Ending → Type 0
+EndsWithoutFile before after wrong_words = KeepsFiles before after × Puts before after usage_line
+EndsWithoutFile before after memory_wanted = KeepsFiles before after × (after.written ≡ before.written)
+EndsWithoutFile before after _ = ⊥
+
+-- what each ending means for the words, which name a file or are no good
+abbrev pub EndsFor : Option (List ℕ) → Outside → Outside → Ending → Type 0
+EndsFor None before after ending = EndsWithoutFile before after ending
+EndsFor (Some name) before after ending = EndsAt name before after ending
+
+-- a call with these words ends with this status
+abbrev pub Ends : List (List ℕ) → Outside → Outside → ℕ → Type 0
+Ends words before after status = (ending : Ending) × (status ≡ status_of ending) × EndsFor (named_file words) before after ending
+
+-- a call that applies a file ends: with a status, or for want of memory
+abbrev pub EndsNamed : List ℕ → Outside → Outside → Result ℕ Memory → Type 0
+EndsNamed name before after (Ok status) = (ending : Ending) × (status ≡ status_of ending) × EndsAt name before after ending
+EndsNamed name before after (Err error) = EndsAt name before after memory_wanted
+
+-- the same for any words
+abbrev pub EndsAs : List (List ℕ) → Outside → Outside → Result ℕ Memory → Type 0
+EndsAs words before after (Ok status) = Ends words before after status
+EndsAs words before after (Err error) = EndsFor (named_file words) before after memory_wanted
+
+-- the files are told, and the one of this name holds this program of the first form
+pub record HoldsProgram (told : Option Files) (name : List ℕ) (program : Program) : Type 0 where
+  pub lawful : IsFirstForm program
+  pub short : length (text_of program) ≤ most_bytes
+  pub files : Files
+  pub are_told : told ≡ Some files
+  pub has : file_at files name ≡ Some (text_of program)

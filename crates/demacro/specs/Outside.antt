@@ -1,0 +1,50 @@
+-- The world outside at a moment, and what may become of it.
+use Rattle.std.specs.Prelude.{◌≡◌, ◌⊎◌, ◌<◌, ◌*◌, ◌≤◌, ℕ, List, length, Option, Some, None}
+use Rattle.std.specs.Option.{IsSomeAnd}
+use Rattle.dm_io.specs.Files.{Files, file_at, with_file}
+use Rattle.dm_io.specs.Output.{appended, MayHaveAppended}
+use Rattle.dm_io.specs.Faults.{Rose}
+
+-- what is known of a folder and a sink
+pub record Outside : Type 0 where
+  pub files : Option Files
+  pub folder_faults : ℕ
+  pub written : Option (List ℕ)
+  pub sink_faults : ℕ
+
+-- the greatest length of a source file in bytes
+abbrev pub most_bytes : ℕ
+most_bytes = 1048576
+
+-- where the files are told, the file of this name has these bytes
+abbrev pub HasText : Option Files → List ℕ → List ℕ → Type 0
+HasText None name bytes = Unit {0}
+HasText (Some files) name bytes = file_at files name ≡ Some bytes
+
+-- where the files are told, there is none of this name
+abbrev pub IsAbsent : Option Files → List ℕ → Type 0
+IsAbsent None name = Unit {0}
+IsAbsent (Some files) name = file_at files name ≡ None
+
+-- where the files are told, the one of this name is too long
+abbrev pub IsTooLong : Option Files → List ℕ → Type 0
+IsTooLong None name = Unit {0}
+IsTooLong (Some files) name = IsSomeAnd (file_at files name) (λ bytes. most_bytes < length bytes)
+
+-- between two moments of a sink a text was put: all of it, or a front of it where the faults rose
+abbrev pub PutsText : Option (List ℕ) → Option (List ℕ) → ℕ → ℕ → List ℕ → Type 0
+PutsText before after faults_before faults_after text =
+    (after ≡ appended before text) ⊎ (Rose faults_before faults_after × MayHaveAppended before after text)
+
+-- the same between two moments of the world
+abbrev pub Puts : Outside → Outside → List ℕ → Type 0
+Puts before after text = PutsText before.written after.written before.sink_faults after.sink_faults text
+
+-- what is known of a folder and a sink
+abbrev pub outside : Option Files → ℕ → Option (List ℕ) → ℕ → Outside
+outside files folder_faults written sink_faults =
+    record { files = files; folder_faults = folder_faults; written = written; sink_faults = sink_faults }
+
+-- no file is changed
+abbrev pub KeepsFiles : Outside → Outside → Type 0
+KeepsFiles before after = after.files ≡ before.files

@@ -1,0 +1,61 @@
+-- What is found before anything is changed.
+use Rattle.std.specs.Prelude.{◌≡◌, ◌≢◌, ℕ, List, Option, Some, None}
+use Rattle.dm_token.specs.Places.{place_of}
+use Rattle.dm_core.specs.declared.form.First.{First}
+use Rattle.dm_core.specs.Programs.{Program, text_of, rewritten}
+use Rattle.dm_core.specs.Forms.{first_of, IsFirstText, LeavesFormAt, MeansTheSame}
+use Rattle.dm_io.specs.Files.{Files}
+use Rattle.dm_io.specs.Faults.{Rose}
+use Rattle.demacro.specs.declared.planning.Trouble.{Trouble}
+use Rattle.demacro.specs.declared.planning.Trouble.TheVariants.{NotFound, NotYet, TooLong, ReadFault}
+use Rattle.demacro.specs.declared.planning.Prepared.{Prepared}
+use Rattle.demacro.specs.declared.planning.Plan.{Plan}
+use Rattle.demacro.specs.declared.planning.Plan.TheVariants.{Apply, Explain}
+use Rattle.demacro.specs.Texts.{report_of, refusal_line, not_found, not_yet, limit_line, read_fault_line, write_fault_line}
+use Rattle.demacro.specs.Outside.{HasText, IsAbsent, IsTooLong}
+
+-- the change of a file: none where its bytes stay, and else the new ones
+abbrev pub IsChange : List ℕ → List ℕ → Option (List ℕ) → Type 0
+IsChange old new None = new ≡ old
+IsChange old new (Some bytes) = (bytes ≡ new) × (new ≢ old)
+
+-- the bytes that are made for a file whose bytes are of this form and become a text
+pub record IsPrepared (name old : List ℕ) (form : First) (new : List ℕ) (prepared : Prepared) : Type 0 where
+  pub change : IsChange old new prepared.change
+  pub report : prepared.report ≡ report_of name form.names
+  pub fault_line : prepared.fault_line ≡ write_fault_line name
+
+-- a file holds this program, which is rewritten to one with the same outcome, and all bytes for that are made
+pub record IsReady (name bytes : List ℕ) (prepared : Prepared) (program : Program) : Type 0 where
+  pub is_first : IsFirstText bytes program
+  pub same_meaning : MeansTheSame bytes (text_of (rewritten program))
+  pub made : IsPrepared name bytes (first_of program) (text_of (rewritten program)) prepared
+
+-- what is planned for a file with these bytes
+abbrev pub IsPlanFor : List ℕ → List ℕ → Plan → Type 0
+IsPlanFor name bytes (Apply prepared) = (program : Program) × IsReady name bytes prepared program
+IsPlanFor name bytes (Explain NotFound) = ⊥
+IsPlanFor name bytes (Explain (NotYet place)) = (offset : ℕ) × LeavesFormAt bytes offset × (place ≡ place_of 0 bytes offset)
+IsPlanFor name bytes (Explain TooLong) = ⊥
+IsPlanFor name bytes (Explain ReadFault) = ⊥
+
+-- what is planned for the file of a name, between two counts of the folder's faults
+abbrev pub IsPlan : Option Files → List ℕ → ℕ → ℕ → Plan → Type 0
+IsPlan files name before after (Apply prepared) = (bytes : List ℕ) × HasText files name bytes × IsPlanFor name bytes (Apply prepared)
+IsPlan files name before after (Explain NotFound) = IsAbsent files name
+IsPlan files name before after (Explain (NotYet place)) = (bytes : List ℕ) × HasText files name bytes × IsPlanFor name bytes (Explain (NotYet place))
+IsPlan files name before after (Explain TooLong) = IsTooLong files name
+IsPlan files name before after (Explain ReadFault) = Rose before after
+
+-- the line that explains why there is nothing to apply, and the status
+abbrev pub line_for : List ℕ → Trouble → List ℕ
+line_for name NotFound = refusal_line name 1 1 not_found
+line_for name (NotYet place) = refusal_line name place.line place.column not_yet
+line_for name TooLong = limit_line name
+line_for name ReadFault = read_fault_line name
+
+abbrev pub status_for : Trouble → ℕ
+status_for NotFound = 3
+status_for (NotYet place) = 3
+status_for TooLong = 4
+status_for ReadFault = 5
