@@ -1,0 +1,2 @@
+#include <a.h> // none
+int x = 0x1e+1;
