@@ -1,3 +1,9 @@
+pub mod Bytes
+pub mod Equal
 pub mod formers
+pub mod Limits
 pub mod Names
 pub mod Places
+pub mod Prefixes
+pub mod TrailFalls
+pub mod Trails

@@ -1,11 +1,8 @@
 -- Lines, columns and the order of places.
 use Rattle.std.specs.Prelude.{◌≡◌, ℕ, ◌+◌, ◌<◌, ◌≤◌, ◌⊎◌, List, take, fold, count_by, ◌==◌, if◌then◌else◌}
+pub use Rattle.dm_token.specs.Bytes.{newline}
 use Rattle.dm_token.specs.declared.place.Place.{Place}
 use Rattle.dm_token.specs.declared.place.Span.{Span}
-
--- the byte that ends a line
-abbrev pub newline : ℕ
-newline = 10
 
 -- how many newlines there are
 abbrev pub newlines : List ℕ → ℕ

@@ -1,10 +1,8 @@
-ghost use Rattle.std.specs.Prelude.{◌≡◌};
-
 use crate::list::List;
 use crate::place::Place;
 use crate::text::Text;
 use crate::token::PpToken;
-use std::marker::Model;
+use crate::trail::Trail;
 
 /// One step on a token's way from its spelling to the list of a unit.
 #[derive(Clone, Copy, Debug, PartialEq, Eq)]
@@ -23,38 +21,6 @@ pub enum Mark {
         /// Which of the parameter's places in the replacement list, counted from 0.
         occurrence: u32,
     },
-}
-
-/// The marks of a token, outermost first. Contracts see it as the list of marks.
-#[derive(Debug, PartialEq, Eq, Drop)]
-pub struct Trail {
-    marks: List<Mark>,
-}
-
-impl Model for Trail {
-    ghost use Rattle.std.specs.Prelude.{List};
-    ghost use Rattle.dm_token.specs.declared.expansion.Mark.{Mark};
-
-    ghost Value = { List Mark };
-
-    ghost view = { λ trail. trail.marks };
-
-    ghost inverse = { λ marks. record { marks = marks } };
-}
-
-impl Trail {
-    /// The marks of a list, which isn't copied.
-    pub fn from_marks(marks: List<Mark>) -> Trail
-        ensures { result ≡ marks }
-    {
-        Trail { marks }
-    }
-
-    pub fn marks(&self) -> &[Mark]
-        ensures { result.now ≡ self.now }
-    {
-        self.marks.items()
-    }
 }
 
 /// Where a macro's definition stands.

@@ -3,7 +3,10 @@
 //! (ISO/IEC 9899:2011, 5.1.1.2).
 #![tactic(auto)]
 
+mod boxed;
+mod bytes;
 mod expansion;
+mod limits;
 mod list;
 mod name;
 mod place;
@@ -12,13 +15,18 @@ mod stop;
 mod tests;
 mod text;
 mod token;
+mod trail;
 mod unit;
 
-pub use expansion::{Definition, Expansion, Mark, Origin, Trail};
+pub use boxed::Boxed;
+pub use bytes::is_digit;
+pub use expansion::{Definition, Expansion, Mark, Origin};
+pub use limits::{greatest_int, source_length_limit};
 pub use list::List;
 pub use name::is_normal_name;
 pub use place::{Place, Span, place_at};
 pub use stop::{Limit, Memory, Refusal, Stop};
-pub use text::Text;
+pub use text::{Buffer, Text};
 pub use token::{CToken, Class, PpKind, PpToken, Token};
+pub use trail::Trail;
 pub use unit::{Read, Unit, UnitTokens, Use};

@@ -41,7 +41,7 @@ fn has_plain_form(part: &[u8]) -> bool
     }
 }
 
-#[tactic(auto, unfolding(crate::specs::Names::is_name_byte))]
+#[tactic(auto, unfolding(crate::specs::Names::is_name_byte, crate::specs::Bytes::is_digit))]
 fn may_stand_in_name(byte: u8) -> bool
     ensures { result ≡ is_name_byte byte }
 {

@@ -1,6 +1,9 @@
-use crate::expansion::Trail;
+ghost use Rattle.std.specs.Prelude.{◌≡◌, IfOk};
+
 use crate::place::Place;
+use crate::stop::Memory;
 use crate::text::Text;
+use crate::trail::Trail;
 
 /// The kind of a preprocessing token (6.4).
 #[derive(Clone, Copy, Debug, PartialEq, Eq)]
@@ -36,11 +39,39 @@ pub struct PpToken {
     pub line_first: bool,
 }
 
+impl PpToken {
+    /// The same token, whose spelling is shared.
+    pub fn copy(&self) -> Result<PpToken, Memory>
+        ensures { IfOk result (λ token. token ≡ self.now) }
+    {
+        Ok(PpToken {
+            kind: self.kind,
+            spelling: self.spelling.copy()?,
+            place: self.place,
+            end: self.end,
+            blank_before: self.blank_before,
+            line_first: self.line_first,
+        })
+    }
+}
+
 /// A preprocessing token with the expansions that it came through.
 #[derive(Debug, PartialEq, Eq, Drop)]
 pub struct Token {
     pub pp: PpToken,
     pub trail: Trail,
+}
+
+impl Token {
+    /// The same token, whose spelling and marks are shared.
+    pub fn copy(&self) -> Result<Token, Memory>
+        ensures { IfOk result (λ token. token ≡ self.now) }
+    {
+        Ok(Token {
+            pp: self.pp.copy()?,
+            trail: self.trail.copy()?,
+        })
+    }
 }
 
 /// The kind of a token of translation phase 7 (6.4).
