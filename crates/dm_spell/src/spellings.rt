@@ -2,7 +2,7 @@
 
 ghost use Rattle.std.specs.Prelude.{◌≡◌, ◌+◌, ◌<◌, ◌≤◌, ◌&&◌, ◌↔◌, List, ℕ, length, drop, ◌∷◌, slice_index, IsTrue, IfSome, IfNone, EachIndex, Contains, slice_get, bytes_eq, nat_lt, if◌then◌else◌, Some, None};
 ghost use Rattle.std.specs.List.{list_any};
-ghost use Rattle.dm_spell.specs.Rows.{rows_of, row_at, rises, all_differ, StandsAt};
+ghost use Rattle.dm_spell.specs.Rows.{rows_of, row_at, rises, all_differ, StandsAt, NoneBegins, is_first, is_next};
 
 use std::marker::Model;
 
@@ -11,14 +11,25 @@ use std::marker::Model;
 pub struct Spellings<'a, const N: usize> {
     pub(crate) text: &'a [u8],
     pub(crate) ends: &'a [u16; N],
+    /// For each byte a row's number: no row before it begins with that byte.
+    pub(crate) firsts: &'a [u16; 256],
+    /// For each of the first rows a later one's number: no row between them begins with the byte that both begin with.
+    pub(crate) nexts: &'a [u16],
 }
+
+// The search begins at the first row.
+static ZEROS: [u16; 256] = [0; 256];
+
+// From each row the search goes on at the next.
+const NONE: &[u16] = &[];
 
 impl<'a, const N: usize> Model for Spellings<'a, N> {
     ghost Value = { List (List ℕ) };
 
     ghost view = { λ s. rows_of 0 s.text.now s.ends.now };
 
-    ghost invariant = { λ s. IsTrue (rises 0 s.ends.now (length s.text.now)) × IsTrue (all_differ (rows_of 0 s.text.now s.ends.now)) × (length s.ends.now ≡ N) × (N ≤ 65535) };
+    ghost invariant = { λ s. IsTrue (rises 0 s.ends.now (length s.text.now)) × IsTrue (all_differ (rows_of 0 s.text.now s.ends.now)) × (length s.ends.now ≡ N) × (N ≤ 65535)
+        × IsTrue (is_first 0 s.firsts.now (rows_of 0 s.text.now s.ends.now)) × IsTrue (is_next 0 s.nexts.now (rows_of 0 s.text.now s.ends.now)) };
 }
 
 impl<'a, const N: usize> Spellings<'a, N> {
@@ -29,7 +40,12 @@ impl<'a, const N: usize> Spellings<'a, N> {
             result ≡ (if rises 0 ends.now (length text.now) && all_differ rows then Some rows else None) }
     {
         if rise(text.len(), ends) && differ(text, ends) {
-            Some(Spellings { text, ends })
+            Some(Spellings {
+                text,
+                ends,
+                firsts: &ZEROS,
+                nexts: NONE,
+            })
         } else {
             None
         }
@@ -43,15 +59,22 @@ impl<'a, const N: usize> Spellings<'a, N> {
             StandsAt (row_at self.now other) bytes.now at → length (row_at self.now other) ≤ length (row_at self.now number))) }
         ensures none { IfNone result (EachIndex self.now (λ number. ¬ (StandsAt (row_at self.now number) bytes.now at))) }
     {
+        let count = self.count();
+        if at == bytes.len() {
+            return None;
+        }
+        let first = bytes[at];
         let rest = bytes.split_at(at).1;
         let mut found: Option<u16> = None;
         let mut most = 0;
-        for number in 0..self.count() {
+        let mut number = self.first(first);
+        while number < count {
             let row = self.row(number);
-            if stands(row, rest) && row.len() > most {
+            if row.len() > most && stands(row, rest) {
                 found = Some(number as u16);
                 most = row.len();
             }
+            number = self.next(number, first);
         }
         found
     }
@@ -61,18 +84,49 @@ impl<'a, const N: usize> Spellings<'a, N> {
         ensures found { IfSome result (λ number. slice_get self.now number ≡ Some word.now) }
         ensures none { IfNone result (¬ (Contains self.now word.now)) }
     {
-        for number in 0..self.count() {
+        let rows = self.count();
+        if word.is_empty() {
+            return None;
+        }
+        let first = word[0];
+        let mut number = self.first(first);
+        while number < rows {
             if self.row(number) == word {
                 return Some(number as u16);
             }
+            number = self.next(number, first);
         }
         None
+    }
+
+    // A number, before which no row begins with this byte.
+    fn first(&self, byte: u8) -> usize
+        ensures { NoneBegins self.now byte 0 result }
+    {
+        let firsts = self.firsts;
+        firsts[byte as usize] as usize
+    }
+
+    // A later number, between which and this one no row begins with this byte.
+    fn next(&self, number: usize, byte: u8) -> usize
+        requires { number < length self.now }
+        ensures none { NoneBegins self.now byte (number + 1) result }
+        ensures further { number < result }
+    {
+        let row = self.row(number);
+        let nexts = self.nexts;
+        if row[0] == byte && number < nexts.len() {
+            nexts[number] as usize
+        } else {
+            number + 1
+        }
     }
 
     // How many rows there are.
     fn count(&self) -> usize
         ensures count { result ≡ length self.now }
         ensures few { result ≤ 65535 }
+        ensures filled { EachIndex self.now (λ number. 0 < length (row_at self.now number)) }
     {
         let ends = self.ends;
         ends.len()
@@ -157,13 +211,9 @@ fn comes_again(text: &[u8], ends: &[u16], number: usize) -> bool
     false
 }
 
-// Whether the row stands at the front of the text. The first byte is compared before anything else.
+// Whether the row stands at the front of the text.
 fn stands(row: &[u8], text: &[u8]) -> bool
-    requires { 0 < length row.now }
     ensures { IsTrue result ↔ StandsAt row.now text.now 0 }
 {
-    match text.first() {
-        Some(first) => row[0] == *first && text.starts_with(row),
-        None => false,
-    }
+    text.starts_with(row)
 }
