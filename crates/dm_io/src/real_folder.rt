@@ -73,7 +73,7 @@ impl<R: Files> Folder for RealFolder<R> {
 
         // A fault is counted exactly where the write failed.
         ensures counted { faults_of self.new ≡ (if result then faults_of self.old else one_more (faults_of self.old)) }
-        // No other file than that of a normal name is written.
+        // At another name than a normal one it answers that it failed.
         ensures outside { is_normal_name name.now ≡ false → result ≡ false }
     {
         let written = replace_file(&self.files, name.bytes(), bytes).is_ok();

@@ -186,3 +186,22 @@ fn calls_of_put_fail_where_listed(rt: HostRuntime) -> Result<(), Fail> {
     assert_eq!(rt; sink.bytes(), b"bd".as_slice());
     Ok(())
 }
+
+#[test]
+fn each_call_in_memory_takes_a_mebibyte(rt: HostRuntime) -> Result<(), Fail> {
+    let large = "0123456789abcde\n".repeat(rt.alloc(), 65_536)?;
+    let bytes = large.as_bytes();
+    let mut folder = three_files(&rt, &[])?;
+    add(&rt, &mut folder, "large.c", bytes)?;
+    assert_eq!(rt;
+        read(&rt, &mut folder, "large.c", 1_048_576)?,
+        got(&rt, bytes)?
+    );
+    assert!(rt; write(&rt, &mut folder, "a.c", bytes)?);
+    expect_files(&rt, &folder, bytes, b"67")?;
+    let mut sink = MemorySink::new(rt.alloc(), List::new(rt.alloc()));
+    sink.ready(rt.alloc(), bytes.len())?;
+    assert!(rt; sink.put(bytes));
+    assert_eq!(rt; sink.bytes(), bytes);
+    Ok(())
+}

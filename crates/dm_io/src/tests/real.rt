@@ -1,4 +1,5 @@
-//! Real files below the current folder, and the real standard output.
+//! Real files below the current folder, and the real standard output. What needs limits of the system, as a disk that is
+//! full, is left to the runs of the program.
 
 use super::got;
 use crate::{Folder, Got, RealFolder, RealSink, Sink};
@@ -25,9 +26,17 @@ fn read(rt: &HostRuntime, name: &str, most: usize) -> Result<Got, Fail> {
 
 fn write(rt: &HostRuntime, name: &str, bytes: &[u8]) -> Result<bool, Fail> {
     let name = Text::new(rt.alloc(), name)?;
-    let mut folder = RealFolder::new(*rt);
-    folder.ready(rt.alloc(), &name, bytes.len())?;
-    Ok(folder.write(&name, bytes))
+    Ok(RealFolder::new(*rt).write(&name, bytes))
+}
+
+/// The number of names in a folder.
+fn names_in(rt: &HostRuntime, folder: &str) -> Result<usize, Fail> {
+    let mut names = 0usize;
+    for entry in fs::read_dir(rt, folder)? {
+        let _ = entry?;
+        names = names.saturating_add(1);
+    }
+    Ok(names)
 }
 
 #[test]
@@ -44,8 +53,37 @@ fn real_files_are_read(rt: HostRuntime) -> Result<(), Fail> {
     ] {
         assert_eq!(rt; read(&rt, absent, 5)?, Got::Absent, "{absent}");
     }
-    assert_eq!(rt; read(&rt, "dm_io_read", 5)?, Got::Failed);
+    symlink(&rt, "/dev/zero", "dm_io_read/device.c")?;
+    symlink(&rt, "loop.c", "dm_io_read/loop.c")?;
+    for failing in ["dm_io_read", "dm_io_read/device.c", "dm_io_read/loop.c"] {
+        assert_eq!(rt; read(&rt, failing, 5)?, Got::Failed, "{failing}");
+    }
     fs::remove_dir_all(&rt, "dm_io_read")?;
+    Ok(())
+}
+
+#[test]
+fn a_real_file_of_a_mebibyte_is_read_and_written(rt: HostRuntime) -> Result<(), Fail> {
+    make_folder(&rt, "dm_io_large")?;
+    let large = "0123456789abcde\n".repeat(rt.alloc(), 65_536)?;
+    let name = Text::new(rt.alloc(), "dm_io_large/a.c")?;
+    let mut folder = RealFolder::new(rt);
+    folder.ready(rt.alloc(), &name, large.len())?;
+    assert_eq!(rt;
+        fs::read(&rt, "dm_io_large/a.c")?.as_slice(),
+        b"12345".as_slice()
+    );
+    assert_eq!(rt; names_in(&rt, "dm_io_large")?, 1);
+    assert!(rt; folder.write(&name, large.as_bytes()));
+    assert_eq!(rt;
+        fs::read(&rt, "dm_io_large/a.c")?.as_slice(),
+        large.as_bytes()
+    );
+    assert_eq!(rt; names_in(&rt, "dm_io_large")?, 1);
+    let whole = got(&rt, large.as_bytes())?;
+    assert_eq!(rt; folder.read(rt.alloc(), &name, 1_048_576)?, whole);
+    assert_eq!(rt; folder.read(rt.alloc(), &name, 1_048_575)?, Got::Long);
+    fs::remove_dir_all(&rt, "dm_io_large")?;
     Ok(())
 }
 
@@ -62,11 +100,13 @@ fn real_files_are_replaced(rt: HostRuntime) -> Result<(), Fail> {
         fs::metadata(&rt, "dm_io_write/a.c")?.permissions().mode() & 0o777,
         0o640
     );
-    assert!(rt; !fs::exists(&rt, "dm_io_write/.demacrofier.tmp")?);
-    for refused in ["dm_io_write/b.c", "dm_io_write", "dm_io_write//a.c"] {
-        assert!(rt; !write(&rt, refused, b"9")?, "{refused}");
+    symlink(&rt, "/dev/null", "dm_io_write/device.c")?;
+    symlink(&rt, "loop.c", "dm_io_write/loop.c")?;
+    for refused in ["b.c", "", "/a.c", "device.c", "loop.c"] {
+        let name = format!(in rt.alloc(); "dm_io_write/{refused}")?;
+        assert!(rt; !write(&rt, name.as_str(), b"9")?, "{refused}");
     }
-    assert!(rt; !fs::exists(&rt, "dm_io_write/b.c")?);
+    assert_eq!(rt; names_in(&rt, "dm_io_write")?, 3);
     fs::remove_dir_all(&rt, "dm_io_write")?;
     Ok(())
 }
