@@ -1,7 +1,7 @@
 -- What phase 1 gives at the front of what is left of a file.
-use Rattle.std.proofs.Common.{◌≡◌, ℕ, ◌+◌, Bool, true, false, List, [], ◌∷◌, drop, Option, Some, None, ◌⊎◌, inl, inr, refl, sym, ◌∙◌, ap, subst, arith, ◌==◌, ◌&&◌, if◌then◌else◌}
-use Rattle.std.specs.Option.{option_map_or}
-use Rattle.std.proofs.lemmas.Bool.{cond_both, eqb-true, and_right, cases_Bool}
+use Rattle.std.proofs.Common.{◌≡◌, ℕ, ◌+◌, Bool, true, false, not, List, [], ◌∷◌, drop, Option, Some, None, ◌⊎◌, inl, inr, refl, sym, ◌∙◌, ap, subst, arith, ◌==◌, ◌&&◌, if◌then◌else◌}
+use Rattle.std.specs.Option.{option_map_or, is_some}
+use Rattle.std.proofs.lemmas.Bool.{cond_both, eqb-true, and_right, cases_Bool, not-true, not-false, both_ways}
 use Rattle.dm_token.specs.Places.{newline}
 use Rattle.dm_phase.specs.declared.Character.{Character}
 use Rattle.dm_phase.specs.Phases.{carriage_return, question_mark, characters_at, without_mark, ended, joined, trigraph, replaced, replacement, after_phase_1}
@@ -105,7 +105,7 @@ abbrev character_of_three : ℕ → ℕ → Character
 character_of_three byte offset = record { byte = byte; at = offset; width = 3 }
 
 -- at a byte that is neither a question mark nor a carriage return
-reads-other : (has_ended : Bool) (offset a : ℕ) (bytes : List ℕ) → (a == question_mark) ≡ false → (a == carriage_return) ≡ false → Reads has_ended offset (a ∷ bytes) (Some (a, 1))
+pub reads-other : (has_ended : Bool) (offset a : ℕ) (bytes : List ℕ) → (a == question_mark) ≡ false → (a == carriage_return) ≡ false → Reads has_ended offset (a ∷ bytes) (Some (a, 1))
 unfolding unread_after_phase_1 unread
 reads-other has_ended offset a bytes q r =
     ap replaced (joined-other (character a offset) _ r) ∙ replaced-other (character a offset) _ q
@@ -227,3 +227,18 @@ pub after_phase_1-unread : (bytes : List ℕ) → after_phase_1 bytes ≡ unread
 unfolding after_phase_1 unread_after_phase_1
 after_phase_1-unread bytes =
     ap (λ text. replaced (joined text)) (ap ended (without_mark-characters bytes) ∙ ended-unread _ _)
+
+-- a list with a first element isn't empty
+cons_is_not_nil : (c : Character) (text : List Character) → c ∷ text ≡ [] → ⊥
+cons_is_not_nil c text e = cc
+
+-- Nothing is left exactly where the front is empty.
+left-none_by : (has_ended : Bool) (offset : ℕ) (bytes : List ℕ) (o : Option (ℕ × ℕ)) (none : Bool) → Reads has_ended offset bytes o → is_some o ≡ not none →
+    (none ≡ true → unread_after_phase_1 has_ended offset bytes ≡ []) × (unread_after_phase_1 has_ended offset bytes ≡ [] → none ≡ true)
+left-none_by has_ended offset bytes None none reads e = (λ _. reads, λ _. not-false none (sym e))
+left-none_by has_ended offset bytes (Some next) none reads e =
+    (λ is. absurd (both_ways none (not-true none (sym e)) is), λ empty. absurd (cons_is_not_nil _ _ (sym reads ∙ empty)))
+
+pub left-none : (has_ended : Bool) (offset : ℕ) (bytes : List ℕ) (none : Bool) → is_some (front has_ended bytes) ≡ not none →
+    (none ≡ true → unread_after_phase_1 has_ended offset bytes ≡ []) × (unread_after_phase_1 has_ended offset bytes ≡ [] → none ≡ true)
+left-none has_ended offset bytes none e = left-none_by has_ended offset bytes (front has_ended bytes) none (front-reads has_ended offset bytes) e

@@ -1,9 +1,9 @@
 -- The next character after phase 1 at the front of what is left of a file.
-use Rattle.std.specs.Prelude.{ℕ, Bool, ◌+◌, List, [], ◌∷◌, Option, Some, None, ◌==◌, ◌&&◌, if◌then◌else◌}
+use Rattle.std.specs.Prelude.{ℕ, Bool, not, ◌+◌, List, [], ◌∷◌, Option, Some, None, ◌==◌, ◌&&◌, if◌then◌else◌}
 use Rattle.std.specs.Option.{option_map_or}
 use Rattle.dm_token.specs.Places.{newline}
 use Rattle.dm_phase.specs.declared.Character.{Character}
-use Rattle.dm_phase.specs.Phases.{carriage_return, question_mark, joined, replaced, replacement}
+use Rattle.dm_phase.specs.Phases.{backslash, carriage_return, question_mark, joined, replaced, replacement}
 
 -- The length of the mark for UTF-8 at the front of bytes, 0 where there is none.
 unfoldable pub mark_length : List ℕ → ℕ
@@ -35,3 +35,12 @@ unfoldable pub front : Bool → List ℕ → Option (ℕ × ℕ)
 front has_ended [] = if has_ended then None else Some (newline, 0)
 front has_ended (a ∷ bytes) =
     Some (if a == question_mark then front_at_question_mark bytes else if a == carriage_return then front_at_carriage_return bytes else (a, 1))
+
+-- A byte that stands for itself wherever it stands, and begins no splice.
+unfoldable pub is_plain : ℕ → Bool
+is_plain byte = not (byte == question_mark) && not (byte == carriage_return) && not (byte == backslash)
+
+-- Whether no newline is lacking behind bytes.
+unfoldable pub ended_behind : Bool → List ℕ → Bool
+ended_behind has_ended [] = has_ended
+ended_behind has_ended (byte ∷ bytes) = ended_behind (byte == newline) bytes

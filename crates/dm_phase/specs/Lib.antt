@@ -1,7 +1,11 @@
 pub mod Answer
+pub mod FlatText
 pub mod Front
 pub mod Pending
 pub mod Phases
 pub mod PositionLaws
 pub mod Positions
 pub mod Reading
+pub mod Sparse
+pub mod Writing
+pub mod Walking

@@ -1,20 +1,8 @@
 -- Translation phases 1 and 2 (5.1.1.2) as rewritings of a whole text, one after another.
 use Rattle.std.specs.Prelude.{ℕ, Bool, ◌+◌, List, [], ◌∷◌, Option, Some, None, option_map, Result, Ok, Err, codes, ◌==◌, ◌&&◌, if◌then◌else◌}
 use Rattle.std.specs.Option.{option_map_or}
-use Rattle.dm_token.specs.Places.{newline}
+pub use Rattle.dm_token.specs.Bytes.{newline, carriage_return, question_mark, backslash}
 use Rattle.dm_phase.specs.declared.Character.{Character}
-
--- a carriage return
-abbrev pub carriage_return : ℕ
-carriage_return = 13
-
--- a backslash
-abbrev pub backslash : ℕ
-backslash = 92
-
--- a question mark
-abbrev pub question_mark : ℕ
-question_mark = 63
 
 -- The bytes of a file as characters: each stands for itself, from an offset on.
 unfoldable pub characters_at : ℕ → List ℕ → List Character

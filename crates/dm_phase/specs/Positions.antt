@@ -61,3 +61,8 @@ EndsInNewline-tail c (d ∷ text) h = h
 pub EndsInNewline-behind : (front text : List Character) → EndsInNewline (front ++ text) → EndsInNewline text
 EndsInNewline-behind [] text h = h
 EndsInNewline-behind (c ∷ front) text h = EndsInNewline-behind front text (EndsInNewline-tail c (front ++ text) h)
+
+-- The file may be longer than it has to be.
+pub InOrder-wider : (first end later : ℕ) (text : List Character) → end ≤ later → InOrder first end text → InOrder first later text
+InOrder-wider first end later [] h order = tt
+InOrder-wider first end later (c ∷ text) h order = (order.0, omega (arith, order.1), InOrder-wider (c.at + max 1 c.width) end later text h order.2)

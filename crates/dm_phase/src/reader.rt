@@ -1,7 +1,7 @@
-ghost use Rattle.std.specs.Prelude.{◌≡◌, ◌<◌, ◌≤◌, ◌^◌, length, IfSome};
-ghost use Rattle.dm_phase.specs.Phases.{replacement, after_phase_1};
-ghost use Rattle.dm_phase.specs.Front.{front, mark_length};
-ghost use Rattle.dm_phase.specs.Pending.{text_of, splices};
+ghost use Rattle.std.specs.Prelude.{◌≡◌, ◌+◌, ◌<◌, ◌≤◌, ◌^◌, ◌++◌, ◌↔◌, [], ℕ, length, slice_index, IfSome, EachIndex, IsTrue, true};
+ghost use Rattle.dm_phase.specs.Phases.{replacement, after_phase_1, characters_at};
+ghost use Rattle.dm_phase.specs.Front.{front, mark_length, is_plain as plain, ended_behind};
+ghost use Rattle.dm_phase.specs.Pending.{text_of, Splices};
 ghost use Rattle.dm_phase.specs.Reading.{left, end_of};
 
 use crate::Character;
@@ -12,13 +12,13 @@ pub struct Reader<'a> {
     /// The bytes that are left.
     rest: &'a [u8],
     /// Their offset in the file.
-    at: u32,
+    pub at: u32,
     /// Whether no newline is lacking once no bytes are left.
     has_ended: bool,
 }
 
-impl Reader<'_> {
-    pub fn new(bytes: &[u8]) -> Reader<'_>
+impl<'a> Reader<'a> {
+    pub fn new(bytes: &'a [u8]) -> Reader<'a>
         requires { length bytes.now < 2 ^ 32 }
         ensures whole { left result ≡ after_phase_1 bytes.now }
         ensures end { end_of result ≡ length bytes.now }
@@ -36,7 +36,7 @@ impl Reader<'_> {
         requires { end_of self.old < 2 ^ 32 }
         ensures text { left self.old ≡ text_of result (left self.new) }
         ensures end { end_of self.new ≡ end_of self.old }
-        ensures inside { IfSome result (λ character. character.at ≤ end_of self.old) }
+        ensures inside { IfSome result (λ character. character.at + character.width ≤ end_of self.old) }
     {
         let (byte, width) = front(self.rest, self.has_ended)?;
         let character = Character {
@@ -48,6 +48,81 @@ impl Reader<'_> {
         self.at += width;
         self.has_ended = byte == b'\n';
         Some(character)
+    }
+
+    /// The bytes at the front to which nothing happens in phases 1 and 2.
+    pub fn take_run(&mut self) -> &'a [u8]
+        requires { end_of self.old < 2 ^ 32 }
+        ensures text { left self.old ≡ characters_at self.old.at result.now ++ left self.new }
+        ensures plain { EachIndex result.now (λ k. plain (slice_index result.now k) ≡ true) }
+        ensures end { end_of self.new ≡ end_of self.old }
+        ensures inside { self.old.at + length result.now ≤ end_of self.old }
+    {
+        let rest = self.rest;
+        let (run, others) = rest.split_at(plain_run(rest));
+        self.rest = others;
+        self.at += run.len() as u32;
+        self.has_ended = has_ended(self.has_ended, run);
+        run
+    }
+
+    /// Whether the character before and the next are a backslash and a newline. The newline is then taken.
+    pub fn take_splice(&mut self, character: Character) -> bool
+        requires { end_of self.old < 2 ^ 32 }
+        ensures text { Splices character (left self.old) result (left self.new) }
+        ensures end { end_of self.new ≡ end_of self.old }
+    {
+        if character.byte != b'\\' {
+            return false;
+        }
+        let Some((byte, width)) = front(self.rest, self.has_ended) else {
+            return false;
+        };
+        if byte != b'\n' {
+            return false;
+        }
+        self.rest = self.rest.split_at(width as usize).1;
+        self.at += width;
+        self.has_ended = true;
+        true
+    }
+
+    /// Whether nothing is left.
+    pub fn is_done(&self) -> bool
+        ensures { IsTrue result ↔ (left self.now ≡ []) }
+    {
+        front(self.rest, self.has_ended).is_none()
+    }
+}
+
+/// How many bytes at the front stand for themselves and begin no splice.
+fn plain_run(bytes: &[u8]) -> usize
+    ensures inside { result ≤ length bytes.now }
+    ensures plain { (k : ℕ) → k < result → plain (slice_index bytes.now k) ≡ true }
+{
+    for (at, byte) in bytes.iter().enumerate() {
+        if !is_plain(*byte) {
+            return at;
+        }
+    }
+    bytes.len()
+}
+
+#[tactic(auto, unfolding(crate::specs::Front::is_plain))]
+fn is_plain(byte: u8) -> bool
+    ensures { result ≡ plain byte }
+{
+    byte != b'?' && byte != b'\r' && byte != b'\\'
+}
+
+/// Whether no newline is lacking behind bytes.
+fn has_ended(before: bool, run: &[u8]) -> bool
+    ensures { result ≡ ended_behind before run.now }
+{
+    if run.is_empty() {
+        before
+    } else {
+        run[run.len() - 1] == b'\n'
     }
 }
 
@@ -98,11 +173,4 @@ fn replacement(third: u8) -> Option<u8>
         b'-' => Some(b'~'),
         _ => None,
     }
-}
-
-/// Whether a character and the one behind it are a backslash and a newline.
-pub fn is_splice(character: Character, next: Option<Character>) -> bool
-    ensures { result ≡ splices character next }
-{
-    character.byte == b'\\' && next.is_some_and(|next| next.byte == b'\n')
 }

@@ -2,8 +2,8 @@
 
 mod slow;
 
-use super::{Character, MAX_FILE_LENGTH, flatten};
-use dm_token::{Place, Refusal, Stop};
+use super::{Character, flatten};
+use dm_token::{Place, Refusal, Stop, source_length_limit};
 use std::alloc::{AllocError, Global};
 use std::process::Abort;
 use std::test::Fail;
@@ -14,9 +14,10 @@ fn expect_text<R: Abort + AllocGlobal>(
     bytes: &[u8],
     expected: &[(u8, u32, u32)],
 ) -> Result<(), Fail> {
-    assert!(rt; bytes.len() <= MAX_FILE_LENGTH);
+    assert!(rt; bytes.len() <= source_length_limit());
     let flat = flatten(rt.alloc(), 0, bytes)?;
-    let characters = flat.characters.items();
+    let list = flat.characters(rt.alloc())?;
+    let characters = list.items();
     assert_eq!(rt; characters.len(), expected.len(), "in {bytes:?}");
     for (character, (byte, at, width)) in characters.iter().zip(expected) {
         let wanted = Character {
@@ -31,7 +32,7 @@ fn expect_text<R: Abort + AllocGlobal>(
 
 /// Checks where a text is refused.
 fn expect_refusal<R: Abort + AllocGlobal>(rt: &R, bytes: &[u8], byte: u32, line: u32, column: u32) {
-    assert!(rt; bytes.len() <= MAX_FILE_LENGTH);
+    assert!(rt; bytes.len() <= source_length_limit());
     let refusal = Refusal {
         number: 8,
         detail: 0,
@@ -158,15 +159,29 @@ fn a_splice_at_the_end_is_refused_at_its_backslash(rt: HostRuntime) {
     expect_refusal(&rt, b"\\\\\n", 1, 1, 2);
 }
 
+#[test]
+fn reads_a_file_of_the_greatest_length(rt: HostRuntime) -> Result<(), Fail> {
+    let mut bytes = Vec::new(rt.alloc());
+    for _ in 1..source_length_limit() {
+        bytes.push(b'a')?;
+    }
+    bytes.push(b'\n')?;
+    assert!(rt; bytes.len() <= source_length_limit());
+    let flat = flatten(rt.alloc(), 0, bytes.as_slice())?;
+    assert!(rt; flat.bytes() == bytes.as_slice());
+    Ok(())
+}
+
 /// Compares the answer for one text with the plain program's.
 fn expect_plain<R: Abort + AllocGlobal>(rt: &R, bytes: &[u8]) -> Result<(), Fail> {
-    assert!(rt; bytes.len() <= MAX_FILE_LENGTH);
+    assert!(rt; bytes.len() <= source_length_limit());
     match (
         flatten(rt.alloc(), 0, bytes),
         slow::flat(rt.alloc(), bytes)?,
     ) {
         (Ok(flat), Ok(text)) => {
-            assert_eq!(rt; flat.characters.items(), text.as_slice(), "in {bytes:?}")
+            let characters = flat.characters(rt.alloc())?;
+            assert_eq!(rt; characters.items(), text.as_slice(), "in {bytes:?}")
         }
         (Err(Stop::Refused(refusal)), Err(at)) => {
             assert_eq!(rt; refusal.place.byte, at, "in {bytes:?}")
