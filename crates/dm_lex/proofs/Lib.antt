@@ -1,4 +1,5 @@
 pub mod AloneLemmas
+pub mod ChoiceLemmas
 pub mod CommentLemmas
 pub mod ExistLemmas
 pub mod KindLemmas

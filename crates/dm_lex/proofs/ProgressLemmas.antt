@@ -184,12 +184,12 @@ append-none [] = refl
 append-none (x ∷ xs) = ap (λ t. x ∷ t) (append-none xs)
 
 -- a blank is taken
-pub progress_blank : (source : Source) (lexer : Lexer) (line : Line) → IsSource source → IsProgress source lexer → lexer.at < length source.characters.now →
+pub progress_blank : (source : Source) (lexer : Lexer) (line : Line) → IsSource source → IsProgress source lexer → lexer.at < length source.flat.now.characters →
     is_blank (get_or source.text.now lexer.at 0) ≡ true → line ≡ cond (eqb (get_or source.text.now lexer.at 0) newline) Start lexer.state.line →
     IsProgress source (record { at = lexer.at + 1; state = record { line = line; blank = true }; single = lexer.single; double = lexer.double; here = lexer.here; tokens = lexer.tokens })
 unfolding state_behind tokens_of
 progress_blank source lexer line sourced progress more is line_is =
-    let text : List Character = source.characters.now in
+    let text : List Character = source.flat.now.characters in
     let byte : get_or source.text.now lexer.at 0 ≡ (get_or text lexer.at no_character).byte =
     ap (λ (s : List ℕ). get_or s lexer.at 0) sourced.text ∙ get_or-map (λ (c : Character). c.byte) text lexer.at no_character 0 more in
     let state_is : state_behind lexer.state (blank (get_or text lexer.at no_character)) ≡ record { line = line; blank = true } =
@@ -213,7 +213,7 @@ pub progress_comment : (source : Source) (lexer : Lexer) (far : ℕ) → IsSourc
     IsProgress source (record { at = lexer.at + far; state = record { line = lexer.state.line; blank = true }; single = lexer.single; double = lexer.double; here = lexer.here; tokens = lexer.tokens })
 unfolding state_behind tokens_of
 progress_comment source lexer far sourced progress is some =
-    let text : List Character = source.characters.now in
+    let text : List Character = source.flat.now.characters in
     let piece : Piece = comment (take far (drop lexer.at text)) in
     let inside : far ≤ length (drop lexer.at source.text.now) = is.inside in
     let size : length source.text.now ≡ length text = ap length sourced.text ∙ length-map text (λ (c : Character). c.byte) in
@@ -232,17 +232,17 @@ progress_comment source lexer far sourced progress is some =
 
 -- a token is taken
 pub progress_token : (source : Source) (lexer next : Lexer) (found : Found) (line : Line) →
-    IsSource source → IsProgress source lexer → lexer.at < length source.characters.now →
+    IsSource source → IsProgress source lexer → lexer.at < length source.flat.now.characters →
     is_blank (get_or source.text.now lexer.at 0) ≡ false → IsCommentLength (drop lexer.at source.text.now) 0 → IsBest (kind_of (allows_header lexer.state)) (drop lexer.at source.text.now) found →
     StaysOpen apostrophe source.text.now lexer.at next.single → StaysOpen quotation_mark source.text.now lexer.at next.double →
-    next.here ≡ place_of source.file source.bytes.now (offset_of source.characters.now lexer.at) →
+    next.here ≡ place_of source.file source.bytes.now (offset_of source.flat.now.characters lexer.at) →
     line ≡ line_behind lexer.state.line (take found.length (drop lexer.at source.text.now)) →
-    next.tokens.items ≡ lexer.tokens.items ++ token_from source.file source.bytes.now lexer.state found.kind (take found.length (drop lexer.at source.characters.now)) ∷ [] →
+    next.tokens.items ≡ lexer.tokens.items ++ token_from source.file source.bytes.now lexer.state found.kind (take found.length (drop lexer.at source.flat.now.characters)) ∷ [] →
     next.at ≡ lexer.at + found.length → next.state ≡ record { line = line; blank = false } →
     IsProgress source next
 unfolding state_behind tokens_of
 progress_token source lexer next found line sourced progress more no_blank no_comment best single_open double_open here_is line_is tokens_are at_is next_state =
-    let text : List Character = source.characters.now in
+    let text : List Character = source.flat.now.characters in
     let spelling : List Character = take found.length (drop lexer.at text) in
     let piece : Piece = token found.kind spelling in
     let inside : found.length ≤ length (drop lexer.at source.text.now) = best.inside in
@@ -282,7 +282,7 @@ progress_none source lexer at state single double here tokens = record {
   pieces = (
     [],
     record {
-      cut = ap (λ n. drop n source.characters.now) (sym at);
+      cut = ap (λ n. drop n source.flat.now.characters) (sym at);
       state_is = sym state;
       tokens_are = sym tokens;
     },

@@ -280,3 +280,19 @@ open_no_cut state (p ∷ ps) (q ∷ qs) text left cut open' cut' =
     let moved : CutsTo (state_behind state p) qs cut.0 [] =
     subst (λ (r : Piece). CutsTo (state_behind state r) qs cut.0 []) (sym same.0) (subst (λ (t : List Character). CutsTo (state_behind state q) qs t []) (sym same.1) cut'.3) in
     open_no_cut (state_behind state p) ps qs cut.0 left cut.3 open' moved
+
+-- two cuts up to an open comment are one, and leave the same
+pub open_same : (state : State) (ps qs : List Piece) (text left rest : List Character) → CutsTo state ps text left → IsOpen (bytes_of left) → CutsTo state qs text rest → IsOpen (bytes_of rest) →
+    (ps ≡ qs) × (left ≡ rest)
+unfolding CutsTo
+open_same state [] [] text left rest cut open' cut' open'' = (refl, sym cut ∙ cut')
+open_same state [] (q ∷ qs) text left rest cut open' cut' open'' =
+    absurd (open_no_piece (allows_header state) q cut'.0 left open' (sym cut ∙ cut'.1) cut'.2)
+open_same state (p ∷ ps) [] text left rest cut open' cut' open'' =
+    absurd (open_no_piece (allows_header state) p cut.0 rest open'' (sym cut' ∙ cut.1) cut.2)
+open_same state (p ∷ ps) (q ∷ qs) text left rest cut open' cut' open'' =
+    let same : (p ≡ q) × (cut.0 ≡ cut'.0) = one_piece (allows_header state) p q cut.0 cut'.0 cut.2 cut'.2 (sym cut.1 ∙ cut'.1) in
+    let moved : CutsTo (state_behind state p) qs cut.0 rest =
+    subst (λ (r : Piece). CutsTo (state_behind state r) qs cut.0 rest) (sym same.0) (subst (λ (t : List Character). CutsTo (state_behind state q) qs t rest) (sym same.1) cut'.3) in
+    let further : (ps ≡ qs) × (left ≡ rest) = open_same (state_behind state p) ps qs cut.0 left rest cut.3 open' moved open'' in
+    (ap (λ (r : Piece). r ∷ ps) same.0 ∙ ap (λ (rs : List Piece). q ∷ rs) further.0, further.1)

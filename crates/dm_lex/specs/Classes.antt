@@ -6,11 +6,8 @@ use Rattle.std.specs.List.{list_all}
 use Rattle.dm_spell.specs.Tables.{punctuator_rows}
 use Rattle.dm_token.specs.declared.token.PpKind.{PpKind}
 use Rattle.dm_token.specs.declared.token.PpKind.TheVariants.{Identifier, Number, Character, Literal, Punctuator, Header, Stray}
-use Rattle.dm_token.specs.Places.{newline}
-
--- a digit (6.4.2.1)
-unfoldable pub is_digit : ℕ → Bool
-is_digit byte = nat_le 48 byte && nat_le byte 57
+unfoldable pub use Rattle.dm_token.specs.Bytes.{is_digit}
+pub use Rattle.dm_token.specs.Bytes.{newline, quotation_mark, apostrophe, asterisk, full_stop, slash, less, greater, backslash}
 
 -- a letter or the underscore (6.4.2.1)
 unfoldable pub is_nondigit : ℕ → Bool
@@ -19,31 +16,6 @@ is_nondigit byte = (nat_le 97 byte && nat_le byte 122) || (nat_le 65 byte && nat
 -- a byte of an identifier
 unfoldable pub is_word : ℕ → Bool
 is_word byte = is_nondigit byte || is_digit byte
-
--- the quotes, and the other bytes with a meaning of their own
-abbrev pub quotation_mark : ℕ
-quotation_mark = 34
-
-abbrev pub apostrophe : ℕ
-apostrophe = 39
-
-abbrev pub asterisk : ℕ
-asterisk = 42
-
-abbrev pub full_stop : ℕ
-full_stop = 46
-
-abbrev pub slash : ℕ
-slash = 47
-
-abbrev pub less : ℕ
-less = 60
-
-abbrev pub greater : ℕ
-greater = 62
-
-abbrev pub backslash : ℕ
-backslash = 92
 
 -- a byte that passes the first test, and behind it bytes that pass the second
 unfoldable pub behind : (ℕ → Bool) → (List ℕ → Bool) → List ℕ → Bool

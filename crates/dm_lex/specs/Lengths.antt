@@ -1,5 +1,5 @@
 -- How long the longest token of each class at the front of a text is, 0 where none stands there.
-use Rattle.std.specs.Prelude.{ℕ, suc, Bool, false, max, nat_le, List, [], ◌∷◌, ◌==◌, if◌then◌else◌}
+use Rattle.std.specs.Prelude.{ℕ, suc, Bool, false, not, ◌&&◌, max, nat_le, List, [], ◌∷◌, ◌==◌, if◌then◌else◌}
 use Rattle.dm_lex.specs.Classes.{is_word, is_digit, is_nondigit, is_prefix, full_stop, apostrophe, quotation_mark, less, greater}
 use Rattle.dm_token.specs.declared.token.PpKind.{PpKind}
 use Rattle.dm_token.specs.declared.token.PpKind.TheVariants.{Identifier, Number, Character, Literal, Header}
@@ -72,3 +72,12 @@ unfoldable pub best_of : Bool → List ℕ → Found → Found
 best_of header text found =
     or_longer (or_longer (or_longer (or_longer (or_longer found Literal (literal_length text)) Character (character_length text))
     Number (number_length text)) Identifier (identifier_length text)) Header (if header then header_length text else 0)
+
+-- a byte that begins an identifier and nothing else
+unfoldable pub is_letter : ℕ → Bool
+is_letter byte = is_nondigit byte && not (is_prefix byte)
+
+-- a byte that begins a punctuator or nothing
+unfoldable pub is_mark : ℕ → Bool
+is_mark byte =
+    not (is_word byte) && not (byte == quotation_mark) && not (byte == apostrophe) && not (byte == full_stop) && not (byte == less)

@@ -2,9 +2,12 @@
 use Rattle.std.specs.Prelude.{◌≡◌, ℕ, ◌<◌, ◌≤◌, List, [], ◌∷◌, length, drop, slice_index_or}
 use Rattle.dm_token.specs.declared.place.Place.{Place}
 use Rattle.dm_token.specs.declared.token.PpToken.{PpToken}
+use Rattle.dm_token.specs.Limits.{source_length_limit}
 use Rattle.dm_token.specs.Places.{place_of}
 use Rattle.dm_phase.specs.declared.Character.{Character}
+use Rattle.dm_phase.specs.declared.cursor.Cursor.{Cursor}
 use Rattle.dm_phase.specs.Positions.{InOrder}
+use Rattle.dm_phase.specs.Walking.{ahead, IsSound}
 use Rattle.dm_lex.specs.declared.state.State.{State}
 use Rattle.dm_lex.specs.declared.lexer.Source.{Source}
 use Rattle.dm_lex.specs.declared.lexer.Lexer.{Lexer}
@@ -23,9 +26,9 @@ offset_of text k = (slice_index_or text k no_character).at
 
 -- the text is that of the file
 pub record IsSource (source : Source) : Type 0 where
-  pub text : source.text.now ≡ bytes_of source.characters.now
-  pub in_order : InOrder 0 (length source.bytes.now) source.characters.now
-  pub short : length source.bytes.now ≤ 1048576
+  pub text : source.text.now ≡ bytes_of source.flat.now.characters
+  pub in_order : InOrder 0 (length source.bytes.now) source.flat.now.characters
+  pub short : length source.bytes.now ≤ source_length_limit
 
 -- the state behind pieces
 unfoldable pub state_after : State → List Piece → State
@@ -45,8 +48,14 @@ pub record IsHere (file : ℕ) (bytes : List ℕ) (text : List Character) (at : 
 
 -- the first characters are cut, and these are the tokens among them
 pub record IsProgress (source : Source) (lexer : Lexer) : Type 0 where
-  pub inside : lexer.at ≤ length source.characters.now
-  pub pieces : (pieces : List Piece) × HasCut source.file source.bytes.now source.characters.now lexer.at lexer.state lexer.tokens.items pieces
+  pub inside : lexer.at ≤ length source.flat.now.characters
+  pub pieces : (pieces : List Piece) × HasCut source.file source.bytes.now source.flat.now.characters lexer.at lexer.state lexer.tokens.items pieces
   pub single : StaysOpen apostrophe source.text.now lexer.at lexer.single
   pub double : StaysOpen quotation_mark source.text.now lexer.at lexer.double
-  pub here : IsHere source.file source.bytes.now source.characters.now lexer.at lexer.here
+  pub here : IsHere source.file source.bytes.now source.flat.now.characters lexer.at lexer.here
+
+-- the cursor has the characters from its number on, which isn't above `at`
+pub record IsBefore (text : List Character) (at : ℕ) (cursor : Cursor) : Type 0 where
+  pub sound : IsSound cursor
+  pub left : ahead cursor ≡ drop cursor.index text
+  pub before : cursor.index ≤ at

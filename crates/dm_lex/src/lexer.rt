@@ -1,23 +1,25 @@
 //! Taking one piece of a text after another.
 
-ghost use Rattle.std.specs.Prelude.{◌≡◌, ◌+◌, ◌<◌, ◌≤◌, ◌^◌, [], length, drop, take, slice_index, slice_range, IfOk, IfErr, OnOk, true, false};
+ghost use Rattle.std.specs.Prelude.{◌≡◌, ◌+◌, ◌<◌, ◌≤◌, ◌^◌, [], length, drop, take, slice_index, slice_index_or, slice_range, IfOk, IfErr, OnOk, true, false};
 ghost use Rattle.dm_spell.specs.Tables.{punctuator_rows};
+ghost use Rattle.dm_token.specs.Limits.{source_length_limit};
 ghost use Rattle.dm_token.specs.Places.{place_of};
 ghost use Rattle.dm_token.specs.declared.stop.Stop.TheVariants.{Refused, Memory as no_memory};
 ghost use Rattle.dm_lex.specs.Classes.{quotation_mark, apostrophe};
 ghost use Rattle.dm_lex.specs.Cuts.{is_blank as blank, bytes_of, first_state, IsOpen};
 ghost use Rattle.dm_lex.specs.Reach.{IsCommentLength};
 ghost use Rattle.dm_lex.specs.Tokens.{StopsAt, token_from};
-ghost use Rattle.dm_lex.specs.Progress.{IsSource, IsProgress, offset_of};
+ghost use Rattle.dm_lex.specs.Progress.{IsSource, IsProgress, IsBefore, no_character, offset_of};
+ghost use Rattle.dm_phase.specs.Answer.{StopsInside};
 
 use crate::comment::comment_length;
 use crate::scan::{Found, token_at};
 use crate::state::{
     Line, State, allows_header, is_blank, is_start, line_behind, line_behind_blank,
 };
-use dm_phase::Character;
+use dm_phase::{Character, Cursor, Flat};
 use dm_spell::Spellings;
-use dm_token::{Place, PpToken, Refusal, Stop, Text};
+use dm_token::{Place, PpToken, Refusal, Stop};
 use std::alloc::Global;
 
 /// A text and the file that it comes from.
@@ -27,7 +29,7 @@ pub struct Source<'a> {
     /// The bytes of the file.
     pub bytes: &'a [u8],
     /// Its characters after phases 1 and 2.
-    pub characters: &'a [Character],
+    pub flat: &'a Flat,
     /// Their bytes.
     pub text: &'a [u8],
 }
@@ -77,26 +79,32 @@ impl Lexer {
 
 /// Takes the piece at the front of what is left.
 pub fn take_piece(
-    alloc: Global,
     source: &Source,
     table: &Spellings<'static, 54>,
     lexer: &mut Lexer,
+    cursor: &mut Cursor,
 ) -> Result<(), Stop>
     requires source { IsSource source.now }
     requires table { table.now ≡ punctuator_rows }
     requires progress { IsProgress source.now lexer.old }
-    requires more { lexer.old.at < length source.now.characters.now }
+    requires before { IsBefore source.now.flat.now.characters lexer.old.at cursor.old }
+    requires more { lexer.old.at < length source.now.flat.now.characters }
     ensures progress { OnOk result (IsProgress source.now lexer.new) }
     ensures further { OnOk result (lexer.old.at < lexer.new.at) }
-    ensures stop { IfErr result (λ stop. StopsAt source.now.file source.now.bytes.now source.now.characters.now stop) }
+    ensures before { OnOk result (IsBefore source.now.flat.now.characters lexer.new.at cursor.new) }
+    ensures stop { IfErr result (λ stop. StopsAt source.now.file source.now.bytes.now source.now.flat.now.characters stop) }
+    ensures inside { IfErr result (λ stop. StopsInside source.now.file source.now.bytes.now stop) }
 {
     if is_blank(source.text[lexer.at]) {
         take_blank(source, lexer);
         return Ok(());
     }
     match comment_length(source.text, lexer.at) {
-        None => Err(open_comment(source, lexer)),
-        Some(0) => take_token(alloc, source, table, lexer),
+        None => Err(open_comment(source, lexer, cursor)),
+        Some(0) => {
+            take_token(source, table, lexer, cursor)?;
+            Ok(())
+        }
         Some(far) => {
             take_comment(source, lexer, far);
             Ok(())
@@ -108,7 +116,7 @@ pub fn take_piece(
 fn take_blank(source: &Source, lexer: &mut Lexer)
     requires source { IsSource source.now }
     requires progress { IsProgress source.now lexer.old }
-    requires more { lexer.old.at < length source.now.characters.now }
+    requires more { lexer.old.at < length source.now.flat.now.characters }
     requires blank { blank (slice_index source.now.text.now lexer.old.at) ≡ true }
     ensures progress { IsProgress source.now lexer.new }
     ensures further { lexer.old.at < lexer.new.at }
@@ -132,14 +140,16 @@ fn take_comment(source: &Source, lexer: &mut Lexer, far: usize)
 }
 
 // The refusal of the comment that begins here.
-fn open_comment(source: &Source, lexer: &Lexer) -> Stop
+fn open_comment(source: &Source, lexer: &Lexer, cursor: &mut Cursor) -> Stop
     requires source { IsSource source.now }
     requires progress { IsProgress source.now lexer.now }
-    requires more { lexer.now.at < length source.now.characters.now }
+    requires before { IsBefore source.now.flat.now.characters lexer.now.at cursor.old }
+    requires more { lexer.now.at < length source.now.flat.now.characters }
     requires comment { IsOpen (drop lexer.now.at source.now.text.now) }
-    ensures { StopsAt source.now.file source.now.bytes.now source.now.characters.now result }
+    ensures stop { StopsAt source.now.file source.now.bytes.now source.now.flat.now.characters result }
+    ensures inside { StopsInside source.now.file source.now.bytes.now result }
 {
-    let at = source.characters[lexer.at].at;
+    let at = character_at(source, cursor, lexer.at).at;
     Stop::Refused(Refusal {
         number: 2,
         detail: 0,
@@ -147,30 +157,45 @@ fn open_comment(source: &Source, lexer: &Lexer) -> Stop
     })
 }
 
+// The character with this number.
+fn character_at(source: &Source, cursor: &mut Cursor, at: usize) -> Character
+    requires before { IsBefore source.now.flat.now.characters at cursor.old }
+    requires inside { at < length source.now.flat.now.characters }
+    ensures character { slice_index_or source.now.flat.now.characters at no_character ≡ result }
+    ensures before { IsBefore source.now.flat.now.characters at cursor.new }
+{
+    cursor.advance(at - cursor.index);
+    cursor.first()
+}
+
 // Takes a token.
 fn take_token(
-    alloc: Global,
     source: &Source,
     table: &Spellings<'static, 54>,
     lexer: &mut Lexer,
+    cursor: &mut Cursor,
 ) -> Result<(), Stop>
     requires source { IsSource source.now }
     requires table { table.now ≡ punctuator_rows }
     requires progress { IsProgress source.now lexer.old }
-    requires more { lexer.old.at < length source.now.characters.now }
+    requires before { IsBefore source.now.flat.now.characters lexer.old.at cursor.old }
+    requires more { lexer.old.at < length source.now.flat.now.characters }
     requires blank { blank (slice_index source.now.text.now lexer.old.at) ≡ false }
     requires comment { IsCommentLength (drop lexer.old.at source.now.text.now) 0 }
     ensures progress { OnOk result (IsProgress source.now lexer.new) }
     ensures further { OnOk result (lexer.old.at < lexer.new.at) }
-    ensures stop { IfErr result (λ stop. StopsAt source.now.file source.now.bytes.now source.now.characters.now stop) }
+    ensures before { OnOk result (IsBefore source.now.flat.now.characters lexer.new.at cursor.new) }
+    ensures stop { IfErr result (λ stop. StopsAt source.now.file source.now.bytes.now source.now.flat.now.characters stop) }
+    ensures inside { IfErr result (λ stop. StopsInside source.now.file source.now.bytes.now stop) }
 {
     let at = lexer.at;
     let mut single = lexer.single;
     let mut double = lexer.double;
     let header = allows_header(lexer.state);
     let found = token_at(table, source.text, at, header, &mut single, &mut double);
-    let here = moved(lexer.here, source.bytes, source.characters[at].at);
-    let token = make_token(alloc, source, lexer, found, here)?;
+    let start = character_at(source, cursor, at).at;
+    let here = moved(lexer.here, source.bytes, start);
+    let token = make_token(source, lexer, cursor, found, here)?;
     let line = line_behind(lexer.state.line, spelling_of(source, at, found.length));
     lexer.tokens.push(token)?;
     lexer.state = State { line, blank: false };
@@ -192,25 +217,27 @@ fn spelling_of<'a>(source: &Source<'a>, at: usize, count: usize) -> &'a [u8]
 
 // The token that is found.
 fn make_token(
-    alloc: Global,
     source: &Source,
     lexer: &Lexer,
+    cursor: &mut Cursor,
     found: Found,
     here: Place,
 ) -> Result<PpToken, Stop>
     requires source { IsSource source.now }
-    requires inside { lexer.now.at + found.length ≤ length source.now.characters.now }
+    requires before { IsBefore source.now.flat.now.characters lexer.now.at cursor.old }
+    requires inside { lexer.now.at + found.length ≤ length source.now.flat.now.characters }
     requires some { 0 < found.length }
-    requires here { here ≡ place_of source.now.file source.now.bytes.now (offset_of source.now.characters.now lexer.now.at) }
+    requires here { here ≡ place_of source.now.file source.now.bytes.now (offset_of source.now.flat.now.characters lexer.now.at) }
     ensures token { IfOk result (λ token. token ≡
-        token_from source.now.file source.now.bytes.now lexer.now.state found.kind (take found.length (drop lexer.now.at source.now.characters.now))) }
+        token_from source.now.file source.now.bytes.now lexer.now.state found.kind (take found.length (drop lexer.now.at source.now.flat.now.characters))) }
     ensures stop { IfErr result (λ stop. stop ≡ no_memory) }
+    ensures before { OnOk result (IsBefore source.now.flat.now.characters (lexer.now.at + found.length) cursor.new) }
 {
-    let spelling = spelling_of(source, lexer.at, found.length);
-    let last = source.characters[lexer.at + found.length - 1];
+    let after = lexer.at + found.length;
+    let last = character_at(source, cursor, after - 1);
     Ok(PpToken {
         kind: found.kind,
-        spelling: Text::from_bytes(alloc, spelling)?,
+        spelling: source.flat.text(lexer.at, after)?,
         place: here,
         end: last.at + last.width,
         blank_before: lexer.state.blank,
@@ -223,7 +250,7 @@ fn moved(from: Place, bytes: &[u8], to: u32) -> Place
     requires from { from ≡ place_of from.file bytes.now from.byte }
     requires further { from.byte ≤ to }
     requires inside { to ≤ length bytes.now }
-    requires short { length bytes.now ≤ 1048576 }
+    requires short { length bytes.now ≤ source_length_limit }
     ensures { result ≡ place_of from.file bytes.now to }
 {
     let mut line = from.line;

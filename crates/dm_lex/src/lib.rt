@@ -3,7 +3,8 @@
 #![tactic(auto)]
 
 ghost use Rattle.std.specs.Prelude.{◌≡◌, ◌≤◌, ◌⊎◌, ◌↔◌, List, Ok, Some, length, IfOk, IfErr};
-ghost use Rattle.dm_phase.specs.Answer.{flat_of};
+ghost use Rattle.dm_phase.specs.Answer.{flat_of, StopsInside};
+ghost use Rattle.dm_token.specs.Limits.{source_length_limit};
 ghost use Rattle.dm_lex.specs.Classes.{class_of, without_stray};
 ghost use Rattle.dm_phase.specs.declared.Character.{Character};
 ghost use Rattle.dm_token.specs.declared.token.PpKind.{PpKind};
@@ -15,7 +16,7 @@ mod lexer;
 mod scan;
 mod state;
 
-use dm_phase::{Character, Flat, MAX_FILE_LENGTH};
+use dm_phase::Flat;
 use dm_spell::punctuators;
 use dm_token::{List, Memory, PpKind, PpToken, Stop, Text};
 use lexer::{Lexer, Source, take_piece};
@@ -25,23 +26,24 @@ use std::alloc::Global;
 /// The preprocessing tokens of a file (6.4), where `flat` is its text after phases 1 and 2. A comment that doesn't end
 /// is refused as 2, at its first byte (5.1.1.2p1).
 pub fn tokens(alloc: Global, file: u32, flat: &Flat, bytes: &[u8]) -> Result<List<PpToken>, Stop>
-    requires short { length bytes.now ≤ MAX_FILE_LENGTH }
+    requires short { length bytes.now ≤ source_length_limit }
     requires flat { flat_of file bytes.now ≡ Ok flat.now.characters }
     ensures tokens { IfOk result (λ tokens. AreTokens file bytes.now flat.now.characters tokens) }
     ensures stop { IfErr result (λ stop. StopsAt file bytes.now flat.now.characters stop) }
+    ensures inside { IfErr result (λ stop. StopsInside file bytes.now stop) }
 {
-    let characters = flat.characters.items();
-    let spelled = bytes_of(alloc, characters)?;
+    let text = flat.bytes();
     let source = Source {
         file,
         bytes,
-        characters,
-        text: spelled.as_slice(),
+        flat,
+        text,
     };
     let table = punctuators();
     let mut lexer = Lexer::new(alloc, file);
-    while lexer.at < characters.len() {
-        take_piece(alloc, &source, &table, &mut lexer)?;
+    let mut cursor = flat.cursor();
+    while lexer.at < text.len() {
+        take_piece(&source, &table, &mut lexer, &mut cursor)?;
     }
     Ok(List::from_vec(lexer.tokens))
 }
@@ -74,18 +76,7 @@ fn unless_stray(kind: PpKind) -> Option<PpKind>
     }
 }
 
-// The bytes of characters.
-fn bytes_of(alloc: Global, characters: &[Character]) -> Result<Vec<u8>, Memory>
-    ensures { IfOk result (λ spelled. spelled.items ≡ bytes characters.now) }
-{
-    let mut bytes = Vec::with_capacity(alloc, characters.len())?;
-    for character in characters {
-        bytes.push(character.byte)?;
-    }
-    Ok(bytes)
-}
-
-/// A text has at most one cut, and none exactly where a comment is open in it.
+/// A text has at most one cut, and none exactly where a comment is open in it. There is at most one open comment.
 pub fn one_cut()
     ensures unique { (pieces others : List Piece) (text : List Character) →
         Cuts first_state pieces text → Cuts first_state others text → pieces ≡ others }
@@ -94,6 +85,8 @@ pub fn one_cut()
         ⊎ ((pieces : List Piece) × (left : List Character) × OpensAt first_state pieces text left) }
     ensures none { (pieces others : List Piece) (text left : List Character) →
         OpensAt first_state pieces text left → Cuts first_state others text → ⊥ }
+    ensures open_once { (pieces others : List Piece) (text left rest : List Character) →
+        OpensAt first_state pieces text left → OpensAt first_state others text rest → (pieces ≡ others) × (left ≡ rest) }
 {}
 
 /// A spelling is a token of C, header names apart, exactly where its text is that one token, alone.

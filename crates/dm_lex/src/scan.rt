@@ -3,13 +3,13 @@
 ghost use Rattle.std.specs.Prelude.{◌≡◌, ℕ, ◌+◌, ◌^◌, ◌<◌, ◌≤◌, ◌==◌, ◌&&◌, ◌||◌, Bool, false, not, List, length, drop, max, slice_index, MatchOption, MatchResult, if◌then◌else◌};
 ghost use Rattle.dm_spell.specs.Tables.{punctuator_rows};
 ghost use Rattle.dm_token.specs.declared.token.PpKind.TheVariants.{Punctuator, Stray};
-ghost use Rattle.dm_lex.specs.Classes.{is_digit as digit, is_nondigit as nondigit, is_word as word, is_exponent as exponent, is_sign as sign, is_prefix as prefix, quotation_mark, apostrophe, full_stop, less, greater, kind_of};
+ghost use Rattle.dm_lex.specs.Classes.{is_nondigit as nondigit, is_word as word, is_exponent as exponent, is_sign as sign, is_prefix as prefix, quotation_mark, apostrophe, full_stop, less, greater, kind_of};
 ghost use Rattle.dm_lex.specs.Cuts.{is_within_line};
 ghost use Rattle.dm_lex.specs.Reach.{run, number_run as number_run_of, closing as closing_of, closing_name as closing_name_of, beyond as beyond_of, StaysOpen, IsBest, IsLongestRow, HasNoRow};
-ghost use Rattle.dm_lex.specs.Lengths.{prefixed, unless_closed, identifier_length as identifier_of, digits_length as digits_of, number_length as number_of, plain_character_length as plain_character_of, character_length as character_of, plain_literal_length as plain_literal_of, literal_length as literal_of, name_length as name_of, header_length as header_of, or_longer as or_longer_of, best_of, make_found};
+ghost use Rattle.dm_lex.specs.Lengths.{prefixed, unless_closed, identifier_length as identifier_of, digits_length as digits_of, number_length as number_of, plain_character_length as plain_character_of, character_length as character_of, plain_literal_length as plain_literal_of, literal_length as literal_of, name_length as name_of, header_length as header_of, or_longer as or_longer_of, best_of, make_found, is_letter as letter, is_mark as mark};
 
 use dm_spell::Spellings;
-use dm_token::PpKind;
+use dm_token::{PpKind, is_digit};
 
 /// A token at a place of a text.
 #[derive(Clone, Copy, Debug, PartialEq, Eq)]
@@ -18,13 +18,6 @@ pub struct Found {
     pub kind: PpKind,
     /// How many characters it has.
     pub length: usize,
-}
-
-#[tactic(auto, unfolding(crate::specs::Classes::is_digit))]
-fn is_digit(byte: u8) -> bool
-    ensures { result ≡ digit byte }
-{
-    byte.is_ascii_digit()
 }
 
 #[tactic(auto, unfolding(crate::specs::Classes::is_nondigit))]
@@ -60,6 +53,20 @@ fn is_prefix(byte: u8) -> bool
     ensures { result ≡ prefix byte }
 {
     byte == b'L' || byte == b'u' || byte == b'U'
+}
+
+#[tactic(auto, unfolding(crate::specs::Lengths::is_letter))]
+fn is_letter(byte: u8) -> bool
+    ensures { result ≡ letter byte }
+{
+    is_nondigit(byte) && !is_prefix(byte)
+}
+
+#[tactic(auto, unfolding(crate::specs::Lengths::is_mark))]
+fn is_mark(byte: u8) -> bool
+    ensures { result ≡ mark byte }
+{
+    !is_word(byte) && byte != b'"' && byte != b'\'' && byte != b'.' && byte != b'<'
 }
 
 // How many bytes at the front belong to an identifier.
@@ -428,6 +435,41 @@ pub fn token_at(
     ensures single { StaysOpen apostrophe text.now at single.new }
     ensures double { StaysOpen quotation_mark text.now at double.new }
 {
+    if is_letter(text[at]) {
+        return Found {
+            kind: PpKind::Identifier,
+            length: identifier_length(text, at),
+        };
+    }
+    if is_digit(text[at]) {
+        return Found {
+            kind: PpKind::Number,
+            length: digits_length(text, at),
+        };
+    }
+    if is_mark(text[at]) {
+        return plain_at(table, text, at);
+    }
+    any_token_at(table, text, at, header, single, double)
+}
+
+// The longest token at a place where one of any class may begin.
+fn any_token_at(
+    table: &Spellings<'static, 54>,
+    text: &[u8],
+    at: usize,
+    header: bool,
+    single: &mut usize,
+    double: &mut usize,
+) -> Found
+    requires inside { at < length text.now }
+    requires table { table.now ≡ punctuator_rows }
+    requires single { StaysOpen apostrophe text.now at single.old }
+    requires double { StaysOpen quotation_mark text.now at double.old }
+    ensures best { IsBest (kind_of header) (drop at text.now) result }
+    ensures single { StaysOpen apostrophe text.now at single.new }
+    ensures double { StaysOpen quotation_mark text.now at double.new }
+{
     let found = plain_at(table, text, at);
     let found = or_longer(found, PpKind::Literal, literal_length(text, at, double));
     let found = or_longer(found, PpKind::Character, character_length(text, at, single));
@@ -451,7 +493,8 @@ fn allowed_header_length(text: &[u8], at: usize, allowed: bool) -> usize
 fn plain_at(table: &Spellings<'static, 54>, text: &[u8], at: usize) -> Found
     requires inside { at < length text.now }
     requires table { table.now ≡ punctuator_rows }
-    ensures { (header : Bool) → IsBest (kind_of header) (drop at text.now) (best_of header (drop at text.now) result) }
+    ensures best { (header : Bool) → IsBest (kind_of header) (drop at text.now) (best_of header (drop at text.now) result) }
+    ensures some { 0 < result.length }
 {
     let stray = Found {
         kind: PpKind::Stray,

@@ -3,8 +3,8 @@
 mod slow;
 
 use super::{one_token, tokens};
-use dm_phase::{MAX_FILE_LENGTH, flatten};
-use dm_token::{PpKind, PpToken, Refusal, Stop, Text};
+use dm_phase::flatten;
+use dm_token::{PpKind, PpToken, Refusal, Stop, Text, source_length_limit};
 use std::alloc::{AllocError, Global};
 use std::process::Abort;
 use std::test::Fail;
@@ -24,7 +24,7 @@ fn letter(kind: PpKind) -> u8 {
 
 /// The tokens of a text.
 fn tokens_of<R: Abort + AllocGlobal>(rt: &R, bytes: &[u8]) -> Result<Vec<PpToken>, Stop> {
-    assert!(rt; bytes.len() <= MAX_FILE_LENGTH);
+    assert!(rt; bytes.len() <= source_length_limit());
     let flat = flatten(rt.alloc(), 7, bytes)?;
     let list = tokens(rt.alloc(), 7, &flat, bytes)?;
     Ok(list.into_vec())
@@ -209,6 +209,17 @@ fn refuses_an_open_comment_at_its_first_byte(rt: HostRuntime) {
 }
 
 #[test]
+fn cuts_a_file_of_the_greatest_length(rt: HostRuntime) -> Result<(), Fail> {
+    let mut bytes = Vec::new(rt.alloc());
+    for _ in 0..source_length_limit() {
+        bytes.push(b';')?;
+    }
+    let list = tokens_of(&rt, bytes.as_slice())?;
+    assert_eq!(rt; list.len(), source_length_limit());
+    Ok(())
+}
+
+#[test]
 fn says_which_token_a_spelling_is(rt: HostRuntime) -> Result<(), Fail> {
     for (spelling, wanted) in [
         (b"<<=".as_slice(), Some(PpKind::Punctuator(40))),
@@ -232,15 +243,11 @@ fn says_which_token_a_spelling_is(rt: HostRuntime) -> Result<(), Fail> {
 
 /// Whether the plain program finds the same kinds and spellings, or an open comment where the text is refused.
 fn agrees<R: Abort + AllocGlobal>(rt: &R, bytes: &[u8]) -> Result<bool, Fail> {
-    assert!(rt; bytes.len() <= MAX_FILE_LENGTH);
+    assert!(rt; bytes.len() <= source_length_limit());
     let Ok(flat) = flatten(rt.alloc(), 7, bytes) else {
         return Ok(true);
     };
-    let mut text = Vec::new(rt.alloc());
-    for character in flat.characters.items() {
-        text.push(character.byte)?;
-    }
-    let plain = slow::cut(rt.alloc(), text.as_slice())?;
+    let plain = slow::cut(rt.alloc(), flat.bytes())?;
     match (tokens(rt.alloc(), 7, &flat, bytes), plain) {
         (Ok(found), Some(wanted)) => Ok(same(found.items(), wanted.as_slice())),
         (Err(_), None) => Ok(true),

@@ -2,17 +2,19 @@
 #![tactic(auto)]
 
 ghost use Rattle.std.specs.Prelude.{◌≤◌, length};
+ghost use Rattle.dm_token.specs.Limits.{source_length_limit};
 
 use anyhow::{Result, bail, ensure};
 use dm_lex::tokens;
-use dm_phase::{MAX_FILE_LENGTH, flatten};
+use dm_phase::flatten;
+use dm_token::source_length_limit;
 use std::alloc::Global;
 use std::{env, fs};
 
 fn main(rt: HostRuntime) -> Result<()> {
     for path in env::args(&rt)?.skip(1) {
         let bytes = fs::read(&rt, path.as_str())?;
-        ensure!(bytes.len() <= MAX_FILE_LENGTH, "{path} is too long");
+        ensure!(bytes.len() <= source_length_limit(), "{path} is too long");
         println!(rt; "{}", count(rt.alloc(), &bytes)?)?;
     }
     Ok(())
@@ -20,7 +22,7 @@ fn main(rt: HostRuntime) -> Result<()> {
 
 /// The number of tokens of a file with these bytes.
 fn count(alloc: Global, bytes: &[u8]) -> Result<usize>
-    requires { length bytes.now ≤ MAX_FILE_LENGTH }
+    requires { length bytes.now ≤ source_length_limit }
 {
     let Ok(flat) = flatten(alloc, 0, bytes) else {
         bail!("refused in phases 1 and 2");

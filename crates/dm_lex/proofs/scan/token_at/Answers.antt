@@ -1,24 +1,16 @@
-use Rattle.std.proofs.Common.{subst, List, ◌≡◌, sym, drop, ℕ}
-use Rattle.dm_lex.specs.Classes.{kind_of}
-use Rattle.dm_lex.specs.Reach.{IsBest}
-use Rattle.dm_lex.specs.Lengths.{best_of}
+-- The first byte chooses the classes that are tried.
+use Rattle.std.proofs.Common.{sym, ◌∙◌}
+use Rattle.dm_lex.proofs.ChoiceLemmas.{letter_best, digit_best, mark_best}
 use Rattle.dm_lex.proofs.scan.token_at.Goals as goal
 
-pub returns-clause-best : goal.returns-clause-best
-unfolding best_of
-returns-clause-best c =
-    let text : List ℕ = drop c.args.at c.args.text.now in
-    let same : c.or_longer.result ≡ best_of c.args.header text c.plain_at-found.result =
-    rw (
-      c.or_longer.ensures,
-      c.or_longer-found-4.ensures,
-      c.or_longer-found-3.ensures,
-      c.or_longer-found-2.ensures,
-      c.or_longer-found.ensures,
-      c.allowed_header_length.ensures,
-      c.identifier_length.ensures.far,
-      c.number_length.ensures.far,
-      c.character_length.ensures.far,
-      c.literal_length.ensures.far,
-    ) in
-    subst (λ f. IsBest (kind_of c.args.header) text f) (sym same) (c.plain_at-found.ensures c.args.header)
+pub returns-then-is_letter-clause-best : goal.returns-then-is_letter-clause-best
+returns-then-is_letter-clause-best c =
+    rw c.identifier_length.ensures.far (letter_best c.args.header c.args.text.now c.args.at c.requires.inside (sym c.is_letter.ensures ∙ c.if-is_letter.true))
+
+pub returns-then-is_digit-clause-best : goal.returns-then-is_digit-clause-best
+returns-then-is_digit-clause-best c =
+    rw c.digits_length.ensures.far (digit_best c.args.header c.args.text.now c.args.at c.requires.inside (sym c.is_digit.ensures ∙ c.if-is_digit.true))
+
+pub returns-then-is_mark-clause-best : goal.returns-then-is_mark-clause-best
+returns-then-is_mark-clause-best c =
+    mark_best c.args.header c.args.text.now c.args.at c.plain_at.result c.requires.inside (sym c.is_mark.ensures ∙ c.if-is_mark.true) c.plain_at.ensures.some (c.plain_at.ensures.best c.args.header)
