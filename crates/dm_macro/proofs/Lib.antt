@@ -1,0 +1,9 @@
+pub mod FormLemmas
+pub mod HashLemmas
+pub mod Listings
+pub mod MapLemmas
+pub mod NameSetLemmas
+pub mod NumberSets
+pub mod SameLemmas
+pub mod SplitLemmas
+pub mod TableLemmas
