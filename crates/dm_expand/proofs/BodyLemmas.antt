@@ -1,0 +1,90 @@
+-- The parameters of a macro, and what stands at the ends of a list.
+use Rattle.std.proofs.Common.{◌≡◌, ℕ, zero, suc, ◌+◌, ◌-◌, ◌<◌, ◌≤◌, Bool, true, false, cond, ◌&&◌, List, [], ◌∷◌, ◌++◌, length, get_or, refl, sym, ap, ◌∙◌, Option, Some, None, arith, add-zero}
+use Rattle.std.specs.Prelude.{bytes_eq}
+use Rattle.std.specs.List.{position_from}
+use Rattle.std.proofs.lemmas.Bool.{cases_Bool, cond-true, cond-false}
+use Rattle.dm_token.specs.declared.token.PpToken.{PpToken}
+use Rattle.dm_token.specs.declared.expansion.Definition.{Definition}
+use Rattle.dm_macro.specs.Signs.{is_identifier, is_word, variable_arguments}
+use Rattle.dm_expand.specs.Arguments.{named_parameters}
+use Rattle.dm_expand.specs.Bodies.{is_last, parameter_of, parameters_of}
+
+-- from a position on, in the first list or else in the second
+pub position_from-append : (test : List ℕ → Bool) (at : ℕ) (xs ys : List (List ℕ)) → position_from test at xs ≡ None → position_from test at (xs ++ ys) ≡ position_from test (at + length xs) ys
+position_from-append test at [] ys none = ap (λ n. position_from test n ys) (sym (add-zero at))
+position_from-append test at (x ∷ xs) ys none =
+    elim (test x) as (λ b. cond b (Some at) (position_from test (at + 1) xs) ≡ None → cond b (Some at) (position_from test (at + 1) (xs ++ ys)) ≡ position_from test (at + suc (length xs)) ys) [
+      | true ↦ λ e. cc
+      | false ↦ λ e. let same : at + 1 + length xs ≡ at + suc (length xs) = omega arith in position_from-append test (at + 1) xs ys e ∙ ap (λ n. position_from test n ys) same
+    ] none
+
+pub position_from-front : (test : List ℕ → Bool) (at place : ℕ) (xs ys : List (List ℕ)) → position_from test at xs ≡ Some place → position_from test at (xs ++ ys) ≡ Some place
+position_from-front test at place [] ys some = cc
+position_from-front test at place (x ∷ xs) ys some =
+    elim (test x) as (λ b. cond b (Some at) (position_from test (at + 1) xs) ≡ Some place → cond b (Some at) (position_from test (at + 1) (xs ++ ys)) ≡ Some place) [
+      | true ↦ λ e. e
+      | false ↦ λ e. position_from-front test (at + 1) place xs ys e
+    ] some
+
+-- THE PARAMETER THAT A TOKEN NAMES
+
+-- the names behind those of the parameters
+abbrev others_of : Bool → List (List ℕ)
+others_of variadic = cond variadic (variable_arguments ∷ []) []
+
+pub parameter_of-other : (definition : Definition) (pp : PpToken) → false ≡ is_identifier pp → None ≡ parameter_of (parameters_of definition) pp
+unfolding parameter_of
+parameter_of-other definition pp other = sym (cond-false _ _ _ (sym other))
+
+pub parameter_of-named : (definition : Definition) (pp : PpToken) (place : ℕ) → true ≡ is_identifier pp → Some place ≡ position_from (bytes_eq pp.spelling) 0 (named_parameters definition.parameters) → Some place ≡ parameter_of (parameters_of definition) pp
+unfolding parameter_of parameters_of
+parameter_of-named definition pp place identifier found =
+    sym (cond-true _ _ _ (sym identifier) ∙ position_from-front (bytes_eq pp.spelling) 0 place (named_parameters definition.parameters) (others_of definition.variadic) (sym found))
+
+-- a name that none of the named parameters has
+behind_named : (definition : Definition) (pp : PpToken) → true ≡ is_identifier pp → None ≡ position_from (bytes_eq pp.spelling) 0 (named_parameters definition.parameters)
+    → parameter_of (parameters_of definition) pp ≡ position_from (bytes_eq pp.spelling) (0 + length (named_parameters definition.parameters)) (others_of definition.variadic)
+unfolding parameter_of parameters_of
+behind_named definition pp identifier none =
+    cond-true _ _ _ (sym identifier) ∙ position_from-append (bytes_eq pp.spelling) 0 (named_parameters definition.parameters) (others_of definition.variadic) (sym none)
+
+and_last : (a b : Bool) → true ≡ a → (a && b) ≡ b
+and_last a b is = ap (λ x. x && b) (sym is)
+
+pub parameter_of-variable : (definition : Definition) (pp : PpToken) → true ≡ is_identifier pp → None ≡ position_from (bytes_eq pp.spelling) 0 (named_parameters definition.parameters)
+    → definition.variadic ≡ true → true ≡ is_word variable_arguments pp → Some (length (named_parameters definition.parameters)) ≡ parameter_of (parameters_of definition) pp
+parameter_of-variable definition pp identifier none variadic word =
+    let count = length (named_parameters definition.parameters) in
+    let same : 0 + count ≡ count = omega arith in
+    sym (behind_named definition pp identifier none
+    ∙ ap (λ v. position_from (bytes_eq pp.spelling) (0 + count) (others_of v)) variadic
+    ∙ cond-true _ _ _ (sym (and_last _ (bytes_eq pp.spelling variable_arguments) identifier) ∙ sym word)
+    ∙ ap (λ (n : ℕ). Some n) same)
+
+pub parameter_of-word : (definition : Definition) (pp : PpToken) → true ≡ is_identifier pp → None ≡ position_from (bytes_eq pp.spelling) 0 (named_parameters definition.parameters)
+    → definition.variadic ≡ true → false ≡ is_word variable_arguments pp → None ≡ parameter_of (parameters_of definition) pp
+parameter_of-word definition pp identifier none variadic word =
+    let count = length (named_parameters definition.parameters) in
+    sym (behind_named definition pp identifier none
+    ∙ ap (λ v. position_from (bytes_eq pp.spelling) (0 + count) (others_of v)) variadic
+    ∙ cond-false _ _ _ (sym (and_last _ (bytes_eq pp.spelling variable_arguments) identifier) ∙ sym word))
+
+pub parameter_of-fixed : (definition : Definition) (pp : PpToken) → true ≡ is_identifier pp → None ≡ position_from (bytes_eq pp.spelling) 0 (named_parameters definition.parameters)
+    → definition.variadic ≡ false → None ≡ parameter_of (parameters_of definition) pp
+parameter_of-fixed definition pp identifier none variadic =
+    let count = length (named_parameters definition.parameters) in
+    sym (behind_named definition pp identifier none ∙ ap (λ v. position_from (bytes_eq pp.spelling) (0 + count) (others_of v)) variadic)
+
+-- the last token, by its index
+pub is_last-at : (test : PpToken → Bool) (tokens : List PpToken) (last : PpToken) → 0 < length tokens → last ≡ get_or tokens (length tokens - 1) last → is_last test tokens ≡ test last
+unfolding is_last
+is_last-at test [] last some is = absurd (omega arith)
+is_last-at test (token ∷ []) last some is = ap test (sym is)
+is_last-at test (token ∷ next ∷ others) last some is =
+    let less : length (token ∷ next ∷ others) - 1 ≡ suc (length (next ∷ others) - 1) = omega arith in
+    is_last-at test (next ∷ others) last (omega arith) (is ∙ ap (λ k. get_or (token ∷ next ∷ others) k last) less)
+
+pub is_last-nothing : (test : PpToken → Bool) (tokens : List PpToken) → length tokens < 1 → false ≡ is_last test tokens
+unfolding is_last
+is_last-nothing test [] few = refl
+is_last-nothing test (token ∷ others) few = absurd (omega arith)

@@ -1,0 +1,50 @@
+-- Hide sets that are kept as lists of their numbers.
+use Rattle.std.proofs.Common.{◌≡◌, ℕ, Bool, true, false, cond, ◌&&◌, ◌||◌, List, [], ◌∷◌, ◌++◌, refl, sym, ap, ◌∙◌, nat_eq, rules}
+use Rattle.std.specs.List.{list_any, filter}
+use Rattle.std.specs.Ordering.{nat_cmp}
+use Rattle.std.specs.Cmp.{nat_cmp_total}
+use Rattle.std.specs.FinSet as set
+use Rattle.std.specs.FinSet.{nat_cmp-IsAntisymmetric, contains-from_list_nat, members}
+use borrow.Author.Tests.{tests}
+
+-- the finite set of a list's numbers
+abbrev pub of_list : List ℕ → set.FinSet nat_cmp
+of_list = set.from_list
+
+-- sets with the same members are equal
+same : (s t : set.FinSet nat_cmp) → ((q : ℕ) → set.contains s q ≡ set.contains t q) → s ≡ t
+same s t are = set.same_set nat_cmp_total nat_cmp-IsAntisymmetric s t are
+
+pub among-is : (numbers : List ℕ) (number : ℕ) → list_any (λ other. nat_eq other number) numbers ≡ set.contains (of_list numbers) number
+among-is numbers number = sym (contains-from_list_nat numbers number)
+
+-- one number more at the end
+pub push-is : (numbers : List ℕ) (number : ℕ) → of_list (numbers ++ number ∷ []) ≡ set.insert (of_list numbers) number
+push-is numbers number = set.from_list_push nat_cmp_total nat_cmp-IsAntisymmetric numbers number
+
+-- to put in what is there changes nothing
+pub insert_present : (s : set.FinSet nat_cmp) (x : ℕ) → set.contains s x ≡ true → s ≡ set.insert s x
+insert_present s x there = same _ _ (λ q. grind (members, tests, rules))
+
+-- the set of no numbers adds nothing
+pub union-nothing : (s : set.FinSet nat_cmp) → s ≡ set.union s (of_list [])
+union-nothing s = same _ _ (λ q. grind (members, tests, rules))
+
+-- one number more that both sets have together
+pub union-insert : (s t : set.FinSet nat_cmp) (x : ℕ) → set.insert (set.union s t) x ≡ set.union s (set.insert t x)
+union-insert s t x = same _ _ (λ q. grind (members, tests, rules))
+
+-- whether the front of a list is among what a set has too
+kept_first : (t : set.FinSet nat_cmp) (y q : ℕ) (ys : List ℕ) (b : Bool) → set.contains t y ≡ b
+    → set.contains (of_list (filter (set.contains t) ys)) q ≡ (set.contains (of_list ys) q && set.contains t q)
+    → set.contains (of_list (cond b (y ∷ filter (set.contains t) ys) (filter (set.contains t) ys))) q ≡ (set.contains (of_list (y ∷ ys)) q && set.contains t q)
+kept_first t y q ys true e others = grind (members, tests, rules)
+kept_first t y q ys false e others = grind (members, tests, rules)
+
+kept : (t : set.FinSet nat_cmp) (xs : List ℕ) (q : ℕ) → set.contains (of_list (filter (set.contains t) xs)) q ≡ (set.contains (of_list xs) q && set.contains t q)
+kept t [] q = grind (members, tests, rules)
+kept t (y ∷ ys) q = kept_first t y q ys (set.contains t y) refl (kept t ys q)
+
+-- the numbers of a list that a set has are those of both
+pub filter-is : (t : set.FinSet nat_cmp) (xs : List ℕ) → of_list (filter (set.contains t) xs) ≡ set.intersection (of_list xs) t
+filter-is t xs = same _ _ (λ q. kept t xs q ∙ sym (set.contains-intersection nat_cmp_total (of_list xs) t q))

@@ -1,0 +1,15 @@
+pub mod AnswerLemmas
+pub mod ArgumentLemmas
+pub mod BodyLemmas
+pub mod FillLemmas
+pub mod HeadLemmas
+pub mod HiddenLemmas
+pub mod LawLemmas
+pub mod ListLemmas
+pub mod PasteLemmas
+pub mod ProgressLemmas
+pub mod SearchLemmas
+pub mod StepLemmas
+pub mod StringLemmas
+pub mod SubstitutionLemmas
+pub mod TrailLemmas

@@ -1,0 +1,101 @@
+-- Loops that look through a list for an item that passes a test.
+use Rattle.std.proofs.Common.{◌≡◌, ℕ, ◌+◌, ◌<◌, ◌≤◌, Bool, true, false, cond, not, ◌&&◌, ◌||◌, List, [], ◌∷◌, ◌++◌, length, get_or, drop, refl, sym, ap, ◌∙◌, Option, Some, None, eqb}
+use Rattle.std.specs.List.{list_any, list_all, position_from}
+use Rattle.std.proofs.lemmas.List.{at_drop_more, at_drop_all}
+use Rattle.std.proofs.lemmas.Bool.{cond-true, cond-false}
+use Rattle.dm_token.specs.declared.place.Place.{Place}
+use Rattle.dm_token.specs.declared.expansion.Expansion.{Expansion}
+use Rattle.dm_token.specs.declared.expansion.Mark.{Mark}
+use Rattle.dm_expand.specs.Items.{Item}
+use Rattle.dm_expand.specs.Trails.{carry, come_otherwise, marks_instance, begins_with}
+use Rattle.dm_expand.specs.Predefined.{name_of}
+
+-- what is left of a list, and its first item
+pub next_is : {A B : Type 0} (whole : List A → B) (items : List A) (i : ℕ) (item : A) (all : B) → i < length items → item ≡ get_or items i item → whole (drop i items) ≡ all → whole (item ∷ drop (i + 1) items) ≡ all
+next_is whole items i item all lt is before = ap (λ x. whole (x ∷ drop (i + 1) items)) is ∙ sym (at_drop_more whole items i item lt) ∙ before
+
+pub found_at : {A : Type 0} (whole : List A → Bool) (test : A → Bool) (items : List A) (i : ℕ) (item : A) → ((others : List A) → whole (item ∷ others) ≡ (test item || whole others))
+    → i < length items → item ≡ get_or items i item → whole (drop i items) ≡ whole items → true ≡ test item → true ≡ whole items
+found_at whole test items i item step lt is before holds =
+    ap (λ b. b || whole (drop (i + 1) items)) holds ∙ sym (step (drop (i + 1) items)) ∙ next_is whole items i item (whole items) lt is before
+
+pub passed_at : {A : Type 0} (whole : List A → Bool) (test : A → Bool) (items : List A) (i : ℕ) (item : A) → ((others : List A) → whole (item ∷ others) ≡ (test item || whole others))
+    → i < length items → item ≡ get_or items i item → whole (drop i items) ≡ whole items → false ≡ test item → whole (drop (i + 1) items) ≡ whole items
+passed_at whole test items i item step lt is before fails =
+    ap (λ b. b || whole (drop (i + 1) items)) fails ∙ sym (step (drop (i + 1) items)) ∙ next_is whole items i item (whole items) lt is before
+
+pub passed_all : {A : Type 0} (whole : List A → Bool) (items : List A) (i : ℕ) → whole [] ≡ false → length items ≤ i → whole (drop i items) ≡ whole items → false ≡ whole items
+passed_all whole items i nothing past before = sym (at_drop_all whole items i past ∙ nothing) ∙ before
+
+pub carry-step : (instance : ℕ) (item : Item) (others : List Item) → carry instance (item ∷ others) ≡ (list_any (marks_instance instance) item.trail || carry instance others)
+unfolding carry
+carry-step instance item others = refl
+
+pub carry-nothing : (instance : ℕ) → carry instance [] ≡ false
+unfolding carry
+carry-nothing instance = refl
+
+not_both : (a b : Bool) → not (a && b) ≡ (not a || not b)
+not_both true b = refl
+not_both false b = refl
+
+pub otherwise-step : (name : List Mark) (item : Item) (others : List Item) → come_otherwise name (item ∷ others) ≡ (not (begins_with name item.trail) || come_otherwise name others)
+unfolding come_otherwise
+otherwise-step name item others = not_both (begins_with name item.trail) _
+
+pub otherwise-nothing : (name : List Mark) → come_otherwise name [] ≡ false
+unfolding come_otherwise
+otherwise-nothing name = refl
+
+pub name_of-found : (instance : ℕ) (made : Expansion) (others : List Expansion) (other : Place) → eqb made.instance instance ≡ true → name_of instance (made ∷ others) other ≡ made.name
+unfolding name_of
+name_of-found instance made others other is = cond-true _ _ _ is
+
+pub name_of-passed : (instance : ℕ) (made : Expansion) (others : List Expansion) (other : Place) → eqb made.instance instance ≡ false → name_of instance (made ∷ others) other ≡ name_of instance others other
+unfolding name_of
+name_of-passed instance made others other is = cond-false _ _ _ is
+
+pub name_of-nothing : (instance : ℕ) (other : Place) → name_of instance [] other ≡ other
+unfolding name_of
+name_of-nothing instance other = refl
+
+-- INVOCATIONS
+
+or_assoc : (a b d : Bool) → ((a || b) || d) ≡ (a || (b || d))
+or_assoc true b d = refl
+or_assoc false b d = refl
+
+or-false : (a : Bool) → (a || false) ≡ a
+or-false true = refl
+or-false false = refl
+
+otherwise-append : (name : List Mark) (xs ys : List Item) → come_otherwise name (xs ++ ys) ≡ (come_otherwise name xs || come_otherwise name ys)
+otherwise-append name [] ys = ap (λ b. b || come_otherwise name ys) (sym (otherwise-nothing name))
+otherwise-append name (x ∷ xs) ys =
+    otherwise-step name x (xs ++ ys)
+    ∙ ap (λ b. not (begins_with name x.trail) || b) (otherwise-append name xs ys)
+    ∙ sym (or_assoc (not (begins_with name x.trail)) (come_otherwise name xs) (come_otherwise name ys))
+    ∙ ap (λ b. b || come_otherwise name ys) (sym (otherwise-step name x xs))
+
+otherwise-passed : (name : List Mark) (item : Item) (others : List Item) → true ≡ begins_with name item.trail → come_otherwise name (item ∷ others) ≡ come_otherwise name others
+otherwise-passed name item others begins = otherwise-step name item others ∙ ap (λ b. not b || come_otherwise name others) (sym begins)
+
+-- whether some token of an invocation came otherwise: its `(`, one inside, or its `)`
+pub foreign-opening : (name : List Mark) (opening closing : Item) (inside : List Item) → false ≡ begins_with name opening.trail → true ≡ come_otherwise name (opening ∷ (inside ++ closing ∷ []))
+foreign-opening name opening closing inside fails =
+    ap (λ b. not b || come_otherwise name (inside ++ closing ∷ [])) fails ∙ sym (otherwise-step name opening (inside ++ closing ∷ []))
+
+pub foreign-inside : (name : List Mark) (opening closing : Item) (inside : List Item) → true ≡ begins_with name opening.trail → true ≡ come_otherwise name inside → true ≡ come_otherwise name (opening ∷ (inside ++ closing ∷ []))
+foreign-inside name opening closing inside begins other =
+    ap (λ b. b || come_otherwise name (closing ∷ [])) other
+    ∙ sym (otherwise-append name inside (closing ∷ []))
+    ∙ sym (otherwise-passed name opening (inside ++ closing ∷ []) begins)
+
+pub foreign-closing : (name : List Mark) (opening closing : Item) (inside : List Item) → true ≡ begins_with name opening.trail → false ≡ come_otherwise name inside → not (begins_with name closing.trail) ≡ come_otherwise name (opening ∷ (inside ++ closing ∷ []))
+foreign-closing name opening closing inside begins none =
+    sym (or-false (not (begins_with name closing.trail)))
+    ∙ ap (λ b. not (begins_with name closing.trail) || b) (sym (otherwise-nothing name))
+    ∙ sym (otherwise-step name closing [])
+    ∙ ap (λ b. b || come_otherwise name (closing ∷ [])) none
+    ∙ sym (otherwise-append name inside (closing ∷ []))
+    ∙ sym (otherwise-passed name opening (inside ++ closing ∷ []) begins)

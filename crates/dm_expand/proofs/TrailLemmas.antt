@@ -1,0 +1,107 @@
+-- Trails: what they have in common, and walks from their innermost marks.
+use Rattle.std.proofs.Common.{inl, inr, ◌≡◌, ℕ, suc, ◌+◌, ◌<◌, ◌≤◌, Bool, true, false, cond, ◌&&◌, ◌||◌, not, List, [], ◌∷◌, ◌++◌, length, drop, refl, sym, ap, ◌∙◌, subst, arith, IsTrue, Option, Some, None, append_assoc, length-append, reverse, eqb, ◌↔◌}
+use Rattle.std.specs.Prelude.{slice_get}
+use Rattle.std.specs.List.{list_any, list_all}
+use Rattle.std.proofs.lemmas.List.{append-nil, reverse-append, drop_at}
+use Rattle.std.proofs.lemmas.List.Folds.{list_any-append}
+use Rattle.std.proofs.lemmas.Bool.{cases_Bool, and_parts, and_from, eqb-true, eq-eqb, cond-true, cond-false, false≢true}
+use Rattle.dm_token.specs.declared.expansion.Mark.{Mark}
+use Rattle.dm_token.specs.declared.expansion.Mark.TheVariants.{Expansion, Argument}
+use Rattle.dm_token.specs.Prefixes.{IsPrefix, IsLongestCommonPrefix}
+use Rattle.dm_expand.specs.Items.{Item}
+use Rattle.dm_expand.specs.Trails.{same_mark, begins_with, past, marks_instance, carry, come_otherwise}
+
+same_mark-true : (a b : Mark) → same_mark a b ≡ true → a ≡ b
+unfolding same_mark
+same_mark-true (Expansion d i) (Expansion e j) is =
+    let parts : (eqb d e ≡ true) × (eqb i j ≡ true) = and_parts _ _ is in
+    ap (λ x. Expansion x i) (eqb-true d e parts.0) ∙ ap (λ y. Expansion e y) (eqb-true i j parts.1)
+same_mark-true (Argument d i) (Argument e j) is =
+    let parts : (eqb d e ≡ true) × (eqb i j ≡ true) = and_parts _ _ is in
+    ap (λ x. Argument x i) (eqb-true d e parts.0) ∙ ap (λ y. Argument e y) (eqb-true i j parts.1)
+same_mark-true (Expansion d i) (Argument e j) is = absurd (false≢true is)
+same_mark-true (Argument d i) (Expansion e j) is = absurd (false≢true is)
+
+same_mark-itself : (a : Mark) → same_mark a a ≡ true
+unfolding same_mark
+same_mark-itself (Expansion d i) = and_from _ _ (eq-eqb d d refl) (eq-eqb i i refl)
+same_mark-itself (Argument d i) = and_from _ _ (eq-eqb d d refl) (eq-eqb i i refl)
+
+-- the same marks in front of both
+past-front : (front name trail : List Mark) → past (front ++ name) (front ++ trail) ≡ past name trail
+unfolding past
+past-front [] name trail = refl
+past-front (mark ∷ front) name trail = cond-true _ _ _ (same_mark-itself mark) ∙ past-front front name trail
+
+-- nothing more in common
+past-apart : (front name trail : List Mark) → ((shared : List Mark) → IsPrefix shared (front ++ name) → IsPrefix shared (front ++ trail) → IsPrefix shared front) → past name trail ≡ trail
+unfolding past
+past-apart front [] trail longest = refl
+past-apart front (mark ∷ name) [] longest = refl
+past-apart front (mark ∷ name) (first ∷ trail) longest =
+    elim (cases_Bool (same_mark mark first)) [
+      | inl is ↦
+          let same : mark ≡ first = same_mark-true mark first is in
+          let mine : front ++ mark ∷ name ≡ (front ++ mark ∷ []) ++ name = sym (append_assoc front (mark ∷ []) name) in
+          let theirs : front ++ first ∷ trail ≡ (front ++ mark ∷ []) ++ trail = sym (append_assoc front (first ∷ []) trail) ∙ ap (λ m. (front ++ m ∷ []) ++ trail) (sym same) in
+          let longer : IsPrefix (front ++ mark ∷ []) front = longest (front ++ mark ∷ []) (name, mine) (trail, theirs) in
+          absurd (omega (arith, ap length longer.1, length-append (front ++ mark ∷ []) longer.0, length-append front (mark ∷ [])))
+      | inr is ↦ cond-false _ _ _ is
+    ]
+
+-- what is left of a trail past what it has in common with another
+pub past-common : (name trail common : List Mark) → IsLongestCommonPrefix name trail common → past name trail ≡ drop (length common) trail
+past-common name trail common is =
+    let mine : name ≡ common ++ is.0.0 = is.0.1 in
+    let theirs : trail ≡ common ++ is.1.0 = is.1.1 in
+    ap (λ x. past x trail) mine
+    ∙ ap (λ x. past (common ++ is.0.0) x) theirs
+    ∙ past-front common is.0.0 is.1.0
+    ∙ past-apart common is.0.0 is.1.0 (λ shared left right. is.2 shared (subst (IsPrefix shared) (sym mine) left) (subst (IsPrefix shared) (sym theirs) right))
+    ∙ sym (drop_at common is.1.0 (length common) refl)
+    ∙ ap (λ x. drop (length common) x) (sym theirs)
+
+pub common-length : (name trail common : List Mark) → IsLongestCommonPrefix name trail common → length common ≤ length trail
+common-length name trail common is = omega (arith, ap length is.1.1, length-append common is.1.0)
+
+begins-prefix : (name trail : List Mark) → begins_with name trail ≡ true → IsPrefix name trail
+unfolding begins_with
+begins-prefix [] trail is = (trail, refl)
+begins-prefix (mark ∷ name) [] is = absurd (false≢true is)
+begins-prefix (mark ∷ name) (first ∷ trail) is =
+    let parts : (same_mark mark first ≡ true) × (begins_with name trail ≡ true) = and_parts _ _ is in
+    let others : IsPrefix name trail = begins-prefix name trail parts.1 in
+    (others.0, ap (λ m. m ∷ trail) (sym (same_mark-true mark first parts.0)) ∙ ap (λ x. mark ∷ x) others.1)
+
+prefix-begins : (name rest : List Mark) → begins_with name (name ++ rest) ≡ true
+unfolding begins_with
+prefix-begins [] rest = refl
+prefix-begins (mark ∷ name) rest = and_from _ _ (same_mark-itself mark) (prefix-begins name rest)
+
+-- a test that says whether a trail begins with another is the one of the definition
+pub begins-is : (name trail : List Mark) (b : Bool) → (IsTrue b ↔ IsPrefix name trail) → b ≡ begins_with name trail
+begins-is name trail b means =
+    elim (cases_Bool b) [
+      | inl holds ↦
+          let begins : IsPrefix name trail = means.0 (subst (λ x. IsTrue x) (sym holds) refl) in
+          holds ∙ sym (ap (λ x. begins_with name x) begins.1 ∙ prefix-begins name begins.0)
+      | inr fails ↦
+          elim (cases_Bool (begins_with name trail)) [
+            | inl begins ↦ absurd (false≢true (subst (λ x. IsTrue x) fails (means.1 (begins-prefix name trail begins))))
+            | inr begins ↦ fails ∙ sym begins
+          ]
+    ]
+
+-- A walk from the innermost mark on: some marks are passed, and these are left.
+abbrev pub IsWalk : List Mark → List Mark → List Mark → Type 0
+IsWalk whole left passed = whole ≡ left ++ passed
+
+pub walk_on : (whole left outer passed : List Mark) (mark : Mark) → IsWalk whole left passed → left ≡ outer ++ mark ∷ [] → IsWalk whole outer (mark ∷ passed)
+walk_on whole left outer passed mark walk is = walk ∙ ap (λ x. x ++ passed) is ∙ append_assoc outer (mark ∷ []) passed
+
+-- the last of two lists with one more at their ends
+pub last-is : (xs ys : List Mark) (x y : Mark) → xs ++ x ∷ [] ≡ ys ++ y ∷ [] → x ≡ y
+last-is xs ys x y same = heads (reverse xs) (reverse ys) x y (sym (reverse-append xs (x ∷ [])) ∙ ap reverse same ∙ reverse-append ys (y ∷ []))
+  where
+    heads : (us vs : List Mark) (a b : Mark) → a ∷ us ≡ b ∷ vs → a ≡ b
+    heads us vs a b e = cc

@@ -1,0 +1,37 @@
+use Rattle.std.proofs.Common.{◌≡◌, ◌++◌, ◌∷◌, [], List, Some, ap, ◌∙◌, sym, arith, length, length-append}
+use Rattle.dm_expand.specs.Items.{Item}
+use Rattle.dm_expand.specs.Arguments.{Enclosed, enclosed_in, depth_behind}
+use Rattle.dm_expand.specs.Views.{all_inside}
+use Rattle.dm_expand.proofs.ArgumentLemmas.{inside-goes_on, inside-closes, inside-nothing}
+use Rattle.dm_expand.proofs.arguments.take_enclosed.Goals as goal
+
+pub returns-then-is_closing-clause-found : goal.returns-then-is_closing-clause-found
+returns-then-is_closing-clause-found c =
+    let inside : List Item = c.tokens.inside.items in
+    let item : Item = c.in-Some.item in
+    let rest : List Item = c.next_of.new.queue.items in
+    inside-closes _ inside c.tokens.depth item rest
+    (c.tokens.invariant.0 ∙ ap (λ (xs : List Item). all_inside inside (enclosed_in c.tokens.depth xs)) c.in-Some.ensures)
+    (sym c.if-is_closing.ensures)
+    ∙ ap (λ (xs : List Item). Some (record { inside = xs; closing = item; rest = rest })) (sym c.from_vec-inside.ensures)
+
+pub tokens-preserved : goal.tokens-preserved
+tokens-preserved c =
+    let inside : List Item = c.tokens.inside.items in
+    let item : Item = c.in-Some.item in
+    let rest : List Item = c.next_of.new.queue.items in
+    let depth = c.tokens.depth in (
+      inside-goes_on _ inside depth item rest
+          (c.tokens.invariant.0 ∙ ap (λ (xs : List Item). all_inside inside (enclosed_in depth xs)) c.in-Some.ensures)
+          (sym c.if-is_closing.ensures)
+          ∙ ap (λ (xs : List Item). all_inside xs (enclosed_in (depth_behind depth item) rest)) (sym c.in_ok-push.ensures.items)
+          ∙ ap (λ d. all_inside c.push.new.self.items (enclosed_in d rest)) (sym c.depth_behind-depth.ensures.is),
+      omega (arith, c.depth_behind-depth.ensures.near, ap length c.in_ok-push.ensures.items, length-append inside (item ∷ []), c.tokens.invariant.1),
+      omega (arith, ap length c.in-Some.ensures, c.tokens.invariant.2),
+    )
+
+pub returns-clause-found : goal.returns-clause-found
+returns-clause-found c =
+    let inside : List Item = c.tokens.inside.items in
+    inside-nothing _ inside c.tokens.depth
+    (c.tokens.invariant.0 ∙ ap (λ (xs : List Item). all_inside inside (enclosed_in c.tokens.depth xs)) c.in_default.ensures.0)

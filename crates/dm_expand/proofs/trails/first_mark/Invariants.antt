@@ -1,0 +1,11 @@
+use Rattle.std.proofs.Common.{◌≡◌, List, length}
+use Rattle.std.specs.Prelude.{slice_get}
+use Rattle.dm_token.specs.declared.expansion.Mark.{Mark}
+use Rattle.dm_expand.proofs.TrailLemmas.{IsWalk}
+use Rattle.dm_expand.proofs.trails.first_mark.Given as goal
+
+abbrev pub invariant-walk : goal.invariant-walk
+invariant-walk l = (passed : List Mark) × IsWalk l.fn.trail l.left passed × (l.first ≡ slice_get passed 0)
+
+abbrev pub decreases-walk : goal.decreases-walk
+decreases-walk l = length l.left

@@ -1,0 +1,15 @@
+pub mod Items
+pub mod Trails
+pub mod Steps
+pub mod Arguments
+pub mod Bodies
+pub mod Strings
+pub mod Pastes
+pub mod Predefined
+pub mod Substitution
+pub mod Expansion
+pub mod Laws
+pub mod Views
+pub mod HeadViews
+pub mod ListViews
+pub mod AnswerViews

@@ -1,0 +1,220 @@
+ghost use Rattle.std.specs.Prelude.{◌≡◌, ◌≤◌, [], ◌∷◌, ◌++◌, List, IfOk, OnOk, length, option_map};
+ghost use Rattle.std.specs.FinSet as set;
+ghost use Rattle.dm_macro.specs.Signs as sign;
+ghost use Rattle.dm_expand.specs.Items.{Item as Token};
+ghost use Rattle.dm_expand.specs.Arguments as arguments;
+ghost use Rattle.dm_expand.specs.Expansion as expansion;
+ghost use Rattle.dm_expand.specs.Trails as trails;
+ghost use Rattle.dm_expand.specs.HeadViews.{macros_of, macro_value, head_value, replace_with, Stays, PutsNothing};
+
+use crate::arguments::{Enclosed, arguments_of, next_of, take_enclosed};
+use crate::hidden::Hidden;
+use crate::item::Item;
+use crate::predefined::replaced;
+use crate::progress::Progress;
+use crate::sign::{is_identifier, is_left_parenthesis};
+use crate::trails::{begins_with, come_otherwise};
+use dm_macro::MacroTable;
+use dm_token::{Definition, List, Memory, PpToken, Text};
+use std::alloc::Global;
+use std::collections::VecDeque;
+
+/// What an expansion looks up: the macros, and the files' names.
+#[derive(Clone, Copy)]
+pub struct Macros<'a> {
+    pub alloc: Global,
+    pub table: &'a MacroTable,
+    pub files: &'a [Text],
+}
+
+/// A definition with its number.
+#[derive(Clone, Copy)]
+pub struct Macro<'a> {
+    pub number: u32,
+    pub definition: &'a Definition,
+}
+
+/// An invocation of a macro: the definition, the name, the arguments, the hide set that its replacement gets, and whether
+/// some token from its `(` to its `)` came by another way than its name.
+#[derive(Drop)]
+pub struct Invocation<'a> {
+    pub found: Macro<'a>,
+    pub name: Item,
+    pub arguments: List<List<Item>>,
+    pub hidden: Hidden,
+    pub foreign: bool,
+}
+
+/// What is done at the head of a list of tokens.
+#[derive(Drop)]
+pub enum Head<'a> {
+    /// The token is put out.
+    Put(Item),
+    /// A macro is replaced.
+    Replace(Invocation<'a>),
+    /// The invocation has no arguments that fit.
+    Refuse,
+}
+
+// The macro whose name a token is.
+#[tactic(auto, unfolding(crate::specs::Expansion::macro_of, crate::specs::Expansion::numbered))]
+fn macro_of<'a>(macros: &Macros<'a>, token: &PpToken) -> Option<Macro<'a>>
+    ensures { option_map macro_value result ≡ expansion.macro_of (macros_of macros.now) token.now }
+{
+    if !is_identifier(token) {
+        return None;
+    }
+    let number = macros.table.get(&token.spelling)?;
+    Some(Macro {
+        number,
+        definition: macros.table.definition(number),
+    })
+}
+
+// An object-like macro's name.
+#[tactic(auto, unfolding(crate::specs::Expansion::object_like))]
+fn object_like<'a>(alloc: Global, found: Macro<'a>, name: Item) -> Result<Head<'a>, Memory>
+    ensures { IfOk result (λ head. (rest : List Token) → head_value rest head ≡ expansion.object_like (macro_value found.entry) name rest) }
+{
+    let mut hidden = name.hidden.copy()?;
+    hidden.add(found.number)?;
+    Ok(Head::Replace(Invocation {
+        found,
+        name,
+        arguments: List::new(alloc),
+        hidden,
+        foreign: false,
+    }))
+}
+
+// A function-like macro's name, the `)` that closes the invocation, and the arguments.
+fn with_arguments<'a>(
+    alloc: Global,
+    found: Macro<'a>,
+    name: Item,
+    closing: &Item,
+    foreign: bool,
+    arguments: List<List<Item>>,
+) -> Result<Head<'a>, Memory>
+    ensures puts_nothing { IfOk result PutsNothing }
+    ensures head { IfOk result (λ head. (rest : List Token) → head_value rest head ≡ replace_with (macro_value found.entry) name arguments (set.insert (set.intersection name.hidden closing.now.hidden) found.entry.number) foreign rest) }
+{
+    let mut hidden = Hidden::meet(alloc, &name.hidden, &closing.hidden)?;
+    hidden.add(found.number)?;
+    Ok(Head::Replace(Invocation {
+        found,
+        name,
+        arguments,
+        hidden,
+        foreign,
+    }))
+}
+
+// Whether some token of an invocation didn't come by the way that the name came.
+fn is_foreign(name: &Item, opening: &Item, enclosed: &Enclosed) -> bool
+    ensures { result ≡ trails.come_otherwise name.now.trail (opening.now ∷ (enclosed.now.inside ++ enclosed.now.closing ∷ [])) }
+{
+    if !begins_with(&name.trail, &opening.trail) {
+        return true;
+    }
+    if come_otherwise(&name.trail, enclosed.inside.items()) {
+        return true;
+    }
+    let closing = &enclosed.closing;
+    !begins_with(&name.trail, &closing.trail)
+}
+
+// A function-like macro's name and a `(`, and what follows it.
+#[tactic(auto, unfolding(crate::specs::Expansion::enclosing, crate::specs::Expansion::with_arguments))]
+fn enclosing<'a>(
+    alloc: Global,
+    found: Macro<'a>,
+    name: Item,
+    opening: &Item,
+    rest: &mut VecDeque<Item>,
+) -> Result<Head<'a>, Memory>
+    ensures puts_nothing { IfOk result PutsNothing }
+    ensures head { IfOk result (λ head. head_value rest.new.items head ≡ expansion.enclosing (macro_value found.entry) name opening.now (arguments.enclosed_in 0 rest.old.items)) }
+    ensures shorter { OnOk result (length rest.new.items ≤ length rest.old.items) }
+{
+    let Some(enclosed) = take_enclosed(alloc, rest)? else {
+        return Ok(Head::Refuse);
+    };
+    let foreign = is_foreign(&name, opening, &enclosed);
+    let Enclosed { inside, closing } = enclosed;
+    let Some(arguments) = arguments_of(alloc, found.definition, inside)? else {
+        return Ok(Head::Refuse);
+    };
+    let head = with_arguments(alloc, found, name, &closing, foreign, arguments)?;
+    Ok(head)
+}
+
+// A function-like macro's name, and what follows it.
+#[tactic(auto, unfolding(crate::specs::Expansion::function_like, crate::specs::Arguments::opens))]
+fn function_like<'a>(
+    alloc: Global,
+    found: Macro<'a>,
+    name: Item,
+    rest: &mut VecDeque<Item>,
+) -> Result<Head<'a>, Memory>
+    ensures stays { IfOk result (λ head. Stays head rest.old.items rest.new.items) }
+    ensures head { IfOk result (λ head. head_value rest.new.items head ≡ expansion.function_like (macro_value found.entry) name rest.old.items) }
+    ensures shorter { OnOk result (length rest.new.items ≤ length rest.old.items) }
+{
+    let Some(next) = next_of(rest) else {
+        return Ok(Head::Put(name));
+    };
+    if !is_left_parenthesis(&next.pp) {
+        rest.push_front(next)?;
+        return Ok(Head::Put(name));
+    }
+    let head = enclosing(alloc, found, name, &next, rest)?;
+    Ok(head)
+}
+
+// A macro's name that isn't hidden, and what follows it.
+#[tactic(auto, unfolding(crate::specs::Expansion::invoked))]
+fn invoked<'a>(
+    alloc: Global,
+    found: Macro<'a>,
+    name: Item,
+    rest: &mut VecDeque<Item>,
+) -> Result<Head<'a>, Memory>
+    ensures stays { IfOk result (λ head. Stays head rest.old.items rest.new.items) }
+    ensures head { IfOk result (λ head. head_value rest.new.items head ≡ expansion.invoked (macro_value found.entry) found.entry.definition.now.parameters name rest.old.items) }
+    ensures shorter { OnOk result (length rest.new.items ≤ length rest.old.items) }
+{
+    match &found.definition.parameters {
+        None => {
+            let head = object_like(alloc, found, name)?;
+            Ok(head)
+        }
+        Some(_) => {
+            let head = function_like(alloc, found, name, rest)?;
+            Ok(head)
+        }
+    }
+}
+
+/// The case at the head of a list: a token, and what follows it. What belongs to an invocation is taken from there.
+#[tactic(auto, unfolding(crate::specs::Expansion::head_of, crate::specs::Expansion::head_by))]
+pub fn head_of<'a>(
+    macros: &Macros<'a>,
+    progress: &Progress,
+    item: Item,
+    rest: &mut VecDeque<Item>,
+) -> Result<Head<'a>, Memory>
+    ensures stays { IfOk result (λ head. Stays head rest.old.items rest.new.items) }
+    ensures head { IfOk result (λ head. head_value rest.new.items head ≡ expansion.head_of (macros_of macros.now) progress.now item rest.old.items) }
+    ensures shorter { OnOk result (length rest.new.items ≤ length rest.old.items) }
+{
+    let Some(found) = macro_of(macros, &item.pp) else {
+        let out = replaced(macros.alloc, macros.files, progress, item)?;
+        return Ok(Head::Put(out));
+    };
+    if item.hidden.holds(found.number) {
+        return Ok(Head::Put(item));
+    }
+    let head = invoked(macros.alloc, found, item, rest)?;
+    Ok(head)
+}
