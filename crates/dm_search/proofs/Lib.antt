@@ -1,0 +1,5 @@
+mod CallLemmas
+mod JoiningLemmas
+mod NormalLemmas
+mod SearchLemmas
+mod SoundLemmas

@@ -1,0 +1,9 @@
+pub mod CallFiles
+pub mod Fresh
+pub mod Headers
+pub mod Joining
+pub mod Loaded
+pub mod Loading
+pub mod Readable
+pub mod Searching
+pub mod Sound
