@@ -1,0 +1,6 @@
+pub mod Bytes
+pub mod Each
+pub mod Keys
+pub mod Lawful
+pub mod Lines
+pub mod Steps
