@@ -2,7 +2,7 @@
 use Rattle.std.proofs.Common.{◌≡◌, ℕ, ◌+◌, ◌%◌, Bool, true, false, cond, ◌&&◌, List, ◌∷◌, Option, Some, None, sum, nat_le, refl, ap, if◌then◌else◌, arith, zero-add}
 use Rattle.std.specs.List.{list_all}
 use Rattle.std.proofs.lemmas.List.Sums.{sum_by-cons}
-use Rattle.dm_core.specs.Texts.{greatest_int}
+use Rattle.dm_token.specs.Limits.{greatest_int}
 use Rattle.dm_core.specs.Outcomes.{partial_sums, sum_outcome}
 
 -- the outcome of the terms that are left, where the sum so far is an int

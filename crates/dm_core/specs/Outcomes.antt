@@ -6,7 +6,8 @@ use Rattle.dm_core.specs.declared.form.First.{First}
 use Rattle.dm_core.specs.declared.form.Named.{Named}
 use Rattle.dm_core.specs.declared.form.Term.{Term}
 use Rattle.dm_core.specs.declared.form.Term.TheVariants.{Number, Name}
-use Rattle.dm_core.specs.Texts.{is_value, number_of, greatest_int}
+use Rattle.dm_token.specs.Limits.{greatest_int}
+use Rattle.dm_core.specs.Texts.{is_value, number_of}
 use Rattle.dm_core.specs.Programs.{Declared, Program}
 
 -- the sums from the left: of the first, of the first two and so on, each with a number added

@@ -4,8 +4,8 @@ use Rattle.std.specs.List.{list_all, concat}
 use Rattle.std.proofs.lemmas.Bool.{and_parts, and_from, or_cases, or_left, both_ways, not-true, false≢true, ne_eqb, eq-eqb, leb-true, le-leb, eqb-true, cond-false}
 use Rattle.std.proofs.lemmas.List.{append_cancel_left, append_cancel_right, append-nil}
 use Rattle.std.proofs.lemmas.Slice.Eq.{bytes_eq-Decides}
-use Rattle.dm_token.specs.Places.{newline}
-use Rattle.dm_core.specs.Texts.{is_letter, is_digit, is_name_byte, is_name, begins_number, is_value, lines_of, put_first}
+use Rattle.dm_token.specs.Bytes.{newline, is_digit}
+use Rattle.dm_core.specs.Texts.{is_letter, is_name_byte, is_name, begins_number, is_value, lines_of, put_first}
 use Rattle.dm_core.specs.Programs.{Way, macro, enumerator, Declared, Program, IsProgram, opening_line, line_by, declaration_line, sum_text, main_line, program_lines, text_of, names_of, is_among, is_term, is_lawful}
 
 -- what passes a test passes a weaker one
@@ -25,6 +25,7 @@ is_word bytes = list_all (λ byte. nat_le 48 byte) bytes
 
 -- letters and digits do not stand before the digits
 name_byte_is_high : (byte : ℕ) → is_name_byte byte ≡ true → nat_le 48 byte ≡ true
+unfolding is_digit
 name_byte_is_high byte h =
     le-leb 48 byte
     (⊎_elim (λ letter. let bound = leb-true 65 byte (and_parts (nat_le 65 byte) (nat_le byte 90) letter).0 in omega arith)
@@ -33,6 +34,7 @@ name_byte_is_high byte h =
 
 -- nor do digits
 digit_is_high : (byte : ℕ) → is_digit byte ≡ true → nat_le 48 byte ≡ true
+unfolding is_digit
 digit_is_high byte h = (and_parts (nat_le 48 byte) (nat_le byte 57) h).0
 
 -- names and values are words

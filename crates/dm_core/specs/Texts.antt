@@ -1,15 +1,12 @@
 -- Names, decimal constants and lines, as lists of bytes.
 use Rattle.std.specs.Prelude.{ℕ, ◌+◌, ◌-◌, ◌*◌, Bool, false, not, ◌&&◌, ◌||◌, List, [], ◌∷◌, length, fold, ◌==◌, nat_le, if◌then◌else◌}
 use Rattle.std.specs.List.{list_all}
-use Rattle.dm_token.specs.Places.{newline}
+use Rattle.dm_token.specs.Bytes.{newline, is_digit}
+use Rattle.dm_token.specs.Limits.{greatest_int}
 
 -- A to Z
 abbrev pub is_letter : ℕ → Bool
 is_letter byte = nat_le 65 byte && nat_le byte 90
-
--- 0 to 9
-abbrev pub is_digit : ℕ → Bool
-is_digit byte = nat_le 48 byte && nat_le byte 57
 
 -- a byte that may stand in a name behind its first
 abbrev pub is_name_byte : ℕ → Bool
@@ -23,10 +20,6 @@ is_name (head ∷ rest) = is_letter head && list_all is_name_byte rest
 -- the number that digits write, to the base ten
 abbrev pub number_of : List ℕ → ℕ
 number_of digits = fold (λ number digit. number * 10 + (digit - 48)) 0 digits
-
--- INT_MAX, where an int has 32 bits (5.2.4.2.1)
-abbrev pub greatest_int : ℕ
-greatest_int = 2147483647
 
 -- something stands there, and nothing behind a zero that begins it
 abbrev pub begins_number : List ℕ → Bool

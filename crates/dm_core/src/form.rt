@@ -1,11 +1,8 @@
 ghost use Rattle.std.specs.Prelude.{◌≡◌, ◌+◌, ◌≤◌, length, nat_le, if◌then◌else◌};
+ghost use Rattle.dm_token.specs.Limits.{greatest_int};
 ghost use Rattle.dm_core.specs.Outcomes.{IsBelow, NamesExist, first_outcome, value_in};
-ghost use Rattle.dm_core.specs.Texts.{greatest_int};
 
-use dm_token::{List, Text};
-
-/// The greatest `int` (5.2.4.2.1).
-const INT_MAX: u32 = 2147483647;
+use dm_token::{List, Text, greatest_int};
 
 /// A program of the first form: its macros in the order of their lines, and the terms of the sum that it writes.
 #[derive(Debug, Drop)]
@@ -52,7 +49,7 @@ fn int_sum(left: u32, right: u32) -> Option<u32>
     requires { left ≤ greatest_int }
     ensures { result ≡ (if nat_le (left + right) greatest_int then Some (left + right) else None) }
 {
-    if right <= INT_MAX - left {
+    if right <= greatest_int() - left {
         Some(left + right)
     } else {
         None

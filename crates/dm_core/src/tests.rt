@@ -25,6 +25,9 @@ fn sum_of(alloc: Global, numbers: &[u32]) -> Result<First, AllocError>
     })
 }
 
+/// The greatest `int`.
+const GREATEST: u32 = i32::MAX as u32;
+
 #[test]
 fn a_sum_is_written_as_unsigned_char_unless_a_partial_sum_overflows(
     rt: HostRuntime,
@@ -34,10 +37,10 @@ fn a_sum_is_written_as_unsigned_char_unless_a_partial_sum_overflows(
         (&[255, 1], Some(0)),
         (&[0], Some(0)),
         (&[1000, 24, 7], Some(7)),
-        (&[2147483647], Some(255)),
-        (&[2147483647, 0], Some(255)),
-        (&[2147483647, 1], None),
-        (&[2147483648], None),
+        (&[GREATEST], Some(255)),
+        (&[GREATEST, 0], Some(255)),
+        (&[GREATEST, 1], None),
+        (&[GREATEST + 1], None),
         (&[1073741824, 1073741824, 0], None),
     ];
     for (numbers, written) in rows {

@@ -11,7 +11,9 @@ use Rattle.dm_plan.specs.Macros.{MacrosEnd, declarations}
 use Rattle.dm_plan.specs.declared.misfit.Misfit.{Misfit}
 use Rattle.dm_plan.specs.declared.misfit.Misfit.TheVariants.{Memory, At}
 use Rattle.dm_plan.specs.Sums.{IsSum, IsNoMain, NoMainAt}
-use Rattle.dm_plan.specs.Answers.{IsAnswer, IsMisfit}
+use Rattle.dm_token.specs.declared.place.Place.{Place}
+use Rattle.dm_token.specs.Places.{place_of}
+use Rattle.dm_plan.specs.Answers.{IsAnswer, IsInside, IsMisfit}
 use Rattle.dm_plan.proofs.Leaving.{IsFirstForm-read, LeavesFormAt-macros}
 use Rattle.dm_plan.proofs.Meaning.{text_of-read, text_of-made}
 
@@ -36,3 +38,7 @@ IsMisfit-main bytes lines rest macros end (At offset) opened within ends is none
 pub IfErr-handed : {A E : Type 0} (result : Result A E) (error : E) (Q : E → Type 0) → IsErrAnd result (λ e. e ≡ error) → Q error → IfErr result Q
 IfErr-handed (Ok value) error Q handed holds = tt
 IfErr-handed (Err e) error Q handed holds = subst Q (sym handed) holds
+
+-- the place of a byte is inside its file
+pub IsInside-byte : (file : ℕ) (bytes : List ℕ) (offset : ℕ) (place : Place) → offset ≤ length bytes → place ≡ place_of file bytes offset → IsInside file bytes place
+IsInside-byte file bytes offset place within is = subst (IsInside file bytes) (sym is) (within, refl)

@@ -4,7 +4,7 @@ use Rattle.std.specs.List.{list_all, concat, IsDistinct, AllByRecursion}
 use Rattle.std.proofs.lemmas.Bool.{and_parts, or_from}
 use Rattle.std.proofs.lemmas.List.{length-append, length-drop, append-nil}
 use Rattle.std.proofs.lemmas.List.Folds.{concat-append}
-use Rattle.dm_token.specs.Places.{newline}
+use Rattle.dm_token.specs.Bytes.{newline, is_digit}
 use Rattle.dm_core.specs.Texts.{is_name, is_value, lines_of, put_first}
 use Rattle.dm_core.specs.Programs.{Way, macro, enumerator, Declared, Program, IsProgram, IsFirstForm, opening_line, line_by, declaration_line, main_line, program_lines, names_of, is_among, is_term, is_lawful, is_macro, most}
 use Rattle.dm_core.specs.Forms.{IsFirstText, Stand, EndsEarly, LeavesFormAt}
@@ -61,6 +61,7 @@ IsFirstForm-read macros terms lawful sum = record {
 
 -- the sum of a lone zero is lawful over all names
 zero_sum : (names : List (List ℕ)) → IsSum names (codes "0" ∷ [])
+unfolding is_digit
 zero_sum names = record { some_terms = omega arith; few_terms = omega arith; terms_lawful = refl }
 
 -- the lines of macros that were read can stand
@@ -178,7 +179,7 @@ least = record { declared = []; terms = codes "0" ∷ [] }
 
 -- it is of the first form
 least_form : IsFirstForm least
-unfolding least IsDistinct
+unfolding least IsDistinct is_digit
 least_form = record {
   lawful = record { few_names = omega arith; lines_lawful = refl; names_differ = tt; some_terms = omega arith; few_terms = omega arith; terms_lawful = refl };
   all_macros = refl;

@@ -2,7 +2,9 @@
 use Rattle.std.proofs.Common.{◌≡◌, ℕ, ◌+◌, ◌-◌, ◌*◌, ◌≤◌, Bool, true, false, cond, ◌&&◌, List, [], ◌∷◌, length, Option, Some, None, nat_le, fold, refl, ap, sym, ◌∙◌, if◌then◌else◌, arith, ⊎_elim, get_or, drop, drop-cons, ◌<◌}
 use Rattle.std.specs.List.{list_all}
 use Rattle.std.proofs.lemmas.Bool.{cases_Bool, and_from, and_right, leb-true, leb-false, le-leb, lt-leb, cond-true, cond-false}
-use Rattle.dm_core.specs.Texts.{greatest_int, begins_number, is_digit, is_value, number_of}
+use Rattle.dm_token.specs.Bytes.{is_digit}
+use Rattle.dm_token.specs.Limits.{greatest_int}
+use Rattle.dm_core.specs.Texts.{begins_number, is_value, number_of}
 
 -- a number with more digits at its end
 abbrev pub number_from : ℕ → List ℕ → ℕ

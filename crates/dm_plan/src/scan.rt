@@ -1,8 +1,12 @@
 ghost use Rattle.std.specs.Prelude.{◌≡◌, ◌≢◌, ℕ, ◌+◌, ◌-◌, ◌*◌, ◌≤◌, ◌&&◌, List, ◌++◌, IsTrue, IsFalse, MatchOption, nat_le, if◌then◌else◌};
 ghost use Rattle.std.specs.List.{list_all};
-ghost use Rattle.dm_core.specs.Texts.{begins_number, greatest_int, is_digit, is_letter, is_name, is_name_byte, is_value, number_of};
+ghost use Rattle.dm_token.specs.Bytes.{is_digit};
+ghost use Rattle.dm_token.specs.Limits.{greatest_int};
+ghost use Rattle.dm_core.specs.Texts.{begins_number, is_letter, is_name, is_name_byte, is_value, number_of};
 ghost use Rattle.dm_core.specs.Readings.{lacks};
 ghost use Rattle.dm_plan.specs.Scans.{IsCut, macro_body, main_body};
+
+use dm_token::{greatest_int, is_digit};
 
 /// The line in front of all others.
 pub const OPENING: &[u8] = b"int putchar(int c);\n";
@@ -15,9 +19,6 @@ const MAIN: &[u8] = b"int main(void) { putchar(";
 
 /// What stands behind the sum.
 const MAIN_END: &[u8] = b"); return 0; }";
-
-/// The greatest `int` (5.2.4.2.1).
-const INT_MAX: u32 = 2147483647;
 
 /// The bytes before the first separator and behind it.
 pub fn cut(bytes: &[u8], separator: u8) -> Option<(&[u8], &[u8])>
@@ -54,12 +55,6 @@ fn is_letter(byte: u8) -> bool
     b'A' <= byte && byte <= b'Z'
 }
 
-fn is_digit(byte: u8) -> bool
-    ensures { result ≡ is_digit byte }
-{
-    b'0' <= byte && byte <= b'9'
-}
-
 /// The number that a value writes.
 pub fn number(digits: &[u8]) -> Option<u32>
     ensures { MatchOption result (IsFalse (is_value digits.now))
@@ -87,6 +82,7 @@ fn begins_number(digits: &[u8]) -> bool
 }
 
 /// A number with one more digit at its end, where it is an `int`.
+#[tactic(auto, unfolding(dm_token::specs::Bytes::is_digit))]
 fn with_digit(number: u32, digit: u8) -> Option<u32>
     requires { number ≤ greatest_int }
     ensures { result ≡ (if is_digit digit && nat_le (number * 10 + (digit - 48)) greatest_int
@@ -96,7 +92,7 @@ fn with_digit(number: u32, digit: u8) -> Option<u32>
         return None;
     }
     let number = u64::from(number) * 10 + u64::from(digit - b'0');
-    if number <= u64::from(INT_MAX) {
+    if number <= u64::from(greatest_int()) {
         Some(number as u32)
     } else {
         None

@@ -1,6 +1,6 @@
 use crate::first;
 use dm_core::{Term, outcome};
-use dm_token::Stop;
+use dm_token::{Stop, source_length_limit};
 use std::alloc::{AllocError, Global};
 use std::test::Fail;
 
@@ -42,7 +42,7 @@ fn an_unused_macro_stays(rt: HostRuntime) -> Result<(), Fail> {
 
 /// The line at whose first byte a text is refused with number 20, or 0 where it isn't.
 fn refused_line(alloc: Global, text: &[u8]) -> u32 {
-    if text.len() > 1048576 {
+    if text.len() > source_length_limit() {
         return 0;
     }
     match first(alloc, 3, text) {
@@ -127,7 +127,7 @@ fn a_text_is_refused_at_the_first_line_that_cannot_stand(rt: HostRuntime) -> Res
 fn program(alloc: Global, names: usize, terms: usize) -> Result<String, AllocError> {
     let mut text = String::from_str(alloc, OPENING)?;
     for name in 0..names {
-        text.push_str(format!(in alloc; "#define A{name} 2147483647\n")?.as_str())?;
+        text.push_str(format!(in alloc; "#define A{name} {}\n", i32::MAX)?.as_str())?;
     }
     text.push_str("int main(void) { putchar(0")?;
     for _ in 1..terms {
@@ -147,5 +147,20 @@ fn there_are_at_most_256_names_and_terms(rt: HostRuntime) -> Result<(), Fail> {
     assert_eq!(rt; refused_line(rt.alloc(), names.as_bytes()), 258);
     let terms = program(rt.alloc(), 256, 257)?;
     assert_eq!(rt; refused_line(rt.alloc(), terms.as_bytes()), 258);
+    Ok(())
+}
+
+#[test]
+fn the_greatest_texts_are_read(rt: HostRuntime) -> Result<(), Fail> {
+    let long = "A".repeat(rt.alloc(), 4000)?;
+    let mut text = String::from_str(rt.alloc(), OPENING)?;
+    for name in 0..256usize {
+        text.push_str(format!(in rt.alloc(); "#define {long}{name:0>69} 1\n")?.as_str())?;
+    }
+    text.push_str("int main(void) { putchar(1); return 0; }\n")?;
+    assert!(rt; text.len() <= source_length_limit());
+    let (form, new) = first(rt.alloc(), 3, text.as_bytes())?;
+    assert_eq!(rt; form.names.len(), 256);
+    assert_eq!(rt; new.items(), text.as_bytes());
     Ok(())
 }

@@ -1,7 +1,7 @@
 -- The sum so far is an int, and what the terms that are left make of it is the outcome.
 use Rattle.std.proofs.Common.{◌≡◌, ◌≤◌, drop, map}
 use Rattle.dm_core.specs.Outcomes.{first_outcome, value_in}
-use Rattle.dm_core.specs.Texts.{greatest_int}
+use Rattle.dm_token.specs.Limits.{greatest_int}
 use Rattle.dm_core.proofs.Sums.{outcome_from}
 use Rattle.dm_core.proofs.form.outcome.Given as goal
 

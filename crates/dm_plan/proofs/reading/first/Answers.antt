@@ -2,6 +2,7 @@
 use Rattle.std.proofs.Common.{ap, inl, Ok, subst}
 use Rattle.dm_plan.specs.Answers.{IsMisfit}
 use Rattle.dm_plan.proofs.Leaving.{offset_within, stays}
+use Rattle.dm_plan.proofs.Findings.{IsInside-byte}
 use Rattle.dm_plan.proofs.Meaning.{IsAnswer-only, MeansTheSame-rewritten, NamesExist-first, SpeaksOf-first}
 use Rattle.dm_plan.proofs.reading.first.Goals as goal
 
@@ -28,3 +29,8 @@ returns-in-Ok-clause-speaks c =
 
 pub returns-in-Err-At-clause-only : goal.returns-in-Err-At-clause-only
 returns-in-Err-At-clause-only c = λ program text. absurd (stays c.args.bytes.now c.in-Err-At.offset program (subst (IsMisfit c.args.bytes.now) c.in-Err-At.field-0-is c.in-Err-At.ensures.misfit) text)
+
+pub returns-in-Err-At-clause-inside : goal.returns-in-Err-At-clause-inside
+returns-in-Err-At-clause-inside c =
+    let misfit = subst (IsMisfit c.args.bytes.now) c.in-Err-At.field-0-is c.in-Err-At.ensures.misfit in
+    IsInside-byte c.args.file c.args.bytes.now c.in-Err-At.offset c.place_at.result (offset_within c.args.bytes.now c.in-Err-At.offset misfit) c.place_at.ensures

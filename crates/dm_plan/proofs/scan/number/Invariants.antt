@@ -1,6 +1,6 @@
 -- The digits so far write an int, and what the digits that are left make of it is the value.
 use Rattle.std.proofs.Common.{◌≡◌, ◌≤◌, drop}
-use Rattle.dm_core.specs.Texts.{greatest_int}
+use Rattle.dm_token.specs.Limits.{greatest_int}
 use Rattle.dm_plan.proofs.Numbers.{value_from}
 use Rattle.dm_plan.proofs.scan.number.Given as goal
 
