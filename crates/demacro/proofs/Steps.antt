@@ -1,29 +1,29 @@
 -- From what the steps of a call do to how it ends.
-use Rattle.std.proofs.Common.{◌≡◌, ◌≢◌, ℕ, ◌+◌, ◌≤◌, ◌<◌, ◌⊎◌, inl, inr, List, [], ◌∷◌, ◌++◌, length, Option, Some, None, Bool, true, false, cond, IsTrue, is_some, option_map, refl, sym, ap, subst, ◌∙◌, arith, append_assoc, IsSome, unwrap_or, Result, Ok, Err, IfOk, OnOk, OnErr}
+use Rattle.std.proofs.Common.{◌≡◌, ◌≢◌, ℕ, ◌≤◌, ◌<◌, ◌⊎◌, inl, inr, List, [], ◌∷◌, length, Option, Some, None, true, is_some, refl, sym, ap, subst, ◌∙◌, arith, append_assoc, IsSome, unwrap_or, Result, Ok, Err, IfOk, OnOk, OnErr, MatchResult}
 use Rattle.std.proofs.lemmas.Bool.{false≢true}
-use Rattle.dm_token.specs.declared.place.Place.{Place}
-use Rattle.dm_token.specs.Places.{place_of}
-use Rattle.dm_core.specs.Programs.{Program, IsFirstForm, text_of, rewritten, program_lines}
+use Rattle.dm_token.specs.Limits.{source_length_limit}
+use Rattle.dm_core.specs.Programs.{Program, text_of, rewritten}
 use Rattle.dm_core.specs.Texts.{lines_of}
-use Rattle.dm_core.specs.Forms.{first_of, IsFirstText, LeavesFormAt, MeansTheSame, Stand}
+use Rattle.dm_core.specs.Forms.{IsFirstText, LeavesFormAt, MeansTheSame}
 use Rattle.dm_core.specs.Readings.{lines_of-text}
 use Rattle.dm_io.specs.Files.{Files, HasFile, file_at, with_file, MayHaveSpoiled, insert-same}
 use Rattle.dm_io.specs.Output.{appended, MayHaveAppended}
 use Rattle.std.specs.Option.{IsSomeAnd}
-use Rattle.dm_io.specs.Faults.{Rose, one_more}
+use Rattle.dm_io.specs.Faults.{Rose}
 use Rattle.demacro.specs.declared.planning.Trouble.{Trouble}
 use Rattle.demacro.specs.declared.planning.Trouble.TheVariants.{NotFound, NotYet, TooLong, ReadFault}
 use Rattle.demacro.specs.declared.planning.Prepared.{Prepared}
 use Rattle.dm_token.specs.declared.stop.Memory.{Memory}
 use Rattle.demacro.specs.declared.planning.Plan.{Plan}
 use Rattle.demacro.specs.declared.planning.Plan.TheVariants.{Apply, Explain}
-use Rattle.demacro.specs.declared.applying.Committed.{Committed}
 use Rattle.demacro.specs.declared.applying.Committed.TheVariants.{Done, WriteFailed, OutputFailed}
-use Rattle.demacro.specs.Outside.{Outside, most_bytes, HasText, IsAbsent, IsTooLong, Puts, PutsText, KeepsFiles, outside}
+use Rattle.demacro.specs.Outside.{Outside, HasText, IsAbsent, IsTooLong, Puts, PutsText, KeepsFiles}
 use Rattle.demacro.specs.Texts.{write_fault_line, usage_line}
 use Rattle.demacro.specs.Words.{named_file}
-use Rattle.demacro.specs.Plans.{IsPlan, IsPlanFor, IsReady, IsChange, line_for, status_for}
-use Rattle.demacro.specs.Commits.{IsCommitted, IsCommittedAs, changed_files, status_after}
+use Rattle.demacro.specs.Plans.{IsPlan, IsReady, IsChange, line_for, status_for}
+use Rattle.demacro.specs.Commits.{IsCommittedAs, changed_files}
+use Rattle.std.specs.declared.io.ErrorKind.{ErrorKind}
+use Rattle.demacro.specs.Arguments.{PutsUsage, EndsUnread, is_want_of_memory}
 use Rattle.demacro.specs.Endings.{Ending, done, wrong_words, file_absent, form_left, file_too_long, read_failed, write_failed, output_failed, memory_wanted, status_of, EndsAt, EndsFor, Ends, EndsAs, EndsNamed, IsApplied, HoldsProgram, report_on}
 
 -- faults that rose since a later moment rose since an earlier one
@@ -144,7 +144,7 @@ complete name before after program (form_left bytes offset) holds ends folder si
     absurd (never_left bytes program offset (record { lawful = holds.lawful; spelled = same }) ends.1)
 complete name before after program file_too_long holds ends folder sink =
     let long : IsTooLong (Some holds.files) name = subst (λ told. IsTooLong told name) holds.are_told ends.0 in
-    let longer : most_bytes < length (text_of program) = subst (λ found. IsSomeAnd found (λ bytes. most_bytes < length bytes)) holds.has long in
+    let longer : source_length_limit < length (text_of program) = subst (λ found. IsSomeAnd found (λ bytes. source_length_limit < length bytes)) holds.has long in
     let short = holds.short in
     absurd (omega arith)
 complete name before after program read_failed holds ends folder sink = absurd (folder ends.0)
@@ -169,6 +169,22 @@ ends_told name alias before after plan trouble (Ok status) planned is same keeps
     ends_explained name before after trouble status (subst (IsPlan before.files name before.folder_faults after.folder_faults) is planned) keeps
     (subst (λ n. Puts before after (line_for n trouble)) same puts) status_is
 ends_told name alias before after plan trouble (Err error) planned is same keeps puts status_is unwritten = (keeps, unwritten)
+
+-- a call ends for want of memory, whatever its words are
+pub ends_wanting : (named : Option (List ℕ)) (before after : Outside) → KeepsFiles before after → after.written ≡ before.written → EndsFor named before after memory_wanted
+ends_wanting None before after keeps unwritten = (keeps, unwritten)
+ends_wanting (Some name) before after keeps unwritten = (keeps, unwritten)
+
+-- where the arguments can't be read, the process ends as with wrong words
+pub ends_unread : (kind : ErrorKind) (before after : Outside) (status : ℕ) → KeepsFiles before after → PutsUsage before.written after.written before.sink_faults after.sink_faults status
+    → (is_want_of_memory kind ≡ true → status ≡ 8) → EndsUnread kind before after status
+ends_unread kind before after status keeps (inl put) wanting =
+    (wrong_words, put.0, (keeps, put.1), λ want. let eight = wanting want in let one = put.0 in absurd (omega arith))
+ends_unread kind before after status keeps (inr none) wanting = (memory_wanted, none.0, (keeps, none.1), λ want. refl)
+
+-- what holds of the error holds of the result
+pub at_error : {A E : Type 0} (result : Result A E) (error : E) (P : A → Type 0) (Q : E → Type 0) → result ≡ Err error → Q error → MatchResult result P Q
+at_error result error P Q is holds = subst (λ told. MatchResult told P Q) (sym is) holds
 
 -- a call with other words puts the usage line, or ends for want of memory
 pub ends_unnamed : (words : List (List ℕ)) (before after : Outside) (result : Result ℕ Memory) → named_file words ≡ None → KeepsFiles before after → OnOk result (Puts before after usage_line)

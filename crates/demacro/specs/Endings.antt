@@ -2,6 +2,7 @@
 use Rattle.std.specs.Prelude.{◌≡◌, ◌≢◌, ◌≤◌, ℕ, List, length, Option, Some, None, Result, Ok, Err}
 use Rattle.dm_token.specs.declared.stop.Memory.{Memory}
 use Rattle.dm_token.specs.Places.{line_at, column_at}
+use Rattle.dm_token.specs.Limits.{source_length_limit}
 use Rattle.dm_core.specs.Programs.{Program, IsFirstForm, text_of, rewritten}
 use Rattle.dm_core.specs.Forms.{first_of, LeavesFormAt, MeansTheSame}
 use Rattle.dm_io.specs.Files.{Files, file_at, with_file, MayHaveSpoiled}
@@ -9,7 +10,7 @@ use Rattle.dm_io.specs.Output.{appended, MayHaveAppended}
 use Rattle.dm_io.specs.Faults.{Rose}
 use Rattle.demacro.specs.Words.{named_file}
 use Rattle.demacro.specs.Texts.{usage_line, refusal_line, not_found, not_yet, limit_line, read_fault_line, write_fault_line, report_of}
-use Rattle.demacro.specs.Outside.{Outside, most_bytes, HasText, IsAbsent, IsTooLong, Puts, KeepsFiles}
+use Rattle.demacro.specs.Outside.{Outside, HasText, IsAbsent, IsTooLong, Puts, KeepsFiles}
 
 -- the endings, with the program that was applied, or with the bytes that are no program and where they leave the form
 pub data Ending : Type 0 where
@@ -96,7 +97,7 @@ EndsAs words before after (Err error) = EndsFor (named_file words) before after 
 -- the files are told, and the one of this name holds this program of the first form
 pub record HoldsProgram (told : Option Files) (name : List ℕ) (program : Program) : Type 0 where
   pub lawful : IsFirstForm program
-  pub short : length (text_of program) ≤ most_bytes
+  pub short : length (text_of program) ≤ source_length_limit
   pub files : Files
   pub are_told : told ≡ Some files
   pub has : file_at files name ≡ Some (text_of program)

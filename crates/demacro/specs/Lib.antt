@@ -1,3 +1,4 @@
+pub mod Arguments
 pub mod Commits
 pub mod Endings
 pub mod Outside

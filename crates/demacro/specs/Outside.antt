@@ -1,7 +1,10 @@
 -- The world outside at a moment, and what may become of it.
-use Rattle.std.specs.Prelude.{◌≡◌, ◌⊎◌, ◌<◌, ◌*◌, ◌≤◌, ℕ, List, length, Option, Some, None}
+use Rattle.std.specs.Prelude.{◌≡◌, ◌⊎◌, ◌<◌, ℕ, List, length, Option, Some, None}
 use Rattle.std.specs.Option.{IsSomeAnd}
-use Rattle.dm_io.specs.Files.{Files, file_at, with_file}
+use Rattle.dm_token.specs.Limits.{source_length_limit}
+use Rattle.dm_io.specs.declared.folder.Folder as folder
+use Rattle.dm_io.specs.declared.sink.Sink as sink
+use Rattle.dm_io.specs.Files.{Files, file_at}
 use Rattle.dm_io.specs.Output.{appended, MayHaveAppended}
 use Rattle.dm_io.specs.Faults.{Rose}
 
@@ -11,10 +14,6 @@ pub record Outside : Type 0 where
   pub folder_faults : ℕ
   pub written : Option (List ℕ)
   pub sink_faults : ℕ
-
--- the greatest length of a source file in bytes
-abbrev pub most_bytes : ℕ
-most_bytes = 1048576
 
 -- where the files are told, the file of this name has these bytes
 abbrev pub HasText : Option Files → List ℕ → List ℕ → Type 0
@@ -29,7 +28,7 @@ IsAbsent (Some files) name = file_at files name ≡ None
 -- where the files are told, the one of this name is too long
 abbrev pub IsTooLong : Option Files → List ℕ → Type 0
 IsTooLong None name = Unit {0}
-IsTooLong (Some files) name = IsSomeAnd (file_at files name) (λ bytes. most_bytes < length bytes)
+IsTooLong (Some files) name = IsSomeAnd (file_at files name) (λ bytes. source_length_limit < length bytes)
 
 -- between two moments of a sink a text was put: all of it, or a front of it where the faults rose
 abbrev pub PutsText : Option (List ℕ) → Option (List ℕ) → ℕ → ℕ → List ℕ → Type 0
@@ -40,10 +39,10 @@ PutsText before after faults_before faults_after text =
 abbrev pub Puts : Outside → Outside → List ℕ → Type 0
 Puts before after text = PutsText before.written after.written before.sink_faults after.sink_faults text
 
--- what is known of a folder and a sink
-abbrev pub outside : Option Files → ℕ → Option (List ℕ) → ℕ → Outside
-outside files folder_faults written sink_faults =
-    record { files = files; folder_faults = folder_faults; written = written; sink_faults = sink_faults }
+-- what is known of a folder and a sink at a moment
+abbrev pub outside : {F S : Type 0} → folder.Ghosts F → sink.Ghosts S → F → S → Outside
+outside folder_shows sink_shows files output =
+    record { files = folder_shows.files files; folder_faults = folder_shows.faults files; written = sink_shows.written output; sink_faults = sink_shows.faults output }
 
 -- no file is changed
 abbrev pub KeepsFiles : Outside → Outside → Type 0

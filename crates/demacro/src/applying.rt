@@ -83,8 +83,8 @@ pub fn commit<F: Folder, S: Sink>(
     requires room { HasRoom prepared.now.change (F.room folder.old name.now) }
     requires out_room { HasOutputRoom prepared.now (S.room out.old) }
     ensures committed { IsCommitted name.now prepared.now
-        (outside (F.files folder.old) (F.faults folder.old) (S.written out.old) (S.faults out.old))
-        (outside (F.files folder.new) (F.faults folder.new) (S.written out.new) (S.faults out.new)) result }
+        (outside F.Folder S.Sink folder.old out.old)
+        (outside F.Folder S.Sink folder.new out.new) result }
     ensures folder_later { F.faults folder.old ≤ F.faults folder.new }
     ensures sink_later { S.faults out.old ≤ S.faults out.new }
 {

@@ -1,15 +1,13 @@
 ghost use Rattle.std.specs.Prelude.{◌≡◌, ◌≤◌, IfOk, length};
+ghost use Rattle.dm_token.specs.Limits.{source_length_limit};
 ghost use Rattle.demacro.specs.Plans.{IsChange, IsPrepared, IsPlan, IsPlanFor};
 
 use crate::reporting::{report, write_fault_line};
 use dm_core::First;
 use dm_io::{Folder, Got};
 use dm_plan::first;
-use dm_token::{List, Memory, Place, Stop, Text};
+use dm_token::{List, Memory, Place, Stop, Text, source_length_limit};
 use std::alloc::Global;
-
-/// The most bytes of a source file.
-const MOST_BYTES: usize = 1_048_576;
 
 /// Why there is nothing to apply.
 #[derive(Clone, Copy, Debug, PartialEq, Eq)]
@@ -48,7 +46,7 @@ pub fn make_plan<F: Folder>(alloc: Global, folder: &mut F, name: &Text) -> Resul
     ensures files_stay { F.files folder.new ≡ F.files folder.old }
     ensures later { F.faults folder.old ≤ F.faults folder.new }
 {
-    match folder.read(alloc, name, MOST_BYTES)? {
+    match folder.read(alloc, name, source_length_limit())? {
         Got::Bytes(bytes) => plan_for(alloc, name.bytes(), bytes.items()),
         Got::Absent => Ok(Plan::Explain(Trouble::NotFound)),
         Got::Long => Ok(Plan::Explain(Trouble::TooLong)),
@@ -58,7 +56,7 @@ pub fn make_plan<F: Folder>(alloc: Global, folder: &mut F, name: &Text) -> Resul
 
 /// Plans the change of a file with these bytes.
 fn plan_for(alloc: Global, name: &[u8], bytes: &[u8]) -> Result<Plan, Memory>
-    requires { length bytes.now ≤ 1048576 }
+    requires { length bytes.now ≤ source_length_limit }
     ensures { IfOk result (IsPlanFor name.now bytes.now) }
 {
     match first(alloc, 0, bytes) {

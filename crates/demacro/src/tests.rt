@@ -1,8 +1,11 @@
+use crate::process::run_process;
 use crate::top::run;
 use dm_io::{MemoryFolder, MemorySink};
 use dm_token::{List, Memory, Text};
 use std::alloc::Global;
-use std::process::Abort;
+use std::env::Args;
+use std::io::{self, ErrorKind};
+use std::process::{Abort, ExitCode};
 use std::test::Fail;
 
 /// A call on a folder with the one file `a.c`, and what has to come of it.
@@ -207,4 +210,35 @@ fn tells_faults(rt: HostRuntime) -> Result<(), Fail> {
         ..quiet(LETTER, 5, "", LETTER)
     };
     expect(&rt, &silent)
+}
+
+/// Ends a process with these arguments on a folder with the one file `a.c`, and compares the exit code and the output.
+fn expect_exit<R: Abort + AllocGlobal>(
+    rt: &R,
+    arguments: io::Result<Args>,
+    status: u8,
+    output: &str,
+) -> Result<(), Fail> {
+    let alloc = rt.alloc();
+    let name = Text::new(alloc, "a.c")?;
+    let mut folder = folder_with(alloc, numbers(alloc, &[])?, &name, LETTER.as_bytes())?;
+    let mut out = MemorySink::new(alloc, numbers(alloc, &[])?);
+    let code = run_process(alloc, arguments, &mut folder, &mut out);
+    assert_eq!(rt; code, ExitCode::from(status), "{output}");
+    assert_eq!(rt; out.bytes(), output.as_bytes());
+    Ok(())
+}
+
+#[test]
+fn the_process_ends_by_its_arguments(rt: HostRuntime) -> Result<(), Fail> {
+    let good = texts(rt.alloc(), &["demacro", "apply", "a.c"])?;
+    expect_exit(&rt, Ok(good.into_iter()), 0, DONE)?;
+    let more = texts(rt.alloc(), &["demacro", "apply", "a.c", "a.c"])?;
+    expect_exit(&rt, Ok(more.into_iter()), 1, USAGE)?;
+    let none = texts(rt.alloc(), &[])?;
+    expect_exit(&rt, Ok(none.into_iter()), 1, USAGE)?;
+    let unread = io::Error::from(ErrorKind::InvalidData);
+    expect_exit(&rt, Err(unread), 1, USAGE)?;
+    let wanting = io::Error::from(ErrorKind::OutOfMemory);
+    expect_exit(&rt, Err(wanting), 8, "")
 }

@@ -23,8 +23,8 @@ use std::alloc::Global;
 /// limit passed, 5 the file can't be read, 6 it can't be written, 7 the report can't be put, 8 want of memory.
 pub fn run<F: Folder, S: Sink>(alloc: Global, words: &[String], folder: &mut F, out: &mut S) -> u8
     ensures ending { Ends (map string_bytes words.now)
-        (outside (F.files folder.old) (F.faults folder.old) (S.written out.old) (S.faults out.old))
-        (outside (F.files folder.new) (F.faults folder.new) (S.written out.new) (S.faults out.new)) result }
+        (outside F.Folder S.Sink folder.old out.old)
+        (outside F.Folder S.Sink folder.new out.new) result }
     // Where the words are good, the file holds a program of the first form and nothing fails, all is done.
     ensures complete { (name : List ℕ) (program : Program) → named_file (map string_bytes words.now) ≡ Some name
         → HoldsProgram (F.files folder.old) name program
@@ -48,8 +48,8 @@ fn run_words<F: Folder, S: Sink>(
     out: &mut S,
 ) -> Result<u8, Memory>
     ensures ending { EndsAs (map string_bytes words.now)
-        (outside (F.files folder.old) (F.faults folder.old) (S.written out.old) (S.faults out.old))
-        (outside (F.files folder.new) (F.faults folder.new) (S.written out.new) (S.faults out.new)) result }
+        (outside F.Folder S.Sink folder.old out.old)
+        (outside F.Folder S.Sink folder.new out.new) result }
     ensures folder_later { F.faults folder.old ≤ F.faults folder.new }
     ensures sink_later { S.faults out.old ≤ S.faults out.new }
 {
@@ -70,8 +70,8 @@ fn apply<F: Folder, S: Sink>(
     out: &mut S,
 ) -> Result<u8, Memory>
     ensures ending { EndsNamed name.now
-        (outside (F.files folder.old) (F.faults folder.old) (S.written out.old) (S.faults out.old))
-        (outside (F.files folder.new) (F.faults folder.new) (S.written out.new) (S.faults out.new)) result }
+        (outside F.Folder S.Sink folder.old out.old)
+        (outside F.Folder S.Sink folder.new out.new) result }
     ensures folder_later { F.faults folder.old ≤ F.faults folder.new }
     ensures sink_later { S.faults out.old ≤ S.faults out.new }
 {
@@ -91,8 +91,8 @@ fn apply_prepared<F: Folder, S: Sink>(
 ) -> Result<u8, Memory>
     requires { HasFile (F.files folder.old) name.now }
     ensures committed { IfOk result (IsCommittedAs name.now prepared.now
-        (outside (F.files folder.old) (F.faults folder.old) (S.written out.old) (S.faults out.old))
-        (outside (F.files folder.new) (F.faults folder.new) (S.written out.new) (S.faults out.new))) }
+        (outside F.Folder S.Sink folder.old out.old)
+        (outside F.Folder S.Sink folder.new out.new)) }
     ensures files_stay { OnErr result (F.files folder.new ≡ F.files folder.old) }
     ensures written_stays { OnErr result (S.written out.new ≡ S.written out.old) }
     ensures folder_later { F.faults folder.old ≤ F.faults folder.new }
