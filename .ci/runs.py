@@ -1,0 +1,321 @@
+#!/usr/bin/env python3
+"""Runs the built program over real files, and compares its status, its output and what the folder holds afterwards.
+
+No contract can see a disk, so these runs hold what the tool says of it: a file is read and written whole, what is no
+file is a read fault, a write that fails leaves the old bytes, and nothing is left behind. They run as nobody where this
+is started as root, since root reads and writes what others may not.
+
+usage: runs.py PROGRAM [WORD]     only the runs whose names have the word
+"""
+import os
+import resource
+import shutil
+import signal
+import stat
+import subprocess
+import sys
+import tempfile
+
+USAGE = (
+    b"usage: demacro plan M [--json] | apply M [--json] | expand M UNIT | "
+    b"run M UNIT [--order N] [--steps N] [--input FILE] | gen N\n"
+)
+OPENING = b"int putchar(int c);\n"
+OLD = OPENING + b"#define N 65\nint main(void) { putchar(N + 1); return 0; }\n"
+NEW = OPENING + b"enum { N = 65 };\nint main(void) { putchar(N + 1); return 0; }\n"
+REPORT = b"rewritten a.c:2 N enumerator\nrewritten 1 kept 0\n"
+LIMIT = 1_048_576
+SPARE = ".demacrofier.tmp"
+NOBODY = 65534
+
+# How a program ends that has too little memory even to be loaded.
+NOT_STARTED = {127, -signal.SIGKILL, -signal.SIGSEGV}
+
+
+def large():
+    """A file with the most macros that has the greatest length once it is rewritten, the same rewritten, and the report."""
+    main = b"int main(void) { putchar(N + 1); return 0; }\n"
+    room = LIMIT - len(OPENING + b"enum { N = 65 };\n" + main)
+    share = room // 255
+    names = []
+    for number in range(255):
+        size = share if number < 254 else room - 254 * share
+        names.append((b"L%d" % number).ljust(size - len(b"#define  1\n"), b"X"))
+    others = b"".join(b"#define %s 1\n" % name for name in names)
+    lines = [b"kept a.c:%d %s rule 4 Unused a.c:%d:9\n" % (line, name, line) for line, name in enumerate(names, 3)]
+    report = b"rewritten a.c:2 N enumerator\n" + b"".join(lines) + b"rewritten 1 kept 255\n"
+    return OPENING + b"#define N 65\n" + others + main, OPENING + b"enum { N = 65 };\n" + others + main, report
+
+
+class Run:
+    """A folder of its own, in which the program is run once or more."""
+
+    def __init__(self, program, folder):
+        self.program, self.folder, self.faults = program, folder, []
+
+    def path(self, name):
+        return os.path.join(self.folder, name)
+
+    def put(self, name, text=OLD, mode=0o644):
+        with open(self.path(name), "wb") as file:
+            file.write(text)
+        os.chmod(self.path(name), mode)
+
+    def link(self, target, name):
+        os.symlink(target, self.path(name))
+
+    def start(self, words, to=subprocess.PIPE, size=None, memory=None):
+        """Starts the program with limits on the size of files and on memory; a write over the limit fails."""
+
+        def limit():
+            signal.signal(signal.SIGXFSZ, signal.SIG_IGN)
+            resource.setrlimit(resource.RLIMIT_CORE, (0, 0))
+            if size is not None:
+                resource.setrlimit(resource.RLIMIT_FSIZE, (size, size))
+            if memory is not None:
+                resource.setrlimit(resource.RLIMIT_AS, (memory, memory))
+            if os.geteuid() == 0:
+                os.setgroups([])
+                os.setgid(NOBODY)
+                os.setuid(NOBODY)
+
+        return subprocess.run(
+            [self.program, *words], cwd=self.folder, stdin=subprocess.DEVNULL, stdout=to, stderr=subprocess.PIPE,
+            preexec_fn=limit, restore_signals=False, timeout=60, check=False, env={"LANG": "C.UTF-8"},
+        )
+
+    def give(self):
+        """Makes the files nobody's where this is root, links among them."""
+        if os.geteuid() == 0:
+            for at, folders, files in os.walk(self.folder):
+                for path in [at, *(os.path.join(at, name) for name in folders + files)]:
+                    os.chown(path, NOBODY, NOBODY, follow_symlinks=False)
+
+    def expect(self, words, status, output, **limits):
+        """Runs the program, and notes where its status or its output is another."""
+        self.give()
+        ran = self.start(words, **limits)
+        self.same(f"the status of {words}", ran.returncode, status)
+        if ran.stdout is not None:
+            self.same(f"the output of {words}", ran.stdout, output)
+        self.same(f"standard error of {words}", ran.stderr, b"")
+
+    def same(self, what, found, wanted):
+        if found != wanted:
+            show = [repr(it) if len(repr(it)) < 200 else f"{len(it)} bytes, {it[:80]!r}.." for it in (found, wanted)]
+            self.faults.append(f"{what} is {show[0]} and not {show[1]}")
+
+    def holds(self, name, text, mode=0o644):
+        with open(self.path(name), "rb") as file:
+            self.same(name, file.read(), text)
+        self.same(f"the mode of {name}", oct(stat.S_IMODE(os.stat(self.path(name)).st_mode)), oct(mode))
+
+    def has_only(self, *names):
+        self.same("the folder", sorted(os.listdir(self.folder)), sorted(names))
+
+
+def wrong_words(run):
+    run.put("a.c")
+    for words in [[], ["apply"], ["apply", "a.c", "a.c"], ["apply", "a.c", ""], ["plan", "a.c"]]:
+        run.expect(words, 1, USAGE)
+    run.holds("a.c", OLD)
+
+
+def words_that_are_not_utf8(run):
+    run.put("a.c")
+    for words in [[b"\xff"], ["apply", b"\xff.c"], ["apply", "a.c", b"\xc3"], [b"apply\x80", "a.c"]]:
+        run.expect(words, 1, USAGE)
+    run.holds("a.c", OLD)
+
+
+def a_file_is_rewritten(run):
+    os.mkdir(run.path("d"))
+    run.put("d/a.c")
+    run.put("b.c")
+    run.expect(["apply", "d/a.c"], 0, REPORT.replace(b"a.c", b"d/a.c"))
+    run.holds("d/a.c", NEW)
+    run.holds("b.c", OLD)
+    run.same("the folder d", os.listdir(run.path("d")), ["a.c"])
+    run.has_only("b.c", "d")
+
+
+def other_sources_are_refused(run):
+    run.expect(["apply", "a.c"], 3, b"a.c:1:1: refusal 7 NotFound\n")
+    run.put("a.c", NEW)
+    run.expect(["apply", "a.c"], 3, b"a.c:2:1: refusal 20 NotYet\n")
+    run.holds("a.c", NEW)
+    run.expect(["apply", "a.c/b.c"], 3, b"a.c/b.c:1:1: refusal 7 NotFound\n")
+    run.put("a.c", b"\n" * LIMIT)
+    run.expect(["apply", "a.c"], 3, b"a.c:1:1: refusal 20 NotYet\n")
+    run.put("a.c", b"\n" * (LIMIT + 1))
+    run.expect(["apply", "a.c"], 4, b"limit L1 a.c\n")
+    run.holds("a.c", b"\n" * (LIMIT + 1))
+    run.has_only("a.c")
+
+
+def a_file_of_a_mebibyte(run):
+    old, new, report = large()
+    run.same("the length of the large file", (len(new), len(report) > LIMIT), (LIMIT, True))
+    run.put("a.c", old)
+    run.expect(["apply", "a.c"], 0, report)
+    run.holds("a.c", new)
+    run.has_only("a.c")
+
+
+def permissions_are_kept(run):
+    for mode in [0o600, 0o640, 0o666, 0o755]:
+        run.put("a.c", OLD, mode)
+        run.expect(["apply", "a.c"], 0, REPORT)
+        run.holds("a.c", NEW, mode)
+    run.has_only("a.c")
+
+
+def links_are_followed(run):
+    run.put("b.c", OLD, 0o640)
+    run.link("b.c", "a.c")
+    run.expect(["apply", "a.c"], 0, REPORT)
+    run.same("the link", os.path.islink(run.path("a.c")) and os.readlink(run.path("a.c")), "b.c")
+    run.holds("b.c", NEW, 0o640)
+    run.link("absent.c", "c.c")
+    run.expect(["apply", "c.c"], 3, b"c.c:1:1: refusal 7 NotFound\n")
+    run.has_only("a.c", "b.c", "c.c")
+
+
+def what_is_no_file_is_a_read_fault(run):
+    os.mkdir(run.path("folder.c"))
+    os.mkfifo(run.path("pipe.c"))
+    run.link("/dev/zero", "zero.c")
+    run.link("/dev/null", "null.c")
+    run.link("loop.c", "loop.c")
+    run.put("closed.c", OLD, 0)
+    os.mkdir(run.path("shut"))
+    run.put("shut/a.c")
+    os.chmod(run.path("shut"), 0)
+    for name in ["folder.c", "pipe.c", "zero.c", "null.c", "loop.c", "closed.c", "shut/a.c"]:
+        run.expect(["apply", name], 5, b"read fault %s\n" % name.encode())
+    os.chmod(run.path("shut"), 0o755)
+    run.holds("shut/a.c", OLD)
+    run.holds("closed.c", OLD, 0)
+    run.same("the target of zero.c", stat.S_ISCHR(os.stat("/dev/zero").st_mode), True)
+
+
+def a_write_that_fails_leaves_the_old_bytes(run):
+    old, _, _ = large()
+    for text, sizes in [(OLD, [0, 1, len(NEW) - 1]), (old, [0, 4096, LIMIT - 1])]:
+        run.put("a.c", text, 0o640)
+        for size in sizes:
+            run.expect(["apply", "a.c"], 6, b"write fault a.c\n", size=size)
+            run.holds("a.c", text, 0o640)
+            run.has_only("a.c")
+
+
+def without_a_spare_file_the_file_itself_is_written(run):
+    run.put(SPARE, b"other")
+    run.put("a.c")
+    run.expect(["apply", "a.c"], 0, REPORT)
+    run.holds("a.c", NEW)
+    run.holds(SPARE, b"other")
+    os.mkdir(run.path("d"))
+    run.put("d/a.c", OLD, 0o444)
+    run.put("d/b.c", OLD, 0o644)
+    os.chmod(run.path("d"), 0o555)
+    run.expect(["apply", "d/a.c"], 6, b"write fault d/a.c\n")
+    run.expect(["apply", "d/b.c"], 0, REPORT.replace(b"a.c", b"d/b.c"))
+    os.chmod(run.path("d"), 0o755)
+    run.holds("d/a.c", OLD, 0o444)
+    run.holds("d/b.c", NEW)
+
+
+def output_that_fails(run):
+    with open("/dev/full", "wb") as full:
+        run.put("a.c")
+        run.expect(["apply", "a.c"], 7, None, to=full)
+        run.holds("a.c", NEW)
+        run.expect(["apply", "b.c"], 3, None, to=full)
+        run.expect([], 1, None, to=full)
+    run.put("a.c")
+    ends = os.pipe()
+    os.close(ends[0])
+    run.expect(["apply", "a.c"], 7, None, to=ends[1])
+    os.close(ends[1])
+    run.holds("a.c", NEW)
+    run.has_only("a.c")
+
+
+def want_of_memory_changes_nothing(run):
+    old, new, report = large()
+    run.put("a.c", old)
+    run.give()
+    statuses = set()
+    for memory in range(1 << 20, 40 << 20, 1 << 18):
+        ran = run.start(["apply", "a.c"], memory=memory)
+        statuses.add(ran.returncode)
+        if ran.returncode == 8:
+            run.same(f"what is put with {memory} bytes of memory", ran.stdout + ran.stderr, b"")
+            run.holds("a.c", old)
+        if ran.returncode == 0:
+            run.same("the output", ran.stdout, report)
+            break
+    run.same("the statuses", sorted(statuses - NOT_STARTED), [0, 8])
+    run.holds("a.c", new)
+    run.has_only("a.c")
+
+
+def want_of_memory_for_the_words(run):
+    words = ["apply", *["a" * 100_000] * 8]
+    run.give()
+    statuses = set()
+    for memory in range(3 << 20, 40 << 20, 1 << 17):
+        ran = run.start(words, memory=memory)
+        statuses.add(ran.returncode)
+        if ran.returncode == 8:
+            run.same(f"what is put with {memory} bytes of memory", ran.stdout + ran.stderr, b"")
+        if ran.returncode == 1:
+            run.same("the output", ran.stdout, USAGE)
+            break
+    run.same("the statuses", sorted(statuses - NOT_STARTED), [1, 8])
+
+
+RUNS = [
+    wrong_words,
+    words_that_are_not_utf8,
+    a_file_is_rewritten,
+    other_sources_are_refused,
+    a_file_of_a_mebibyte,
+    permissions_are_kept,
+    links_are_followed,
+    what_is_no_file_is_a_read_fault,
+    a_write_that_fails_leaves_the_old_bytes,
+    without_a_spare_file_the_file_itself_is_written,
+    output_that_fails,
+    want_of_memory_changes_nothing,
+    want_of_memory_for_the_words,
+]
+
+
+def main():
+    given, word = sys.argv[1], "".join(sys.argv[2:3])
+    os.umask(0o022)
+    failed = 0
+    with tempfile.TemporaryDirectory(prefix="demacro-runs-") as room:
+        os.chmod(room, 0o711)
+        program = os.path.join(room, "demacro")
+        shutil.copyfile(given, program)
+        os.chmod(program, 0o755)
+        for number, one in enumerate(it for it in RUNS if word in it.__name__):
+            run = Run(program, os.path.join(room, str(number)))
+            os.mkdir(run.folder)
+            try:
+                one(run)
+            except (OSError, subprocess.SubprocessError) as error:
+                run.faults.append(str(error))
+            print(f"run {one.__name__} ... {'FAILED' if run.faults else 'ok'}")
+            for fault in run.faults:
+                print(f"    {fault}")
+            failed += bool(run.faults)
+    print(f"{os.path.basename(given)}: {failed} of the runs over real files failed" if failed else f"{os.path.basename(given)}: all runs over real files passed")
+    return 1 if failed else 0
+
+
+if __name__ == "__main__":
+    sys.exit(main())
