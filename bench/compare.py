@@ -1,21 +1,42 @@
 #!/usr/bin/env python3
-"""Times the lexer and `gcc -E` on one file, and prints the ratio of their best times."""
+"""Measures the lexer and `gcc -E` on one file: the ratio of their times, and the lexer's peak memory.
+
+A time is the least processor time of five runs, so that it says the same on a busy machine. The peak is the most memory
+that was resident at once, less what the same program needs for an empty file, in bytes a byte of source.
+"""
+import os
 import subprocess
 import sys
-import time
+import tempfile
+
+
+def measure(command):
+    """The processor time in seconds and the peak of resident memory in bytes of a run that ends well.
+
+    The peak is told by `time`, which is small: a process counts what its parent held when it was started.
+    """
+    with tempfile.NamedTemporaryFile("r") as told:
+        timed = ["/usr/bin/time", "-q", "-f", "%M", "-o", told.name, *command]
+        child = subprocess.Popen(timed, stdout=subprocess.DEVNULL, stderr=subprocess.DEVNULL)
+        _, status, used = os.wait4(child.pid, 0)
+        child.returncode = os.waitstatus_to_exitcode(status)
+        if child.returncode != 0:
+            sys.exit(f"{command} ended with status {child.returncode}")
+        return used.ru_utime + used.ru_stime, int(told.read()) * 1024
 
 
 def best(command):
-    """The least of five times, in seconds."""
-    times = []
-    for _ in range(5):
-        start = time.perf_counter()
-        subprocess.run(command, stdout=subprocess.DEVNULL, stderr=subprocess.DEVNULL, check=False)
-        times.append(time.perf_counter() - start)
-    return min(times)
+    """The least time and the least peak of five runs."""
+    runs = [measure(command) for _ in range(5)]
+    return min(time for time, _ in runs), min(peak for _, peak in runs)
 
 
 shape, lexer, path = sys.argv[1:]
-ours = best([lexer, path])
-theirs = best(["gcc", "-E", path])
-print(f"{shape}: {ours * 1000:.1f} ms, gcc -E {theirs * 1000:.1f} ms, ratio {ours / theirs:.2f}")
+size = os.path.getsize(path)
+ours, peak = best([lexer, path])
+_, floor = best([lexer, os.devnull])
+theirs, _ = best(["gcc", "-E", path])
+print(
+    f"{shape}: {ours * 1000:.0f} ms, gcc -E {theirs * 1000:.0f} ms, ratio {ours / theirs:.2f}, "
+    f"peak {(peak - floor) / size:.0f} bytes a byte of source"
+)
