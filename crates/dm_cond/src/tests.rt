@@ -1,5 +1,6 @@
-//! Conditions and their values. What holds and what doesn't was taken from `gcc -std=c11 -pedantic-errors -E` (12.2), but
-//! for the shifts that 6.5.7 leaves undefined and the remainder that 6.5.5p6 does, which gcc computes.
+//! Conditions and their values. What holds and what doesn't agrees with `gcc -std=c11 -pedantic-errors -E` (12.2), but for
+//! what gcc computes and is refused here: the shifts that 6.5.7 leaves undefined, the remainder that 6.5.5p6 does, a
+//! constant with an encoding prefix, and one of two characters.
 
 use crate::condition;
 use dm_token::{List, Place, PpKind, PpToken, Refusal, Stop, Text, Token, Trail};
