@@ -44,6 +44,8 @@ pub struct UnitTokens {
     pub directive_uses: List<Use>,
     /// The names in `#undef`.
     pub undefined: List<Use>,
+    /// For each name in `undefined`, how many definitions were read before it.
+    pub read_before_undefined: List<u32>,
     /// The numbers of the files read, in the order of first reading, built-in headers among them.
     pub files: List<u32>,
 }
