@@ -8,7 +8,8 @@ use Rattle.dm_token.specs.declared.stop.Memory.{Memory}
 use Rattle.dm_token.specs.declared.stop.Stop.{Stop}
 use Rattle.dm_token.specs.declared.stop.Stop.TheVariants.{Memory as no_memory, Refused, Limit, ReadFault}
 use Rattle.dm_phase.specs.declared.Character.{Character}
-use Rattle.dm_phase.specs.Answer.{flat_of, unless_refused, Stops}
+use Rattle.dm_phase.specs.Answer.{flat_of, unless_refused}
+use Rattle.dm_token.specs.Answer.{Stops}
 use Rattle.dm_lex.specs.declared.state.State.{State}
 use Rattle.dm_lex.specs.Cuts.{Piece, token, blank, comment, state_behind, first_state, Cuts, OpensAt, bytes_of}
 use Rattle.dm_lex.specs.Tokens.{tokens_of, AreTokens, StopsAt}

@@ -16,7 +16,8 @@ use Rattle.dm_manifest.specs.declared.fault.ManifestFault.TheVariants.{Memory, J
 use Rattle.dm_manifest.specs.Faults.{and_then, IsMeant, Gives}
 use Rattle.dm_manifest.specs.Paths.{root_path, unit_path, item_path}
 use Rattle.dm_manifest.specs.Values.{object_at, array_at, text_at, name_at, each_of}
-use Rattle.dm_manifest.specs.Defines.{name_of, is_define, is_fixed}
+use Rattle.dm_macro.specs.Signs.{is_fixed}
+use Rattle.dm_manifest.specs.Defines.{name_of, is_define}
 use Rattle.dm_manifest.specs.Units.{is_folder, folder_at, is_defined, define_at, unit_at, is_same_unit, new_unit_at, unit_limit, units_of, manifest_of}
 use Rattle.dm_manifest.specs.Answers.{IsJson, IsManifest, IsFirstFault}
 use Rattle.dm_manifest.proofs.Each.{IsMeant-and_then, IsMeant-along, items_len-items_view}

@@ -1,6 +1,6 @@
 -- The form of a define: `NAME`, or `NAME=BODY`.
 use Rattle.std.specs.Prelude.{◌≡◌, ℕ, Bool, true, false, ◌+◌, ◌&&◌, ◌||◌, not, ◌==◌, nat_eq, nat_lt, nat_le, List, [], ◌∷◌, ◌++◌, length, take, drop, Option, Some, None, Result, Ok, Err, ◌⊎◌, codes, bytes_eq, is_some, if◌then◌else◌}
-use Rattle.std.specs.List.{list_any, list_all, starts_with, ends_with, position_or_len}
+use Rattle.std.specs.List.{list_all, starts_with, ends_with, position_or_len}
 use Rattle.std.proofs.Common.{inl, inr}
 use Rattle.dm_token.specs.declared.token.PpKind.{PpKind}
 use Rattle.dm_token.specs.declared.token.PpKind.TheVariants.{Identifier, Number, Character as Constant, Literal, Punctuator, Header, Stray}
@@ -113,13 +113,3 @@ may_follow (Some body) = is_body body
 -- a define: an identifier, alone or with `=` and a body
 unfoldable pub is_define : List ℕ → Bool
 is_define define = is_identifier (name_of define) && may_follow (body_of define)
-
--- the names that can't be defined (6.10.8p4, 6.10.3p5)
-abbrev pub fixed_names : List (List ℕ)
-fixed_names =
-    codes "__STDC__" ∷ codes "__STDC_HOSTED__" ∷ codes "__STDC_VERSION__" ∷ codes "__LINE__" ∷ codes "__FILE__"
-    ∷ codes "defined" ∷ codes "__VA_ARGS__" ∷ []
-
--- whether a name is among them
-abbrev pub is_fixed : List ℕ → Bool
-is_fixed name = list_any (λ other. bytes_eq other name) fixed_names

@@ -12,7 +12,8 @@ use Rattle.dm_manifest.specs.declared.fault.ManifestFault.TheVariants.{Define, T
 use Rattle.dm_manifest.specs.Faults.{and_then}
 use Rattle.dm_manifest.specs.Paths.{root_path, unit_path, under, item_path}
 use Rattle.dm_manifest.specs.Values.{object_at, array_at, list_at, text_at, name_at, each_of}
-use Rattle.dm_manifest.specs.Defines.{name_of, is_define, is_fixed}
+use Rattle.dm_macro.specs.Signs.{is_fixed}
+use Rattle.dm_manifest.specs.Defines.{name_of, is_define}
 
 -- an include folder: a normal name, or the current folder
 abbrev pub is_folder : List ℕ → Bool

@@ -6,7 +6,7 @@ ghost use Rattle.std.specs.List.{list_all, starts_with, ends_with};
 ghost use Rattle.dm_token.specs.Limits.{source_length_limit as limit};
 ghost use Rattle.dm_phase.specs.Phases.{replacement};
 ghost use Rattle.dm_lex.specs.Classes.{is_nondigit as nondigit, is_word as word, is_identifier as identifier};
-ghost use Rattle.dm_manifest.specs.Defines.{name_of, body_of, may_follow as follows, is_printable as printable, opens_trigraph as trigraph_opens, opens_forbidden as forbidden_opens, somewhere, is_plain as plain, may_stand as stands, line_may_stand as line_stands, is_body as body_is, is_define, is_fixed as fixed};
+ghost use Rattle.dm_manifest.specs.Defines.{name_of, body_of, may_follow as follows, is_printable as printable, opens_trigraph as trigraph_opens, opens_forbidden as forbidden_opens, somewhere, is_plain as plain, may_stand as stands, line_may_stand as line_stands, is_body as body_is, is_define};
 
 use dm_lex::tokens;
 use dm_phase::flatten;
@@ -27,22 +27,6 @@ pub fn define_name(alloc: Global, define: &str) -> Result<Option<&str>, Memory>
         return Ok(None);
     }
     Ok(Some(name))
-}
-
-/// Whether this is a name that can't be defined.
-pub fn is_fixed(name: &str) -> bool
-    ensures { result ≡ fixed name.now }
-{
-    [
-        "__STDC__",
-        "__STDC_HOSTED__",
-        "__STDC_VERSION__",
-        "__LINE__",
-        "__FILE__",
-        "defined",
-        "__VA_ARGS__",
-    ]
-    .contains(&name)
 }
 
 // The name, and the body where there is one.

@@ -4,18 +4,20 @@ ghost use Rattle.std.specs.Prelude.{◌≡◌, ◌&&◌, ◌||◌, ℕ, List, []
 ghost use Rattle.std.specs.Bool.{OnTrue};
 ghost use Rattle.std.specs.HashSet.{contains_by};
 ghost use Rattle.serde_json.specs.View.{view, items_view};
-ghost use Rattle.dm_manifest.specs.Defines.{name_of, is_define, is_fixed as fixed};
+ghost use Rattle.dm_macro.specs.Signs.{is_fixed as fixed};
+ghost use Rattle.dm_manifest.specs.Defines.{name_of, is_define};
 ghost use Rattle.dm_manifest.specs.Faults.{Gives};
 ghost use Rattle.dm_manifest.specs.Paths.{unit_path as path_of_unit, under, item_path as path_of_item};
 ghost use Rattle.dm_manifest.specs.Units.{folder_at, define_at, unit_at as read_unit, new_unit_at, units_of, manifest_of};
 ghost use Rattle.dm_manifest.specs.Values.{each_of};
 
-use crate::define::{define_name, is_fixed};
+use crate::define::define_name;
 use crate::fault::ManifestFault;
 use crate::path::{item_path, unit_path};
 use crate::value::{
     check_root, check_unit, item_folder, item_text, root_list, unit_file, unit_list,
 };
+use dm_macro::is_fixed;
 use dm_token::{List, Memory, Text, Unit};
 use serde_json::Value;
 use std::alloc::Global;
@@ -120,7 +122,7 @@ fn take_name<'a>(
     let Some(name) = define_name(alloc, define)? else {
         return Ok(false);
     };
-    if is_fixed(name) {
+    if is_fixed(name.as_bytes()) {
         return Ok(false);
     }
     Ok(names.insert(name)?)

@@ -4,7 +4,8 @@ use Rattle.serde_json.specs.View.{view, items_view}
 use Rattle.dm_manifest.specs.declared.fault.ManifestFault.TheVariants.{Define}
 use Rattle.dm_manifest.specs.Paths.{unit_path, under, item_path}
 use Rattle.dm_manifest.specs.Values.{each_of}
-use Rattle.dm_manifest.specs.Defines.{name_of, is_define, is_fixed}
+use Rattle.dm_macro.specs.Signs.{is_fixed}
+use Rattle.dm_manifest.specs.Defines.{name_of, is_define}
 use Rattle.dm_manifest.specs.Units.{define_at, is_defined}
 use Rattle.dm_manifest.proofs.Each.{GoesOn, item_read, item_at_fault, all_read}
 use Rattle.dm_manifest.proofs.Steps.{passed_on, define_from, may_be_next, define_at-some, define_at-fault, is_defined-append, OnTrue-gives}
