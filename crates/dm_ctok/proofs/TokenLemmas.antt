@@ -12,7 +12,7 @@ use Rattle.dm_token.specs.declared.token.PpKind.{PpKind}
 use Rattle.dm_token.specs.declared.token.PpKind.TheVariants.{Identifier, Number, Character, Literal, Punctuator, Header, Stray}
 use Rattle.dm_token.specs.declared.token.Token.{Token}
 use Rattle.dm_token.specs.declared.token.CToken.{CToken}
-use Rattle.dm_ctok.specs.Answers.{Stops}
+use Rattle.dm_token.specs.Answer.{Stops}
 use Rattle.dm_ctok.specs.Escapes.{elements, between_quotes, character_of, put_behind}
 use Rattle.dm_ctok.specs.Joins.{is_literal_class}
 use Rattle.dm_ctok.specs.Pending.{as_list, resumed, resumed_unless_refused}

@@ -3,16 +3,10 @@
 --     elements bytes      the values of all of them
 --     character_of inner      the value of the character constant with this between its quotes
 use Rattle.std.specs.Prelude.{ℕ, zero, suc, ◌&&◌, ◌==◌, nat_le, nat_lt, ℤ, pos, List, [], ◌∷◌, length, take, drop, Option, Some, None, option_map, option_and_then, codes, ◌-◌, ◌++◌, if◌then◌else◌}
-use Rattle.dm_token.specs.Bytes.{backslash}
+use Rattle.dm_token.specs.Bytes.{backslash, partner}
 use Rattle.dm_int.specs.declared.Kind.TheVariants.{Char}
 use Rattle.dm_int.specs.Kinds.{convert}
 use Rattle.dm_ctok.specs.Digits.{digits_len, is_digit, value_of}
-
--- the element of a second list that stands where a first list has n first
-abbrev pub partner : ℕ → List ℕ → List ℕ → Option ℕ
-partner n (x ∷ xs) (y ∷ ys) = if n == x then Some y else partner n xs ys
-partner n [] ys = None
-partner n (x ∷ xs) [] = None
 
 -- simple-escape-sequence: what stands behind its backslash, and its value (5.2.2)
 unfoldable pub simple_escape : ℕ → Option ℕ

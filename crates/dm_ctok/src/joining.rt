@@ -3,7 +3,7 @@
 ghost use Rattle.std.specs.Prelude.{◌≡◌, [], ◌∷◌, ◌++◌, IfOk, OnOk, IfErr, None, Some, Ok, List as Sequence, ℕ};
 ghost use Rattle.dm_spell.specs.Tables.{keyword_rows};
 ghost use Rattle.dm_token.specs.declared.token.CToken.{CToken};
-ghost use Rattle.dm_ctok.specs.Answers.{Gives, Stops};
+ghost use Rattle.dm_token.specs.Answer.{Gives, Stops};
 ghost use Rattle.dm_ctok.specs.Joins.{joined};
 ghost use Rattle.dm_ctok.specs.Pending.{as_token, as_list, Takes};
 ghost use Rattle.dm_ctok.specs.Tokens.{token_of, literal_of};

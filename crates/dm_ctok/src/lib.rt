@@ -2,7 +2,7 @@
 //! and punctuators, made of preprocessing tokens.
 #![tactic(auto)]
 
-ghost use Rattle.dm_ctok.specs.Answers.{Gives};
+ghost use Rattle.dm_token.specs.Answer.{Gives};
 ghost use Rattle.dm_ctok.specs.Tokens.{ctokens_of};
 
 mod digits;
@@ -30,7 +30,7 @@ pub use token::is_prefixed;
 /// number or a character constant without a value, or a literal with an escape sequence without one, and as 18 a keyword
 /// that is left out of the language, or a constant or literal with an encoding prefix.
 pub fn ctokens(alloc: Global, tokens: &[Token]) -> Result<List<CToken>, Stop>
-    ensures { Gives result (ctokens_of tokens.now) }
+    ensures { Gives (λ given. given) result (ctokens_of tokens.now) }
 {
     let keywords = keywords();
     let mut joiner = Joiner::new(alloc);

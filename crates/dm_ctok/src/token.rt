@@ -5,7 +5,7 @@ ghost use Rattle.dm_spell.specs.Tables.{keyword_rows};
 ghost use Rattle.dm_token.specs.declared.stop.Stop.TheVariants.{Refused};
 ghost use Rattle.dm_token.specs.declared.token.Class.TheVariants.{Integer};
 ghost use Rattle.dm_int.specs.Kinds.{number_of};
-ghost use Rattle.dm_ctok.specs.Answers.{Gives};
+ghost use Rattle.dm_token.specs.Answer.{Gives};
 ghost use Rattle.dm_ctok.specs.Escapes.{character_of};
 ghost use Rattle.dm_ctok.specs.Integers.{integer_of};
 ghost use Rattle.dm_ctok.specs.Tokens as tokens;
@@ -24,7 +24,7 @@ const FIRST_LEFT_OUT: u16 = 27;
 pub fn ctoken(keywords: &Spellings<'static, 44>, token: &Token) -> Result<CToken, Stop>
     requires table { keywords.now ≡ keyword_rows }
     requires kind { token.now.pp.kind ≢ PpKind.Literal }
-    ensures { Gives result (tokens.token_of token.now) }
+    ensures { Gives (λ given. given) result (tokens.token_of token.now) }
 {
     match token.pp.kind {
         PpKind::Identifier => word(keywords, token),
@@ -41,7 +41,7 @@ pub fn ctoken(keywords: &Spellings<'static, 44>, token: &Token) -> Result<CToken
 #[tactic(auto, unfolding(crate::specs::Tokens::word))]
 fn word(keywords: &Spellings<'static, 44>, token: &Token) -> Result<CToken, Stop>
     requires { keywords.now ≡ keyword_rows }
-    ensures { Gives result (tokens.word token.now (position (bytes_eq token.now.pp.spelling) keyword_rows)) }
+    ensures { Gives (λ given. given) result (tokens.word token.now (position (bytes_eq token.now.pp.spelling) keyword_rows)) }
 {
     match keyword(keywords, token.pp.spelling.bytes()) {
         None => Ok(plain(token, Class::Identifier)?),
@@ -61,7 +61,7 @@ fn keyword(keywords: &Spellings<'static, 44>, spelling: &[u8]) -> Option<u16>
 // An integer constant.
 #[tactic(auto, unfolding(crate::specs::Tokens::number, crate::specs::Tokens::valued))]
 fn number(token: &Token) -> Result<CToken, Stop>
-    ensures { Gives result (tokens.number token.now) }
+    ensures { Gives (λ given. given) result (tokens.number token.now) }
 {
     match integer(token.pp.spelling.bytes()) {
         None => Err(refusal(token, 15)),
@@ -82,7 +82,7 @@ fn integer(spelling: &[u8]) -> Option<(u64, Kind)>
 // A character constant.
 #[tactic(auto, unfolding(crate::specs::Tokens::character, crate::specs::Tokens::valued))]
 fn character(token: &Token) -> Result<CToken, Stop>
-    ensures { Gives result (tokens.character token.now) }
+    ensures { Gives (λ given. given) result (tokens.character token.now) }
 {
     let spelling = token.pp.spelling.bytes();
     if is_prefixed(spelling) {

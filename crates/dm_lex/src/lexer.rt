@@ -10,7 +10,7 @@ ghost use Rattle.dm_lex.specs.Cuts.{is_blank as blank, bytes_of, first_state, Is
 ghost use Rattle.dm_lex.specs.Reach.{IsCommentLength};
 ghost use Rattle.dm_lex.specs.Tokens.{StopsAt, token_from};
 ghost use Rattle.dm_lex.specs.Progress.{IsSource, IsProgress, IsBefore, no_character, offset_of};
-ghost use Rattle.dm_phase.specs.Answer.{StopsInside};
+ghost use Rattle.dm_token.specs.Answer.{StopsInside};
 
 use crate::comment::comment_length;
 use crate::scan::{Found, token_at};

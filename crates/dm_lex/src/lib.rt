@@ -3,7 +3,8 @@
 #![tactic(auto)]
 
 ghost use Rattle.std.specs.Prelude.{◌≡◌, ◌≤◌, ◌⊎◌, ◌↔◌, List, Ok, Some, length, IfOk, IfErr};
-ghost use Rattle.dm_phase.specs.Answer.{flat_of, StopsInside};
+ghost use Rattle.dm_phase.specs.Answer.{flat_of};
+ghost use Rattle.dm_token.specs.Answer.{StopsInside};
 ghost use Rattle.dm_token.specs.Limits.{source_length_limit};
 ghost use Rattle.dm_lex.specs.Classes.{class_of, without_stray};
 ghost use Rattle.dm_phase.specs.declared.Character.{Character};

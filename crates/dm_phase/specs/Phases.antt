@@ -2,6 +2,7 @@
 use Rattle.std.specs.Prelude.{ℕ, Bool, ◌+◌, List, [], ◌∷◌, Option, Some, None, option_map, Result, Ok, Err, codes, ◌==◌, ◌&&◌, if◌then◌else◌}
 use Rattle.std.specs.Option.{option_map_or}
 pub use Rattle.dm_token.specs.Bytes.{newline, carriage_return, question_mark, backslash}
+use Rattle.dm_token.specs.Bytes.{partner}
 use Rattle.dm_phase.specs.declared.Character.{Character}
 
 -- The bytes of a file as characters: each stands for itself, from an offset on.
@@ -32,11 +33,6 @@ joined (c ∷ d ∷ text) =
     if (c.byte == carriage_return) && (d.byte == newline)
     then (record { byte = newline; at = c.at; width = c.width + d.width }) ∷ joined text
     else c ∷ joined (d ∷ text)
-
--- the element of a second list that stands where a first list has n first
-abbrev pub partner : ℕ → List ℕ → List ℕ → Option ℕ
-partner n (x ∷ xs) (y ∷ ys) = if n == x then Some y else partner n xs ys
-partner n _ _ = None
 
 -- What two question marks and a byte stand for (5.2.1.1).
 abbrev pub replacement : ℕ → Option ℕ

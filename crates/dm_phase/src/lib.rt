@@ -5,7 +5,8 @@
 ghost use Rattle.std.specs.Prelude.{◌≡◌, ◌+◌, ◌<◌, ◌≤◌, ◌^◌, ◌∷◌, true, false, length, IfOk, IfErr, OnOk, Err};
 ghost use Rattle.dm_token.specs.Limits.{source_length_limit};
 ghost use Rattle.dm_token.specs.declared.stop.Stop.TheVariants.{Refused};
-ghost use Rattle.dm_phase.specs.Answer.{Gives, flat_of, refusal_at, StopsInside};
+ghost use Rattle.dm_phase.specs.Answer.{flat_of, refusal_at};
+ghost use Rattle.dm_token.specs.Answer.{Gives, StopsInside};
 ghost use Rattle.dm_phase.specs.Pending.{behind};
 ghost use Rattle.dm_phase.specs.Phases.{after_phase_2};
 ghost use Rattle.dm_phase.specs.Reading.{left, end_of};

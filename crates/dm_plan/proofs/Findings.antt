@@ -13,7 +13,8 @@ use Rattle.dm_plan.specs.declared.misfit.Misfit.TheVariants.{Memory, At}
 use Rattle.dm_plan.specs.Sums.{IsSum, IsNoMain, NoMainAt}
 use Rattle.dm_token.specs.declared.place.Place.{Place}
 use Rattle.dm_token.specs.Places.{place_of}
-use Rattle.dm_plan.specs.Answers.{IsAnswer, IsInside, IsMisfit}
+use Rattle.dm_token.specs.Answer.{IsInside, place_of-inside}
+use Rattle.dm_plan.specs.Answers.{IsAnswer, IsMisfit}
 use Rattle.dm_plan.proofs.Leaving.{IsFirstForm-read, LeavesFormAt-macros}
 use Rattle.dm_plan.proofs.Meaning.{text_of-read, text_of-made}
 
@@ -41,4 +42,4 @@ IfErr-handed (Err e) error Q handed holds = subst Q (sym handed) holds
 
 -- the place of a byte is inside its file
 pub IsInside-byte : (file : ℕ) (bytes : List ℕ) (offset : ℕ) (place : Place) → offset ≤ length bytes → place ≡ place_of file bytes offset → IsInside file bytes place
-IsInside-byte file bytes offset place within is = subst (IsInside file bytes) (sym is) (within, refl)
+IsInside-byte file bytes offset place within is = subst (IsInside file bytes) (sym is) (place_of-inside file offset bytes within)

@@ -3,7 +3,8 @@ ghost use Rattle.dm_token.specs.Limits.{source_length_limit};
 ghost use Rattle.dm_core.specs.Outcomes.{NamesExist};
 ghost use Rattle.dm_core.specs.Programs.{Program};
 ghost use Rattle.dm_core.specs.Forms.{IsFirstText, MeansTheSame, SpeaksOf};
-ghost use Rattle.dm_plan.specs.Answers.{IsAnswer, IsMisfit, IsRefused, StopsInside, answer_of};
+ghost use Rattle.dm_plan.specs.Answers.{IsAnswer, IsMisfit, IsRefused, answer_of};
+ghost use Rattle.dm_token.specs.Answer.{StopsInside};
 
 use crate::macros::{Macros, read_macros};
 use crate::misfit::Misfit;

@@ -62,11 +62,11 @@ rows_of-filled from text (end ∷ ends) (suc k) up below =
 is_first-at : (number : ℕ) (firsts : List ℕ) (rows : List (List ℕ)) (k : ℕ) → is_first number firsts rows ≡ true → k < length rows →
     get_or firsts (get_or (row_at rows k) 0 0) 0 ≤ number + k
 is_first-at number firsts [] k is below = absurd (omega arith)
-is_first-at number firsts (row ∷ rows) zero is below =
-    let parts = and_parts (leb (get_or firsts (get_or row 0 0) 0) number) (is_first (number + 1) firsts rows) is in
+is_first-at number firsts (spelling ∷ rows) zero is below =
+    let parts = and_parts (leb (get_or firsts (get_or spelling 0 0) 0) number) (is_first (number + 1) firsts rows) is in
     omega (arith, leb-true _ _ parts.0)
-is_first-at number firsts (row ∷ rows) (suc k) is below =
-    let parts = and_parts (leb (get_or firsts (get_or row 0 0) 0) number) (is_first (number + 1) firsts rows) is in
+is_first-at number firsts (spelling ∷ rows) (suc k) is below =
+    let parts = and_parts (leb (get_or firsts (get_or spelling 0 0) 0) number) (is_first (number + 1) firsts rows) is in
     omega (arith, is_first-at (number + 1) firsts rows k parts.1 (omega arith))
 
 pub none_before : (firsts : List ℕ) (rows : List (List ℕ)) (byte : ℕ) → is_first 0 firsts rows ≡ true → NoneBegins rows byte 0 (get_or firsts byte 0)
@@ -76,8 +76,8 @@ none_before firsts rows byte is = λ k from until inside same.
 -- a list of zeros has no number that is too great
 pub is_first-zeros : (number count : ℕ) (rows : List (List ℕ)) → is_first number (replicate {A = ℕ} count 0) rows ≡ true
 is_first-zeros number count [] = refl
-is_first-zeros number count (row ∷ rows) =
-    and_from _ _ (le-leb _ _ (omega (arith, zeros count (get_or row 0 0)))) (is_first-zeros (number + 1) count rows)
+is_first-zeros number count (spelling ∷ rows) =
+    and_from _ _ (le-leb _ _ (omega (arith, zeros count (get_or spelling 0 0)))) (is_first-zeros (number + 1) count rows)
   where
     zeros : (count k : ℕ) → get_or (replicate {A = ℕ} count 0) k 0 ≡ 0
     zeros zero k = refl
@@ -88,11 +88,11 @@ is_first-zeros number count (row ∷ rows) =
 none_begins-at : (byte count : ℕ) (rows : List (List ℕ)) (k : ℕ) → none_begins byte count rows ≡ true → k < count → k < length rows → get_or (row_at rows k) 0 0 ≡ byte → ⊥
 none_begins-at byte zero rows k is below inside same = absurd (omega arith)
 none_begins-at byte (suc count) [] k is below inside same = absurd (omega arith)
-none_begins-at byte (suc count) (row ∷ rows) zero is below inside same =
-    let parts = and_parts (not (eqb (get_or row 0 0) byte)) (none_begins byte count rows) is in
+none_begins-at byte (suc count) (spelling ∷ rows) zero is below inside same =
+    let parts = and_parts (not (eqb (get_or spelling 0 0) byte)) (none_begins byte count rows) is in
     both_ways _ (not-true _ parts.0) (eq-eqb _ _ same)
-none_begins-at byte (suc count) (row ∷ rows) (suc k) is below inside same =
-    let parts = and_parts (not (eqb (get_or row 0 0) byte)) (none_begins byte count rows) is in
+none_begins-at byte (suc count) (spelling ∷ rows) (suc k) is below inside same =
+    let parts = and_parts (not (eqb (get_or spelling 0 0) byte)) (none_begins byte count rows) is in
     none_begins-at byte count rows k parts.1 (omega arith) (omega arith) same
 
 -- between a row and the one that the list has for it none begins as it does
@@ -104,20 +104,20 @@ is_next-at : (number : ℕ) (nexts : List ℕ) (rows : List (List ℕ)) (k : ℕ
     IsNext rows number k (get_or nexts k 0)
 is_next-at number [] rows k is within below = absurd (omega arith)
 is_next-at number (next ∷ nexts) [] k is within below = absurd (omega arith)
-is_next-at number (next ∷ nexts) (row ∷ rows) zero is within below =
-    let front = and_parts (ltb number next && none_begins (get_or row 0 0) (next - (number + 1)) rows) (is_next (number + 1) nexts rows) is in
-    let parts = and_parts (ltb number next) (none_begins (get_or row 0 0) (next - (number + 1)) rows) front.0 in
+is_next-at number (next ∷ nexts) (spelling ∷ rows) zero is within below =
+    let front = and_parts (ltb number next && none_begins (get_or spelling 0 0) (next - (number + 1)) rows) (is_next (number + 1) nexts rows) is in
+    let parts = and_parts (ltb number next) (none_begins (get_or spelling 0 0) (next - (number + 1)) rows) front.0 in
     record { further = omega (arith, ltb-true _ _ parts.0); none = behind parts.1 }
   where
-    behind : none_begins (get_or row 0 0) (next - (number + 1)) rows ≡ true → (j : ℕ) → 0 < j → number + j < next → j < length (row ∷ rows) → get_or (row_at (row ∷ rows) j) 0 0 ≡ get_or row 0 0 → ⊥
+    behind : none_begins (get_or spelling 0 0) (next - (number + 1)) rows ≡ true → (j : ℕ) → 0 < j → number + j < next → j < length (spelling ∷ rows) → get_or (row_at (spelling ∷ rows) j) 0 0 ≡ get_or spelling 0 0 → ⊥
     behind none zero above until inside same = absurd (omega arith)
-    behind none (suc j) above until inside same = none_begins-at (get_or row 0 0) (next - (number + 1)) rows j none (omega arith) (omega arith) same
-is_next-at number (next ∷ nexts) (row ∷ rows) (suc k) is within below =
-    let front = and_parts (ltb number next && none_begins (get_or row 0 0) (next - (number + 1)) rows) (is_next (number + 1) nexts rows) is in
+    behind none (suc j) above until inside same = none_begins-at (get_or spelling 0 0) (next - (number + 1)) rows j none (omega arith) (omega arith) same
+is_next-at number (next ∷ nexts) (spelling ∷ rows) (suc k) is within below =
+    let front = and_parts (ltb number next && none_begins (get_or spelling 0 0) (next - (number + 1)) rows) (is_next (number + 1) nexts rows) is in
     let rest = is_next-at (number + 1) nexts rows k front.1 (omega arith) (omega arith) in
     record { further = omega (arith, rest.further); none = behind rest }
   where
-    behind : IsNext rows (number + 1) k (get_or nexts k 0) → (j : ℕ) → suc k < j → number + j < get_or nexts k 0 → j < length (row ∷ rows) → get_or (row_at (row ∷ rows) j) 0 0 ≡ get_or (row_at rows k) 0 0 → ⊥
+    behind : IsNext rows (number + 1) k (get_or nexts k 0) → (j : ℕ) → suc k < j → number + j < get_or nexts k 0 → j < length (spelling ∷ rows) → get_or (row_at (spelling ∷ rows) j) 0 0 ≡ get_or (row_at rows k) 0 0 → ⊥
     behind rest zero above until inside same = absurd (omega arith)
     behind rest (suc j) above until inside same = rest.none j (omega arith) (omega arith) (omega arith) same
 
@@ -130,10 +130,10 @@ none_between nexts rows k byte is within below same = λ j from until inside sam
     (is_next-at 0 nexts rows k is within below).none j (omega arith) (omega arith) inside (same' ∙ sym same)
 
 -- a row that stands at the front of a text begins as the text does
-stands-first : (row text : List ℕ) → StandsAt row text 0 → (length row ≡ 0) ⊎ (get_or row 0 0 ≡ get_or text 0 0)
+stands-first : (spelling text : List ℕ) → StandsAt spelling text 0 → (length spelling ≡ 0) ⊎ (get_or spelling 0 0 ≡ get_or text 0 0)
 stands-first [] text stands = inl refl
-stands-first (b ∷ row) [] stands = absurd (let e = ap length stands in omega arith)
-stands-first (b ∷ row) (a ∷ text) stands = inr (sym (ap (λ (t : List ℕ). get_or t 0 0) stands))
+stands-first (b ∷ spelling) [] stands = absurd (let e = ap length stands in omega arith)
+stands-first (b ∷ spelling) (a ∷ text) stands = inr (sym (ap (λ (t : List ℕ). get_or t 0 0) stands))
 
 -- what is known of the rows up to the next one that begins as the text does
 pub longest_before : (rows : List (List ℕ)) (text : List ℕ) (number next byte most : ℕ) → get_or text 0 0 ≡ byte →
@@ -163,7 +163,7 @@ longest_first rows text next byte most first none k until inside stands =
 -- a row that equals a word begins as it does
 pub differs_first : (rows : List (List ℕ)) (word : List ℕ) (next byte : ℕ) → NoneBegins rows byte 0 next → get_or word 0 0 ≡ byte →
     (k : ℕ) → k < next → k < length rows → row_at rows k ≡ word → ⊥
-differs_first rows word next byte none first k until inside same = none k (omega arith) until inside (ap (λ (row : List ℕ). get_or row 0 0) same ∙ first)
+differs_first rows word next byte none first k until inside same = none k (omega arith) until inside (ap (λ (spelling : List ℕ). get_or spelling 0 0) same ∙ first)
 
 pub differs_before : (rows : List (List ℕ)) (word : List ℕ) (number next byte : ℕ) →
     ((k : ℕ) → k < number → k < length rows → row_at rows k ≡ word → ⊥) → (row_at rows number ≡ word → ⊥) → NoneBegins rows byte (number + 1) next → get_or word 0 0 ≡ byte →
@@ -172,14 +172,14 @@ differs_before rows word number next byte before this none first k until inside 
     elim (cases_order k number) [
       | inl at ↦ this (rw at at same)
       | inr (inl below) ↦ before k below inside same
-      | inr (inr above) ↦ none k (omega arith) until inside (ap (λ (row : List ℕ). get_or row 0 0) same ∙ first)
+      | inr (inr above) ↦ none k (omega arith) until inside (ap (λ (spelling : List ℕ). get_or spelling 0 0) same ∙ first)
     ]
 
 -- no row stands at the end of a text
-pub none_at_end : (row bytes : List ℕ) (at : ℕ) → at ≡ length bytes → 0 < length row → StandsAt row bytes at → ⊥
-none_at_end row bytes at end filled stands =
-    omega (arith, ap length stands, length-take (length row) (Rattle.std.proofs.Common.drop at bytes), length-drop at bytes)
+pub none_at_end : (spelling bytes : List ℕ) (at : ℕ) → at ≡ length bytes → 0 < length spelling → StandsAt spelling bytes at → ⊥
+none_at_end spelling bytes at end filled stands =
+    omega (arith, ap length stands, length-take (length spelling) (Rattle.std.proofs.Common.drop at bytes), length-drop at bytes)
 
 -- no row is an empty word
-pub none_empty : (row word : List ℕ) → 0 < length row → length word ≡ 0 → row ≡ word → ⊥
-none_empty row word filled empty same = omega (arith, ap length same)
+pub none_empty : (spelling word : List ℕ) → 0 < length spelling → length word ≡ 0 → spelling ≡ word → ⊥
+none_empty spelling word filled empty same = omega (arith, ap length same)

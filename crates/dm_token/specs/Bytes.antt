@@ -1,5 +1,5 @@
 -- Bytes of source text that have a name.
-use Rattle.std.specs.Prelude.{ℕ, Bool, ◌&&◌, nat_le}
+use Rattle.std.specs.Prelude.{ℕ, Bool, ◌&&◌, nat_le, List, [], ◌∷◌, Option, None, Some, ◌==◌, if◌then◌else◌}
 
 abbrev pub newline : ℕ
 newline = 10
@@ -37,3 +37,8 @@ backslash = 92
 -- a digit, 0 to 9 (6.4.2.1)
 unfoldable pub is_digit : ℕ → Bool
 is_digit byte = nat_le 48 byte && nat_le byte 57
+
+-- the byte that stands in a second list where this byte stands first in the first
+abbrev pub partner : ℕ → List ℕ → List ℕ → Option ℕ
+partner byte (x ∷ xs) (y ∷ ys) = if byte == x then Some y else partner byte xs ys
+partner byte _ _ = None

@@ -1,5 +1,5 @@
 -- The place of the backslash lies in the file.
-use Rattle.dm_phase.specs.Answer.{place_of-inside}
+use Rattle.dm_token.specs.Answer.{place_of-inside}
 use Rattle.dm_phase.proofs.refusal.Goals as goal
 
 pub returns-clause-inside : goal.returns-clause-inside

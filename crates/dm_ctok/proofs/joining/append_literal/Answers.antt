@@ -1,6 +1,6 @@
 use Rattle.std.proofs.Common.{◌≡◌, false, None, ◌∙◌, sym, ap, subst}
 use Rattle.dm_token.specs.declared.stop.Stop.{Stop}
-use Rattle.dm_ctok.specs.Answers.{Stops}
+use Rattle.dm_token.specs.Answer.{Stops}
 use Rattle.dm_ctok.specs.Causes.{IsCause}
 use Rattle.dm_ctok.specs.declared.escape.Unread.{Unread}
 use Rattle.dm_ctok.specs.Escapes.{elements, between_quotes, put_behind}

@@ -1,6 +1,6 @@
 use Rattle.std.proofs.Common.{◌≡◌, ◌∙◌, ap, subst, sym, arith, ℕ, List, length, drop}
 use Rattle.dm_phase.specs.declared.Character.{Character}
-use Rattle.dm_phase.specs.Answer.{IsInside, place_of-inside}
+use Rattle.dm_token.specs.Answer.{IsInside, place_of-inside}
 use Rattle.dm_token.specs.declared.place.Place.{Place}
 use Rattle.dm_token.specs.declared.stop.Refusal.{Refusal}
 use Rattle.dm_token.specs.Places.{place_of}
