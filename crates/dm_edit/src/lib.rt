@@ -1,0 +1,11 @@
+//! What is done to a definition's text: the change of a macro's definition into a declaration in its place, the bytes
+//! of the file after it, and the plan that lists what became of each definition.
+#![tactic(auto)]
+
+mod change;
+mod editing;
+mod plan;
+
+pub use change::{As, Change};
+pub use editing::edit;
+pub use plan::{Changed, Entry, Fate, Plan};
