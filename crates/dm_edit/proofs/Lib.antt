@@ -1,1 +1,4 @@
 pub mod CutLemmas
+pub mod LineLemmas
+pub mod OrderLemmas
+pub mod VisibleLemmas

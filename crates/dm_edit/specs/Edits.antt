@@ -8,6 +8,10 @@ use Rattle.dm_edit.specs.Cuts.{Cut, IsCut}
 abbrev pub with_change : Cut → Change → List ℕ
 with_change cut change = cut.front ++ (change.head ++ (cut.body ++ (change.tail ++ cut.rest)))
 
+-- what stands before the body then
+abbrev pub before_changed_body : Cut → Change → List ℕ
+before_changed_body cut change = cut.front ++ change.head
+
 -- bytes with the change of a definition
 abbrev pub IsEdited : List ℕ → Change → List ℕ → Type 0
 IsEdited bytes change edited = (cut : Cut) × IsCut bytes change.definition cut × (edited ≡ with_change cut change)

@@ -1,9 +1,10 @@
 -- Where things stand once the bytes before them have grown or shrunk.
-use Rattle.std.specs.Prelude.{ℕ, ◌+◌, ◌-◌, map}
+use Rattle.std.specs.Prelude.{◌≡◌, ℕ, ◌+◌, ◌-◌, ◌≤◌, Some, map}
 use Rattle.dm_token.specs.declared.place.Place.{Place}
 use Rattle.dm_token.specs.declared.token.PpToken.{PpToken}
 use Rattle.dm_token.specs.declared.expansion.Definition.{Definition}
 use Rattle.dm_edit.specs.declared.change.Change.{Change}
+use Rattle.dm_edit.specs.Cuts.{body_end}
 
 -- an offset, where the file grows or shrinks before it from one length to another
 abbrev pub moved_offset : ℕ → ℕ → ℕ → ℕ
@@ -27,3 +28,7 @@ moved_definition before after definition = record definition {
 
 abbrev pub moved_change : ℕ → ℕ → Change → Change
 moved_change before after change = record change { definition = moved_definition before after change.definition }
+
+-- of two definitions in a file, the first ends before the second begins
+abbrev pub EndsBefore : Definition → Definition → Type 0
+EndsBefore first second = (end : ℕ) × (body_end first ≡ Some end) × (end ≤ second.hash)

@@ -1,5 +1,5 @@
 -- The slices are the parts of the cut.
-use Rattle.std.proofs.Common.{ap, ◌∙◌, sym, subst, drop, ℕ, List, length, arith, ◌≤◌}
+use Rattle.std.proofs.Common.{ap, ◌∙◌, sym, subst, drop, ℕ, List, length, ◌≤◌}
 use Rattle.std.specs.List.{prefix_len}
 use Rattle.std.proofs.lemmas.List.Sums.{prefix_len-le-length}
 use Rattle.dm_edit.specs.Cuts.{is_blank}
