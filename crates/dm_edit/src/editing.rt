@@ -59,7 +59,8 @@ fn blank_count(bytes: &[u8]) -> usize
     bytes.iter().take_while(|byte| is_blank(**byte)).count()
 }
 
-fn is_blank(byte: u8) -> bool
+/// Whether a byte is a space or a tab.
+pub(crate) fn is_blank(byte: u8) -> bool
     ensures { result ≡ is_blank byte }
 {
     byte == b' ' || byte == b'\t'

@@ -1,0 +1,5 @@
+pub mod Counts
+pub mod Lines
+pub mod Plans
+pub mod Titles
+pub mod Words

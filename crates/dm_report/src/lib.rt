@@ -1,0 +1,11 @@
+//! The report of a plan, as text and as JSON.
+#![tactic(auto)]
+
+mod as_text;
+mod counts;
+mod joining;
+mod lines;
+mod titles;
+mod words;
+
+pub use as_text::text;
