@@ -1,5 +1,6 @@
 -- Which plans can be reported.
 use Rattle.std.specs.Prelude.{ℕ, ◌<◌}
+use Rattle.std.specs.Str.{IsAscii}
 use Rattle.dm_edit.specs.declared.plan.Entry.{Entry}
 use Rattle.dm_edit.specs.declared.plan.Fate.{Fate}
 use Rattle.dm_edit.specs.declared.plan.Fate.TheVariants.{Rewritten, Kept}
@@ -13,3 +14,7 @@ IsKnownFate files (Kept rule place) = IsRule rule × (place.file < files)
 -- the files of a definition and of its place have names
 abbrev pub IsKnown : ℕ → Entry → Type 0
 IsKnown files entry = (entry.definition.place.file < files) × IsKnownFate files entry.outcome
+
+-- the name of a definition has bytes below 128 alone
+abbrev pub HasAsciiName : Entry → Type 0
+HasAsciiName entry = IsAscii entry.definition.name

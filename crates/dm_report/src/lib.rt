@@ -1,11 +1,14 @@
 //! The report of a plan, as text and as JSON.
 #![tactic(auto)]
 
+mod as_json;
 mod as_text;
 mod counts;
 mod joining;
 mod lines;
 mod titles;
+mod values;
 mod words;
 
+pub use as_json::json;
 pub use as_text::text;

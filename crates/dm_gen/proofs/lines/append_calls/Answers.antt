@@ -1,0 +1,6 @@
+use Rattle.dm_gen.specs.Generated.{call_line}
+use Rattle.dm_gen.proofs.Ranges.{flat_map-more}
+use Rattle.dm_gen.proofs.lines.append_calls.Goals as goal
+
+pub loop-i-preserved : goal.loop-i-preserved
+loop-i-preserved c = flat_map-more call_line _ _ _ c.loop-i.i c.loop-i.invariant c.in_ok-append_call.ensures
