@@ -1,5 +1,5 @@
 -- The titles of the rules by which a definition is kept.
-use Rattle.std.specs.Prelude.{ℕ, ◌-◌, ◌≤◌, List, [], ◌∷◌, length, codes, slice_get, unwrap_or}
+use Rattle.std.specs.Prelude.{ℕ, ◌-◌, ◌≤◌, List, [], ◌∷◌, codes, slice_get, unwrap_or}
 
 -- from rule 1 on
 abbrev pub titles : List (List ℕ)

@@ -1,5 +1,5 @@
 -- The row of the table at a rule.
-use Rattle.std.proofs.Common.{◌≡◌, ℕ, ◌-◌, ◌<◌, List, [], length, map, get_or, Bor, sym, ap, ◌∙◌, subst, refl, arith, slice_get, unwrap_or, rules}
+use Rattle.std.proofs.Common.{◌≡◌, ℕ, ◌-◌, List, [], length, map, get_or, Bor, sym, ap, ◌∙◌, arith, rules}
 use Rattle.std.proofs.lemmas.Option.{unwrap_or-slice_get}
 use Rattle.std.proofs.lemmas.List.{get_or-map, length-map}
 use Rattle.dm_report.specs.Titles.{titles, title_of, IsRule}
