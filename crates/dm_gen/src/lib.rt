@@ -30,3 +30,6 @@ pub fn generated(alloc: Global, n: u32) -> Result<MemoryFolder, Memory>
     folder.add(&name, text.as_bytes())?;
     Ok(folder)
 }
+
+#[cfg(test)]
+mod tests;

@@ -12,3 +12,6 @@ mod words;
 
 pub use as_json::json;
 pub use as_text::text;
+
+#[cfg(test)]
+mod tests;
