@@ -110,6 +110,7 @@ abbrev pub may_follow : Option (List ℕ) → Bool
 may_follow None = true
 may_follow (Some body) = is_body body
 
--- a define: an identifier, alone or with `=` and a body
+-- a define: an identifier, alone or with `=` and a body, with a bound on its length that no manifest of a file's length
+-- reaches
 unfoldable pub is_define : List ℕ → Bool
-is_define define = is_identifier (name_of define) && may_follow (body_of define)
+is_define define = nat_le (length define) source_length_limit && is_identifier (name_of define) && may_follow (body_of define)

@@ -19,6 +19,9 @@ pub fn define_name(alloc: Global, define: &str) -> Result<Option<&str>, Memory>
     ensures { IfOk result (λ name. option_copied name
         ≡ (if is_define define.now then Some (name_of define.now) else None)) }
 {
+    if define.len() > source_length_limit() {
+        return Ok(None);
+    }
     let (name, body) = split(define);
     if !is_identifier(name.as_bytes()) {
         return Ok(None);
