@@ -83,6 +83,7 @@ impl Loader {
     pub fn names(&self) -> &[Text]
         ensures names { result.now ≡ self.now.names }
         ensures headers { StartsWithHeaders self.now }
+        ensures slots { length self.now.held ≡ length self.now.names }
     {
         self.numbers.as_slice()
     }
