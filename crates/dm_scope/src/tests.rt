@@ -6,7 +6,9 @@ use std::alloc::Global;
 use std::test::Fail;
 
 #[test]
-fn an_inner_declaration_hides_an_outer_one_until_its_scope_ends(rt: HostRuntime) -> Result<(), Fail> {
+fn an_inner_declaration_hides_an_outer_one_until_its_scope_ends(
+    rt: HostRuntime,
+) -> Result<(), Fail> {
     let a = Text::new(rt.alloc(), "a")?;
     let b = Text::new(rt.alloc(), "b")?;
     let mut scopes = Scopes::new(rt.alloc())?;
@@ -39,11 +41,17 @@ fn name_of(alloc: Global, number: u32) -> Result<Text, Memory> {
 fn a_hundred_thousand_names_and_ten_thousand_scopes_are_kept(rt: HostRuntime) -> Result<(), Fail> {
     let mut scopes = Scopes::new(rt.alloc())?;
     for number in 0..100_000 {
-        assert_eq!(rt; scopes.declare(&name_of(rt.alloc(), number)?, number)?, true);
+        assert_eq!(rt;
+            scopes.declare(&name_of(rt.alloc(), number)?, number)?,
+            true
+        );
     }
     for number in 0..10_000 {
         scopes.enter()?;
-        assert_eq!(rt; scopes.declare(&name_of(rt.alloc(), 99_999)?, number)?, true);
+        assert_eq!(rt;
+            scopes.declare(&name_of(rt.alloc(), 99_999)?, number)?,
+            true
+        );
     }
     assert_eq!(rt; scopes.resolve(&name_of(rt.alloc(), 99_999)?), Some(9_999));
     assert_eq!(rt; scopes.resolve(&name_of(rt.alloc(), 99_998)?), Some(99_998));
