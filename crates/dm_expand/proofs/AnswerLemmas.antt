@@ -3,16 +3,14 @@ use Rattle.std.proofs.Common.{◌≡◌, ℕ, suc, ◌+◌, ◌≤◌, List, [],
 use Rattle.dm_token.specs.declared.token.PpToken.{PpToken}
 use Rattle.dm_token.specs.declared.token.Token.{Token}
 use Rattle.dm_token.specs.declared.stop.Stop.{Stop}
-use Rattle.dm_token.specs.declared.stop.Stop.TheVariants.{Memory, Refused, Limit, ReadFault}
 use Rattle.dm_token.specs.declared.expansion.Expansion.{Expansion}
 use Rattle.dm_expand.specs.Items.{Item, of_source}
 use Rattle.dm_expand.specs.Steps.{Progress, Output, ◌>>=◌, greatest_work, at_start}
 use Rattle.dm_expand.specs.Expansion.{Macros, Answer, token_of, answer_of, expanded, expansion_of}
 use Rattle.dm_expand.specs.Laws.{AreNumbered, Follows}
-use Rattle.dm_expand.specs.Views.{StopsAs, IsWithin}
+use Rattle.dm_expand.specs.Views.{IsWithin}
 use Rattle.dm_expand.specs.ListViews.{gives}
 use Rattle.dm_expand.specs.AnswerViews.{answer, AreNumberedFrom}
-use Rattle.dm_expand.proofs.StepLemmas.{stops_handed_as}
 
 answer-is : (out : List Item) (p : Progress) (tokens : List Token) → tokens ≡ map token_of out → answer_of (gives out p) ≡ answer tokens p.expansions p.spent
 unfolding answer_of

@@ -1,13 +1,13 @@
 -- Pieces of a replacement list.
 use Rattle.std.proofs.Common.{◌≡◌, ℕ, ◌<◌, ◌≤◌, Bool, List, [], ◌∷◌, length, map, refl, ap, ◌∙◌, arith, set as set_at, get_or, Result, Ok, Err}
 use Rattle.dm_expand.specs.Items.{Item, with_blank, first_with_blank}
-use Rattle.dm_expand.specs.Pastes.{Site, Piece, token, placemarker, operator, made}
+use Rattle.dm_expand.specs.Pastes.{Site, token, placemarker, operator, made}
 use Rattle.std.specs.FinSet as set
 use Rattle.dm_token.specs.declared.token.PpToken.{PpToken}
 use Rattle.dm_token.specs.declared.token.PpKind.TheVariants.{Literal}
 use Rattle.dm_token.specs.declared.stop.Stop.{Stop}
 use Rattle.dm_expand.specs.Steps.{Progress, Output, ◌>>=◌, take_argument}
-use Rattle.dm_expand.specs.Bodies.{Part, plain, hash, beside, whole, paste}
+use Rattle.dm_expand.specs.Bodies.{plain, hash, beside, whole, paste}
 use Rattle.dm_expand.specs.Strings.{quoted}
 use Rattle.dm_expand.specs.Substitution.{Expander, Filled, operands, filled, body_item, argument_for, placed}
 use Rattle.dm_expand.specs.ListViews.{fills}

@@ -1,5 +1,5 @@
 -- The cases at the head of a list.
-use Rattle.std.proofs.Common.{◌≡◌, List, refl}
+use Rattle.std.proofs.Common.{List, refl}
 use Rattle.dm_expand.specs.declared.head.Head as code_head
 use Rattle.dm_expand.specs.declared.head.Head.TheVariants.{Put, Replace, Refuse}
 use Rattle.dm_expand.specs.Items.{Item}

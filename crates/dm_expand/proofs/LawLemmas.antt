@@ -1,14 +1,12 @@
 -- What the laws of expansion say.
-use Rattle.std.proofs.Common.{◌≡◌, ℕ, Bool, true, false, cond, ◌&&◌, ◌||◌, List, [], ◌∷◌, Option, Some, None, Result, Ok, Err, refl, sym, ap, ◌∙◌}
-use Rattle.std.specs.Prelude.{codes, bytes_eq, All}
-use Rattle.std.specs.List.{list_any}
+use Rattle.std.proofs.Common.{◌≡◌, ℕ, Bool, true, false, ◌||◌, List, [], ◌∷◌, Some, Ok, refl, sym, ap, ◌∙◌}
+use Rattle.std.specs.Prelude.{codes}
 use Rattle.std.specs.FinSet as set
 use Rattle.std.proofs.lemmas.Bool.{cond-true, cond-false, false≢true}
 use Rattle.dm_token.specs.declared.place.Place.{Place}
-use Rattle.dm_token.specs.declared.token.PpToken.{PpToken}
 use Rattle.dm_macro.specs.Signs.{is_word}
 use Rattle.dm_expand.specs.Items.{Item}
-use Rattle.dm_expand.specs.Steps.{Progress, Output}
+use Rattle.dm_expand.specs.Steps.{Progress}
 use Rattle.dm_expand.specs.Predefined.{is_predefined, predefined, root_of}
 use Rattle.dm_expand.specs.Expansion.{Macros, Macro, put, head_of, head_by, macro_of, token_before, expanded}
 use Rattle.dm_expand.specs.Laws.{IsNoName, AreNoNames}

@@ -13,3 +13,4 @@ pub mod StepLemmas
 pub mod StringLemmas
 pub mod SubstitutionLemmas
 pub mod TrailLemmas
+pub mod WorkLemmas

@@ -1,11 +1,10 @@
 -- The progress of every expansion follows on the one before it, its stops are refusals 9 and 10 and limit 3, and the
 -- depth that expansions may have is never too small.
-use Rattle.std.proofs.Common.{◌≡◌, ℕ, zero, suc, ◌+◌, ◌-◌, ◌<◌, ◌≤◌, Bool, true, false, cond, List, [], ◌∷◌, ◌++◌, length, map, Option, Some, None, refl, ap, sym, ◌∙◌, subst, arith, inl, inr, ◌⊎◌, Result, Ok, Err, nat_le}
-use Rattle.std.proofs.lemmas.Bool.{cases_Bool, leb-true}
+use Rattle.std.proofs.Common.{◌≡◌, ℕ, zero, suc, ◌+◌, ◌-◌, ◌<◌, ◌≤◌, Bool, true, false, cond, List, [], ◌∷◌, ◌++◌, length, map, Some, None, refl, ap, sym, ◌∙◌, arith, inl, inr, Result, Ok, Err, nat_le}
+use Rattle.std.proofs.lemmas.Bool.{leb-true}
 use Rattle.std.specs.List.{list_any}
 use Rattle.dm_token.specs.declared.stop.Stop.{Stop}
 use Rattle.dm_token.specs.declared.place.Place.{Place}
-use Rattle.dm_token.specs.declared.token.PpKind.{PpKind}
 use Rattle.dm_token.specs.declared.expansion.Expansion.{Expansion}
 use Rattle.dm_lex.specs.Classes.{class_of}
 use Rattle.dm_macro.specs.HideSets.{HiddenNumbers}
@@ -13,9 +12,9 @@ use Rattle.dm_expand.specs.Items.{Item}
 use Rattle.dm_expand.specs.Steps.{Progress, Output, ◌>>=◌, greatest_work, too_much, spend, begin, take_argument, taken_by}
 use Rattle.dm_expand.specs.Bodies.{Part, plain, hash, beside, whole, paste, parts_of}
 use Rattle.dm_expand.specs.Pastes.{Site, Piece, token, placemarker, operator, joined, joined_with, joined_as, joined_tokens, no_token, piece_before, pasted_behind, pasted, tokens_of}
-use Rattle.dm_expand.specs.Substitution.{Expander, Filled, filled, filled_all, is_operator, substituted, argument_for}
-use Rattle.dm_expand.specs.Expansion.{Macros, Invocation, Head, put, replace, refuse, head_of, token_before, replaced, by_case, no_arguments, scanned, expanded_within, expanded}
-use Rattle.dm_expand.specs.Laws.{AreNumbered, Follows, IsStop, Each}
+use Rattle.dm_expand.specs.Substitution.{Expander, filled, filled_all, is_operator, substituted, argument_for}
+use Rattle.dm_expand.specs.Expansion.{Macros, Invocation, put, replace, refuse, head_of, token_before, replaced, by_case, no_arguments, scanned, expanded_within, expanded}
+use Rattle.dm_expand.specs.Laws.{AreNumbered, Follows, Each}
 
 -- ONE STEP AFTER ANOTHER
 

@@ -1,5 +1,5 @@
 -- Work that is counted, expansions that begin, and what is known of them.
-use Rattle.std.proofs.Common.{◌≡◌, ℕ, suc, ◌+◌, ◌-◌, ◌<◌, ◌≤◌, Bool, true, false, cond, ◌||◌, List, [], ◌∷◌, ◌++◌, length, get_or, take, drop, map, refl, sym, ap, ◌∙◌, subst, arith, Result, Ok, Err, nat_le, eqb}
+use Rattle.std.proofs.Common.{◌≡◌, ℕ, suc, ◌+◌, ◌<◌, ◌≤◌, Bool, false, List, [], ◌∷◌, ◌++◌, refl, sym, ap, ◌∙◌, subst, arith, Result, Ok, Err}
 use Rattle.std.proofs.lemmas.Bool.{cond-true, cond-false, le-leb, lt-leb}
 use Rattle.dm_token.specs.declared.place.Place.{Place}
 use Rattle.dm_token.specs.declared.stop.Stop.{Stop}
@@ -68,3 +68,8 @@ stops_handed (Err e) stop meaning handed is = stops-as meaning e (is ∙ ap Err 
 pub stops_handed_as : {A B C : Type 0} (result : Result A Stop) (stop : Stop) (first : Result C Stop) (meaning : Result B Stop) → IsErrAnd result (λ e. e ≡ stop) → ((other : Stop) → first ≡ Err other → meaning ≡ Err other) → StopsAs first stop → IfErr result (λ s. StopsAs meaning s)
 stops_handed_as (Ok answer) stop first meaning handed through is = tt
 stops_handed_as (Err e) stop first meaning handed through is = stops_through first meaning e through (subst (StopsAs first) (sym handed) is)
+
+-- the same for each of several meanings
+pub stops_handed_each : {A B C I : Type 0} (result : Result A Stop) (stop : Stop) (first : I → Result C Stop) (meaning : I → Result B Stop) → IsErrAnd result (λ e. e ≡ stop) → ((i : I) (other : Stop) → first i ≡ Err other → meaning i ≡ Err other) → ((i : I) → StopsAs (first i) stop) → IfErr result (λ s. (i : I) → StopsAs (meaning i) s)
+stops_handed_each (Ok answer) stop first meaning handed through are = tt
+stops_handed_each (Err e) stop first meaning handed through are = λ i. stops_through (first i) (meaning i) e (through i) (subst (StopsAs (first i)) (sym handed) (are i))

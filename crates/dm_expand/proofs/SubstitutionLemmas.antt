@@ -1,7 +1,7 @@
 -- Substitution, a part at a time, and the work that its tokens are.
-use Rattle.std.proofs.Common.{◌≡◌, ℕ, suc, ◌+◌, ◌-◌, ◌<◌, ◌≤◌, Bool, true, false, cond, not, ◌||◌, List, [], ◌∷◌, ◌++◌, length, map, take, drop, get_or, Option, Some, None, refl, sym, ap, ◌∙◌, subst, arith, Result, Ok, Err, append_assoc, length-append, inl, inr}
+use Rattle.std.proofs.Common.{◌≡◌, ℕ, ◌+◌, ◌<◌, Bool, true, false, cond, ◌||◌, List, [], ◌∷◌, ◌++◌, length, take, drop, get_or, Option, Some, None, refl, sym, ap, ◌∙◌, subst, arith, Result, Ok, Err, append_assoc}
 use Rattle.std.specs.List.{list_any}
-use Rattle.std.proofs.lemmas.List.{append-nil, at_drop_more, at_drop_all, take_more, take_all}
+use Rattle.std.proofs.lemmas.List.{at_drop_more, take_more}
 use Rattle.std.proofs.lemmas.List.Folds.{list_any-append}
 use Rattle.dm_token.specs.declared.stop.Stop.{Stop}
 use Rattle.dm_token.specs.declared.place.Place.{Place}
@@ -9,17 +9,17 @@ use Rattle.dm_token.specs.declared.token.PpToken.{PpToken}
 use Rattle.dm_token.specs.declared.expansion.Definition.{Definition}
 use Rattle.dm_macro.specs.HideSets.{HiddenNumbers}
 use Rattle.dm_macro.specs.Signs.{is_hash, is_hash_hash}
-use Rattle.dm_expand.specs.Items.{Item, first_with_blank}
-use Rattle.dm_expand.specs.Steps.{Progress, Output, ◌>>=◌, greatest_work, spend, begin}
+use Rattle.dm_expand.specs.Items.{Item}
+use Rattle.dm_expand.specs.Steps.{Progress, Output, ◌>>=◌}
 use Rattle.dm_expand.specs.Bodies.{Part, plain, hash, beside, whole, paste, part_of, other_part, parameter_part, token_part, parts_behind, parts_of, parameters_of, places_of, parameter_of, is_last, is_first, first_parameter}
-use Rattle.dm_expand.specs.Pastes.{Site, Piece, token, placemarker, operator, joined, piece_before, pasted_behind, pasted, tokens_of}
-use Rattle.dm_expand.specs.Substitution.{Expander, Filled, filled, filled_all, is_operator, substituted, finished, hidden_besides}
-use Rattle.dm_expand.specs.Expansion.{Macros, Invocation, replaced, expanded, site_of, token_before}
-use Rattle.dm_expand.specs.Laws.{Follows, Each, IsStop}
+use Rattle.dm_expand.specs.Pastes.{Site, Piece, joined, pasted, tokens_of}
+use Rattle.dm_expand.specs.Substitution.{Expander, Filled, filled, filled_all, is_operator, finished}
+use Rattle.dm_expand.specs.Expansion.{Macros, expanded, token_before}
+use Rattle.dm_expand.specs.Laws.{Follows, Each}
 use Rattle.dm_expand.specs.Views.{IsWithin, tokens_left}
 use Rattle.dm_expand.specs.ListViews.{gives, fills, pieces_before, tokens_before, counted_if}
-use Rattle.dm_expand.proofs.ListLemmas.{length_map}
-use Rattle.dm_expand.proofs.ProgressLemmas.{IsSafe, spend-counted, joined-stops as joined_stops, each_bind, each_more, follows_on, filled-follows, filled_all-follows, substituted-follows, counts-follows, expanded-follows, pasted-stops}
+use Rattle.dm_expand.specs.Works.{put_together}
+use Rattle.dm_expand.proofs.ProgressLemmas.{IsSafe, counts-follows, expanded-follows}
 
 -- PROGRESS
 
@@ -31,21 +31,6 @@ each-ok P r answer is each = subst (Each P) is each
 
 expanded-safe : (macros : Macros) → IsSafe 0 (expanded macros)
 expanded-safe macros tokens p above within = expanded-follows macros tokens p within
-
-pub filled-ok : (macros : Macros) (site : Site) (part : Part) (p : Progress) (given : Filled) → IsWithin p → filled (expanded macros) site part p ≡ Ok given → Follows p given.progress
-filled-ok macros site part p given within is =
-    each-ok (λ given. Follows p given.progress) _ given is (filled-follows 0 (expanded macros) (expanded-safe macros) site part p (omega arith) within.spent)
-
-pub filled_all-ok : (macros : Macros) (site : Site) (counts : Bool) (parts : List Part) (p : Progress) (given : Filled) → IsWithin p → filled_all (expanded macros) site counts parts p ≡ Ok given → Follows p given.progress
-filled_all-ok macros site counts parts p given within is =
-    each-ok (λ given. Follows p given.progress) _ given is (filled_all-follows 0 (expanded macros) (expanded-safe macros) site counts parts p (omega arith) within.spent)
-
-pub substituted-ok : (macros : Macros) (site : Site) (hidden : HiddenNumbers) (parts : List Part) (p : Progress) (output : Output) → IsWithin p → substituted (expanded macros) site hidden parts p ≡ Ok output → Follows p output.progress
-substituted-ok macros site hidden parts p output within is =
-    each-ok (λ output. Follows p output.progress) _ output is (substituted-follows 0 (expanded macros) (expanded-safe macros) site hidden parts p (omega arith) within.spent)
-
-pub expanded-ok : (macros : Macros) (tokens : List Item) (p : Progress) (output : Output) → IsWithin p → expanded macros tokens p ≡ Ok output → Follows p output.progress
-expanded-ok macros tokens p output within is = each-ok (λ output. Follows p output.progress) _ output is (expanded-follows macros tokens p within.spent)
 
 pub counted-ok : (counts : Bool) (place : Place) (work : ℕ) (p q : Progress) → IsWithin p → counted_if counts place work p ≡ Ok q → Follows p q
 counted-ok counts place work p q within is = each-ok (Follows p) _ q is (counts-follows counts place work p within.spent)
@@ -141,6 +126,10 @@ unfolding filled_all
 filled_all-count-stops expander site counts part parts p first stop is counted =
     ap (λ r. r >>= after_first expander site counts parts) is ∙ ap (λ r. r >>= after_count expander site counts parts first) counted
 
+pub parts-end : (names : List (List ℕ)) (before : List PpToken) → parts_behind names before [] ≡ []
+unfolding parts_behind
+parts-end names before = refl
+
 pub filled_all-end : (expander : Expander) (site : Site) (counts : Bool) (names : List (List ℕ)) (before : List PpToken) (p : Progress) → filled_all expander site counts (parts_behind names before []) p ≡ Ok (fills [] p)
 unfolding filled_all parts_behind
 filled_all-end expander site counts names before p = refl
@@ -163,9 +152,6 @@ abbrev after_paste : Site → HiddenNumbers → List Part → Filled → List Pi
 after_paste site hidden parts pieces joined =
     counted_if (list_any is_operator parts) site.name.pp.place (length (tokens_of joined)) pieces.progress
     >>= λ counted. Ok (record { tokens = finished site hidden (tokens_of joined); progress = counted })
-
-abbrev after_parts : Site → HiddenNumbers → List Part → Filled → Result Output Stop
-after_parts site hidden parts pieces = pasted site pieces.pieces >>= after_paste site hidden parts pieces
 
 -- the tokens that are left are those of the pieces that are left
 joined-is : (site : Site) (hidden : HiddenNumbers) (parts : List Part) (pieces : Filled) (tokens : List Item) (q : Progress) (r : Result (List Piece) Stop)
@@ -191,143 +177,24 @@ paste-stops : (site : Site) (hidden : HiddenNumbers) (parts : List Part) (pieces
 paste-stops site hidden parts pieces stop (Ok joined) left = cc
 paste-stops site hidden parts pieces stop (Err other) left = let same : other ≡ stop = cc in ap Err same
 
-pub substituted-is : (expander : Expander) (site : Site) (hidden : HiddenNumbers) (parts : List Part) (p : Progress) (pieces : Filled) (tokens : List Item) (q : Progress)
-    → filled_all expander site (not (list_any is_operator parts)) parts p ≡ Ok pieces → tokens_left site pieces.pieces ≡ Ok tokens
-    → counted_if (list_any is_operator parts) site.name.pp.place (length tokens) pieces.progress ≡ Ok q
-    → substituted expander site hidden parts p ≡ Ok (gives (finished site hidden tokens) q)
-unfolding substituted tokens_left
-substituted-is expander site hidden parts p pieces tokens q is left counted =
-    ap (λ r. r >>= after_parts site hidden parts) is ∙ joined-is site hidden parts pieces tokens q (pasted site pieces.pieces) left counted
+pub put_together-is : (site : Site) (hidden : HiddenNumbers) (parts : List Part) (pieces : Filled) (tokens : List Item) (q : Progress)
+    → tokens_left site pieces.pieces ≡ Ok tokens → counted_if (list_any is_operator parts) site.name.pp.place (length tokens) pieces.progress ≡ Ok q
+    → put_together site hidden parts pieces ≡ Ok (gives (finished site hidden tokens) q)
+unfolding put_together tokens_left
+put_together-is site hidden parts pieces tokens q left counted = joined-is site hidden parts pieces tokens q (pasted site pieces.pieces) left counted
 
-pub substituted-parts-stop : (expander : Expander) (site : Site) (hidden : HiddenNumbers) (parts : List Part) (p : Progress) (stop : Stop)
-    → filled_all expander site (not (list_any is_operator parts)) parts p ≡ Err stop → substituted expander site hidden parts p ≡ Err stop
-unfolding substituted
-substituted-parts-stop expander site hidden parts p stop is = ap (λ r. r >>= after_parts site hidden parts) is
+pub put_together-paste-stops : (site : Site) (hidden : HiddenNumbers) (parts : List Part) (pieces : Filled) (stop : Stop)
+    → tokens_left site pieces.pieces ≡ Err stop → put_together site hidden parts pieces ≡ Err stop
+unfolding put_together tokens_left
+put_together-paste-stops site hidden parts pieces stop left = paste-stops site hidden parts pieces stop (pasted site pieces.pieces) left
 
-pub substituted-paste-stops : (expander : Expander) (site : Site) (hidden : HiddenNumbers) (parts : List Part) (p : Progress) (pieces : Filled) (stop : Stop)
-    → filled_all expander site (not (list_any is_operator parts)) parts p ≡ Ok pieces → tokens_left site pieces.pieces ≡ Err stop
-    → substituted expander site hidden parts p ≡ Err stop
-unfolding substituted tokens_left
-substituted-paste-stops expander site hidden parts p pieces stop is left =
-    ap (λ r. r >>= after_parts site hidden parts) is ∙ paste-stops site hidden parts pieces stop (pasted site pieces.pieces) left
-
-pub substituted-count-stops : (expander : Expander) (site : Site) (hidden : HiddenNumbers) (parts : List Part) (p : Progress) (pieces : Filled) (tokens : List Item) (stop : Stop)
-    → filled_all expander site (not (list_any is_operator parts)) parts p ≡ Ok pieces → tokens_left site pieces.pieces ≡ Ok tokens
-    → counted_if (list_any is_operator parts) site.name.pp.place (length tokens) pieces.progress ≡ Err stop
-    → substituted expander site hidden parts p ≡ Err stop
-unfolding substituted tokens_left
-substituted-count-stops expander site hidden parts p pieces tokens stop is left counted =
-    ap (λ r. r >>= after_parts site hidden parts) is ∙ joined-over site hidden parts pieces tokens stop (pasted site pieces.pieces) left counted
-
--- THE WORK THAT TOKENS ARE
-
-tokens_of-shorter : (pieces : List Piece) → length (tokens_of pieces) ≤ length pieces
-unfolding tokens_of
-tokens_of-shorter [] = omega arith
-tokens_of-shorter (token item ∷ pieces) = omega (arith, tokens_of-shorter pieces)
-tokens_of-shorter (placemarker blank ∷ pieces) = omega (arith, tokens_of-shorter pieces)
-tokens_of-shorter (operator item ∷ pieces) = omega (arith, tokens_of-shorter pieces)
-
-piece_before-shorter : (piece : Piece) (most : ℕ) (r : Result (List Piece) Stop) → Each (λ joined. length joined ≤ most) r → Each (λ joined. length joined ≤ suc most) (piece_before piece r)
-unfolding piece_before
-piece_before-shorter piece most (Ok others) short = omega (arith, short)
-piece_before-shorter piece most (Err stop) stops = stops
-
-pasted_behind-shorter : (site : Site) (left : Piece) (pieces : List Piece) → Each (λ joined. length joined ≤ suc (length pieces)) (pasted_behind site left pieces)
-unfolding pasted_behind
-pasted_behind-shorter site left [] = omega arith
-pasted_behind-shorter site left (token right ∷ others) = piece_before-shorter left (suc (length others)) (pasted_behind site (token right) others) (pasted_behind-shorter site (token right) others)
-pasted_behind-shorter site left (placemarker blank ∷ others) = piece_before-shorter left (suc (length others)) (pasted_behind site (placemarker blank) others) (pasted_behind-shorter site (placemarker blank) others)
-pasted_behind-shorter site left (operator item ∷ []) = omega arith
-pasted_behind-shorter site left (operator item ∷ right ∷ others) =
-    each_bind (λ _. Unit {0}) _ (joined site left right) _ (joined_stops site left right)
-    (λ both _. each_more (λ joined. length joined ≤ suc (length others)) _ (pasted_behind site both others) (λ joined short. omega (arith, short)) (pasted_behind-shorter site both others))
-
-pasted-shorter : (site : Site) (pieces : List Piece) → Each (λ joined. length joined ≤ length pieces) (pasted site pieces)
-unfolding pasted
-pasted-shorter site [] = omega arith
-pasted-shorter site (piece ∷ pieces) = pasted_behind-shorter site piece pieces
-
-length-first : (blank : Bool) (items : List Item) → length (first_with_blank blank items) ≡ length items
-unfolding first_with_blank
-length-first blank [] = refl
-length-first blank (item ∷ items) = refl
-
-length-finished : (site : Site) (hidden : HiddenNumbers) (items : List Item) → length (finished site hidden items) ≡ length items
-unfolding finished
-length-finished site hidden items = length-first site.name.pp.blank_before (map (hidden_besides hidden) items) ∙ length_map (hidden_besides hidden) items
-
-spend-exact : (place : Place) (work : ℕ) (p : Progress) → Each (λ q. (q.spent ≡ p.spent + work) × (q.spent ≤ greatest_work)) (spend place work p)
-spend-exact place work p = each_more _ _ (spend place work p) (λ q counted. (counted.0, counted.1)) (spend-counted place work p)
-
-module _ (least : ℕ) (expander : Expander) (safe : IsSafe least expander) where
-  -- without `##` the pieces are counted as they come
-  filled_all-counted : (site : Site) (parts : List Part) (p : Progress) → least ≤ p.spent → p.spent ≤ greatest_work → Each (λ given. p.spent + length given.pieces ≤ given.progress.spent) (filled_all expander site true parts p)
-  unfolding filled_all
-  filled_all-counted site [] p above within = omega arith
-  filled_all-counted site (part ∷ parts) p above within =
-      each_bind (λ given. Follows p given.progress) _ (filled expander site part p) _ (filled-follows least expander safe site part p above within)
-      (λ given first.
-      each_bind (λ q. (q.spent ≡ given.progress.spent + length given.pieces) × (q.spent ≤ greatest_work)) _ (spend site.name.pp.place (length given.pieces) given.progress) _
-      (spend-exact site.name.pp.place (length given.pieces) given.progress)
-      (λ q second.
-      each_bind (λ others. q.spent + length others.pieces ≤ others.progress.spent) _ (filled_all expander site true parts q) _
-      (filled_all-counted site parts q (omega (arith, first.rises, second.0)) second.1)
-      (λ others third. omega (arith, first.rises, second.0, third, length-append given.pieces others.pieces))))
-
-  pub substituted-counted : (site : Site) (hidden : HiddenNumbers) (parts : List Part) (p : Progress) → least ≤ p.spent → p.spent ≤ greatest_work → Each (λ (output : Output). p.spent + length output.tokens ≤ output.progress.spent) (substituted expander site hidden parts p)
-  unfolding substituted
-  substituted-counted site hidden parts p above within =
-      by_operator (list_any is_operator parts) refl
-    where
-      by_operator : (b : Bool) → list_any is_operator parts ≡ b → Each (λ (output : Output). p.spent + length output.tokens ≤ output.progress.spent) (filled_all expander site (not b) parts p >>= λ pieces. pasted site pieces.pieces >>= λ joined. counted_if b site.name.pp.place (length (tokens_of joined)) pieces.progress >>= λ counted. Ok (record { tokens = finished site hidden (tokens_of joined); progress = counted }))
-      by_operator true e =
-          each_bind (λ given. Follows p given.progress) _ (filled_all expander site false parts p) _ (filled_all-follows least expander safe site false parts p above within)
-          (λ given first.
-          each_bind (λ _. Unit {0}) _ (pasted site given.pieces) _ (pasted-stops site given.pieces)
-          (λ joined _.
-          each_bind (λ q. (q.spent ≡ given.progress.spent + length (tokens_of joined)) × (q.spent ≤ greatest_work)) _ (spend site.name.pp.place (length (tokens_of joined)) given.progress) _
-          (spend-exact site.name.pp.place (length (tokens_of joined)) given.progress)
-          (λ q second. omega (arith, first.rises, second.0, length-finished site hidden (tokens_of joined)))))
-      by_operator false e =
-          each_bind (λ given. p.spent + length given.pieces ≤ given.progress.spent) _ (filled_all expander site true parts p) _ (filled_all-counted site parts p above within)
-          (λ given first.
-          each_bind (λ joined. length joined ≤ length given.pieces) _ (pasted site given.pieces) _ (pasted-shorter site given.pieces)
-          (λ joined short. omega (arith, first, short, tokens_of-shorter joined, length-finished site hidden (tokens_of joined))))
-
-pub substituted-work : (macros : Macros) (site : Site) (hidden : HiddenNumbers) (parts : List Part) (p : Progress) (output : Output) → IsWithin p → substituted (expanded macros) site hidden parts p ≡ Ok output → p.spent + length output.tokens ≤ output.progress.spent
-substituted-work macros site hidden parts p output within is =
-    each-ok (λ output. p.spent + length output.tokens ≤ output.progress.spent) _ output is (substituted-counted 0 (expanded macros) (expanded-safe macros) site hidden parts p (omega arith) within.spent)
+pub put_together-count-stops : (site : Site) (hidden : HiddenNumbers) (parts : List Part) (pieces : Filled) (tokens : List Item) (stop : Stop)
+    → tokens_left site pieces.pieces ≡ Ok tokens → counted_if (list_any is_operator parts) site.name.pp.place (length tokens) pieces.progress ≡ Err stop
+    → put_together site hidden parts pieces ≡ Err stop
+unfolding put_together tokens_left
+put_together-count-stops site hidden parts pieces tokens stop left counted = joined-over site hidden parts pieces tokens stop (pasted site pieces.pieces) left counted
 
 -- EXPANSION
-
-abbrev after_substitution : Expander → Invocation → Output → Result Output Stop
-after_substitution expander invocation replacement = expander (replacement.tokens ++ invocation.rest) replacement.progress
-
-abbrev after_begin : Expander → Invocation → ℕ → Progress → Result Output Stop
-after_begin expander invocation instance begun =
-    substituted expander (site_of invocation instance) invocation.hidden (parts_of invocation.macro.definition) begun >>= after_substitution expander invocation
-
-pub replaced-is : (expander : Expander) (invocation : Invocation) (p q : Progress) (output : Output)
-    → begin invocation.macro.number invocation.name invocation.foreign p ≡ Ok q
-    → substituted expander (site_of invocation p.instance) invocation.hidden (parts_of invocation.macro.definition) q ≡ Ok output
-    → replaced expander invocation p ≡ expander (output.tokens ++ invocation.rest) output.progress
-unfolding replaced
-replaced-is expander invocation p q output begun is =
-    ap (λ r. r >>= after_begin expander invocation p.instance) begun ∙ ap (λ r. r >>= after_substitution expander invocation) is
-
-pub replaced-begin-stops : (expander : Expander) (invocation : Invocation) (p : Progress) (stop : Stop)
-    → begin invocation.macro.number invocation.name invocation.foreign p ≡ Err stop → replaced expander invocation p ≡ Err stop
-unfolding replaced
-replaced-begin-stops expander invocation p stop begun = ap (λ r. r >>= after_begin expander invocation p.instance) begun
-
-pub replaced-stops : (expander : Expander) (invocation : Invocation) (p q : Progress) (stop : Stop)
-    → begin invocation.macro.number invocation.name invocation.foreign p ≡ Ok q
-    → substituted expander (site_of invocation p.instance) invocation.hidden (parts_of invocation.macro.definition) q ≡ Err stop
-    → replaced expander invocation p ≡ Err stop
-unfolding replaced
-replaced-stops expander invocation p q stop begun is =
-    ap (λ r. r >>= after_begin expander invocation p.instance) begun ∙ ap (λ r. r >>= after_substitution expander invocation) is
 
 pub tokens_before-token : (out : List Item) (item : Item) (r : Result Output Stop) → tokens_before out (token_before item r) ≡ tokens_before (out ++ item ∷ []) r
 unfolding token_before

@@ -1,15 +1,11 @@
 -- Trails: what they have in common, and walks from their innermost marks.
-use Rattle.std.proofs.Common.{inl, inr, ◌≡◌, ℕ, suc, ◌+◌, ◌<◌, ◌≤◌, Bool, true, false, cond, ◌&&◌, ◌||◌, not, List, [], ◌∷◌, ◌++◌, length, drop, refl, sym, ap, ◌∙◌, subst, arith, IsTrue, Option, Some, None, append_assoc, length-append, reverse, eqb, ◌↔◌}
-use Rattle.std.specs.Prelude.{slice_get}
-use Rattle.std.specs.List.{list_any, list_all}
-use Rattle.std.proofs.lemmas.List.{append-nil, reverse-append, drop_at}
-use Rattle.std.proofs.lemmas.List.Folds.{list_any-append}
+use Rattle.std.proofs.Common.{inl, inr, ◌≡◌, ◌≤◌, Bool, true, List, [], ◌∷◌, ◌++◌, length, drop, refl, sym, ap, ◌∙◌, subst, arith, IsTrue, append_assoc, length-append, reverse, eqb, ◌↔◌}
+use Rattle.std.proofs.lemmas.List.{reverse-append, drop_at}
 use Rattle.std.proofs.lemmas.Bool.{cases_Bool, and_parts, and_from, eqb-true, eq-eqb, cond-true, cond-false, false≢true}
 use Rattle.dm_token.specs.declared.expansion.Mark.{Mark}
 use Rattle.dm_token.specs.declared.expansion.Mark.TheVariants.{Expansion, Argument}
 use Rattle.dm_token.specs.Prefixes.{IsPrefix, IsLongestCommonPrefix}
-use Rattle.dm_expand.specs.Items.{Item}
-use Rattle.dm_expand.specs.Trails.{same_mark, begins_with, past, marks_instance, carry, come_otherwise}
+use Rattle.dm_expand.specs.Trails.{same_mark, begins_with, past}
 
 same_mark-true : (a b : Mark) → same_mark a b ≡ true → a ≡ b
 unfolding same_mark

@@ -12,4 +12,5 @@ pub mod Laws
 pub mod Views
 pub mod HeadViews
 pub mod ListViews
+pub mod Works
 pub mod AnswerViews

@@ -1,5 +1,5 @@
 -- What the code's values and answers mean.
-use Rattle.std.specs.Prelude.{◌≡◌, ◌≤◌, ℕ, Bool, true, false, List, [], ◌∷◌, ◌++◌, Option, None, Some, option_map, Result, Ok, Err}
+use Rattle.std.specs.Prelude.{◌≡◌, ◌≤◌, Bool, true, false, List, [], ◌∷◌, ◌++◌, Option, None, Some, Result, Ok, Err}
 use Rattle.dm_token.specs.declared.stop.Stop.{Stop}
 use Rattle.dm_token.specs.declared.stop.Stop.TheVariants.{Memory, Refused, Limit, ReadFault}
 use Rattle.dm_token.specs.declared.token.PpToken.{PpToken}
@@ -10,7 +10,7 @@ use Rattle.dm_expand.specs.declared.paste.Piece as code_piece
 use Rattle.dm_expand.specs.declared.paste.Piece.TheVariants.{Token, Placemarker, Operator}
 use Rattle.dm_expand.specs.Items.{Item}
 use Rattle.dm_expand.specs.Steps.{Progress, greatest_work, ◌>>=◌}
-use Rattle.dm_expand.specs.Arguments.{Enclosed, separated}
+use Rattle.dm_expand.specs.Arguments.{Enclosed}
 use Rattle.dm_expand.specs.Bodies.{Part, plain, hash, beside, whole, paste}
 use Rattle.dm_expand.specs.Pastes.{Site, Piece, token, placemarker, operator, pasted, pasted_behind, tokens_of}
 

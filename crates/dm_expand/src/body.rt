@@ -1,4 +1,4 @@
-ghost use Rattle.std.specs.Prelude.{◌≡◌, ◌≤◌, ◌<◌, ◌+◌, take, drop, slice_index_or, [], ◌∷◌, ◌++◌, length, bytes_eq};
+ghost use Rattle.std.specs.Prelude.{◌≡◌, ◌≤◌, ◌<◌, ◌+◌, ◌^◌, take, drop, slice_index_or, [], ◌∷◌, ◌++◌, length, bytes_eq};
 ghost use Rattle.std.specs.List.{position_from};
 ghost use Rattle.dm_macro.specs.Signs as sign;
 ghost use Rattle.dm_token.specs.declared.token.PpToken.{PpToken};
@@ -190,7 +190,8 @@ fn role_of(
 /// The token at an index of a replacement list.
 pub fn token_at(definition: &Definition, index: usize) -> &PpToken
     requires { index < length definition.now.body }
-    ensures { result.now ≡ slice_index_or definition.now.body index result.now }
+    ensures is { result.now ≡ slice_index_or definition.now.body index result.now }
+    ensures counts { index + 1 < 2 ^ 64 }
 {
     let body = definition.body.items();
     &body[index]

@@ -15,6 +15,7 @@ mod head;
 mod hidden;
 mod item;
 mod laws;
+mod machine;
 mod paste;
 mod predefined;
 mod progress;
@@ -34,10 +35,10 @@ pub use laws::{
     always_an_answer, cases_at_the_head, depth_is_enough, hidden_name_stays,
     text_without_names_stays,
 };
+use machine::expand_list;
 use progress::Progress;
 use std::alloc::Global;
 use std::collections::VecDeque;
-use substitute::expand_list;
 
 /// The count of a unit's work: the definitions that it reads, its expansions, and the tokens that they put out.
 #[derive(Clone, Copy, Debug, PartialEq, Eq)]

@@ -1,81 +1,68 @@
-ghost use Rattle.std.specs.Prelude.{◌≡◌, ◌≤◌, ◌<◌, ◌+◌, ◌∷◌, ◌++◌, not, IfOk, IfErr, OnOk, Ok, Err, map, length, take, drop};
+ghost use Rattle.std.specs.Prelude.{◌≡◌, ◌<◌, ◌+◌, ◌++◌, IfOk, IfErr, OnOk, Ok, map, length};
 ghost use Rattle.std.specs.List.{list_any};
 ghost use Rattle.dm_macro.specs.Signs as sign;
 ghost use Rattle.dm_expand.specs.Bodies as bodies;
-ghost use Rattle.dm_token.specs.declared.expansion.Mark.TheVariants.{Expansion};
 ghost use Rattle.dm_expand.specs.Laws.{Follows};
 ghost use Rattle.dm_expand.specs.Substitution as substitution;
-ghost use Rattle.dm_expand.specs.Expansion as expansion;
-ghost use Rattle.dm_expand.specs.Views.{StopsAs, IsWithin, piece_value, part_with};
-ghost use Rattle.dm_expand.specs.HeadViews.{macros_of, site_with};
-ghost use Rattle.dm_expand.specs.ListViews.{gives, fills, pieces_before, tokens_before, counted_if, invocation_value};
+ghost use Rattle.dm_expand.specs.Substitution.{Expander};
+ghost use Rattle.dm_expand.specs.Views.{StopsAs, IsWithin, piece_value};
+ghost use Rattle.dm_expand.specs.ListViews.{gives, fills, pieces_before, counted_if};
+ghost use Rattle.dm_expand.specs.Works.{IsContent, parts_from, parts_left, parts_waiting, IsBefore, IsFrom, argument_pieces, put_together};
 
 use crate::arguments::next_of;
 use crate::body::{Role, role_at, token_at};
 use crate::fill::{
-    argument_for, body_item, fill_beside, fill_hash, one_piece, placed, set_first_blank,
-    token_pieces,
+    body_item, fill_beside, fill_hash, one_piece, placed, set_first_blank, token_pieces,
 };
-use crate::head::{Head, Invocation, Macros, head_of};
 use crate::hidden::Hidden;
-use crate::item::{Item, copied};
+use crate::item::Item;
 use crate::paste::{Piece, Site, paste};
 use crate::progress::Progress;
 use crate::sign::is_hash_hash;
-use dm_token::{Definition, List, Mark, Memory, Place, PpToken, Refusal, Stop};
+use dm_token::{Definition, Memory, Place, PpToken, Stop};
 use std::alloc::Global;
 use std::collections::VecDeque;
 
+/// What a part of a replacement list is filled with at once, or that its argument is to be completely expanded first
+/// (6.10.3.1p1), with the parameter and which of its places this is.
+#[derive(Drop)]
+enum Content {
+    Pieces(Vec<Piece>),
+    Whole(usize, usize),
+}
+
 // What one part of the replacement list becomes.
-#[cycle(expansion)]
 fn fill(
-    macros: &Macros,
+    alloc: Global,
     site: &Site,
     token: &PpToken,
     role: Role,
     progress: &mut Progress,
-) -> Result<Vec<Piece>, Stop>
+) -> Result<Content, Memory>
     requires { IsWithin progress.old }
-    ensures ok { IfOk result (λ pieces. substitution.filled (expansion.expanded (macros_of macros.now)) site.now (part_with token.now role) progress.old
-        ≡ Ok (fills (map piece_value pieces.items) progress.new)) }
+    ensures content { IfOk result (IsContent site.now token.now role progress.old progress.new) }
     ensures follows { OnOk result (Follows progress.old progress.new) }
-    ensures stop { IfErr result (λ stop.
-        StopsAs (substitution.filled (expansion.expanded (macros_of macros.now)) site.now (part_with token.now role) progress.old) stop) }
 {
-    let alloc = macros.alloc;
     match role {
         Role::Plain => {
             let item = body_item(alloc, site, token)?;
             let pieces = one_piece(alloc, Piece::Token(item))?;
-            Ok(pieces)
+            Ok(Content::Pieces(pieces))
         }
         Role::Paste => {
             let item = body_item(alloc, site, token)?;
             let pieces = one_piece(alloc, Piece::Operator(item))?;
-            Ok(pieces)
+            Ok(Content::Pieces(pieces))
         }
         Role::Hash(parameter) => {
             let pieces = fill_hash(alloc, site, token, parameter, progress)?;
-            Ok(pieces)
+            Ok(Content::Pieces(pieces))
         }
         Role::Beside(parameter, occurrence) => {
             let pieces = fill_beside(alloc, site, token, parameter, occurrence, progress)?;
-            Ok(pieces)
+            Ok(Content::Pieces(pieces))
         }
-        Role::Whole(parameter, occurrence) => {
-            let argument = copied(alloc, argument_for(site, parameter))?;
-            let expanded = expand_list(macros, argument, progress)?;
-            let tokens = placed(
-                alloc,
-                site,
-                token,
-                parameter,
-                occurrence,
-                expanded.as_slice(),
-            )?;
-            let pieces = token_pieces(alloc, tokens)?;
-            Ok(pieces)
-        }
+        Role::Whole(parameter, occurrence) => Ok(Content::Whole(parameter, occurrence)),
     }
 }
 
@@ -92,8 +79,8 @@ fn count_if(progress: &mut Progress, counts: bool, place: Place, work: usize) ->
     Ok(())
 }
 
-// Whether a replacement list has a `##`.
-fn has_paste(definition: &Definition) -> bool
+/// Whether a replacement list has a `##`.
+pub fn has_paste(definition: &Definition) -> bool
     ensures { result ≡ list_any sign.is_hash_hash definition.now.body }
 {
     for token in definition.body.items() {
@@ -104,8 +91,8 @@ fn has_paste(definition: &Definition) -> bool
     false
 }
 
-// Adds pieces at the end of others.
-fn append(pieces: &mut Vec<Piece>, more: Vec<Piece>) -> Result<(), Memory>
+/// Adds pieces at the end of others.
+pub fn append(pieces: &mut Vec<Piece>, more: Vec<Piece>) -> Result<(), Memory>
     ensures { OnOk result (pieces.new.items ≡ pieces.old.items ++ more.items) }
 {
     let mut more = more;
@@ -135,74 +122,86 @@ fn token_count(tokens: &[Item]) -> usize
     tokens.len()
 }
 
+/// A parameter of a replacement list whose argument is to be completely expanded first: its token, the index
+/// behind that one, the parameter, and which of its places this is.
+#[derive(Clone, Copy)]
+pub struct Whole<'a> {
+    pub token: &'a PpToken,
+    pub behind: usize,
+    pub parameter: usize,
+    pub occurrence: usize,
+}
+
 // The part of the replacement list at an index.
-#[cycle(expansion)]
-fn fill_at(
-    macros: &Macros,
+fn fill_at<'a>(
+    alloc: Global,
     site: &Site,
-    definition: &Definition,
+    definition: &'a Definition,
     index: usize,
     counts: bool,
     progress: &mut Progress,
     pieces: &mut Vec<Piece>,
-) -> Result<(), Stop>
+) -> Result<Option<Whole<'a>>, Stop>
     requires within { IsWithin progress.old }
     requires inside { index < length definition.now.body }
-    ensures ok { OnOk result
-        (pieces_before (map piece_value pieces.old.items) (substitution.filled_all (expansion.expanded (macros_of macros.now)) site.now counts
-        (bodies.parts_behind (bodies.parameters_of definition.now) (take index definition.now.body) (drop index definition.now.body)) progress.old)
-        ≡ pieces_before (map piece_value pieces.new.items) (substitution.filled_all (expansion.expanded (macros_of macros.now)) site.now counts
-        (bodies.parts_behind (bodies.parameters_of definition.now) (take (index + 1) definition.now.body) (drop (index + 1) definition.now.body)) progress.new)) }
+    ensures ok { IfOk result (λ whole. (expander : Expander) →
+        pieces_before (map piece_value pieces.old.items) (substitution.filled_all expander site.now counts (parts_from definition.now index) progress.old)
+        ≡ pieces_before (map piece_value pieces.new.items) (substitution.filled_all expander site.now counts (parts_left definition.now (index + 1) whole) progress.new)) }
     ensures follows { OnOk result (Follows progress.old progress.new) }
-    ensures stop { IfErr result (λ stop.
-        StopsAs (pieces_before (map piece_value pieces.old.items) (substitution.filled_all (expansion.expanded (macros_of macros.now)) site.now counts
-        (bodies.parts_behind (bodies.parameters_of definition.now) (take index definition.now.body) (drop index definition.now.body)) progress.old)) stop) }
+    ensures at { IfOk result (IsBefore index) }
+    ensures stop { IfErr result (λ stop. (expander : Expander) →
+        StopsAs (pieces_before (map piece_value pieces.old.items) (substitution.filled_all expander site.now counts (parts_from definition.now index) progress.old)) stop) }
 {
     let token = token_at(definition, index);
     let Some(role) = role_at(definition, index, token) else {
-        return Ok(());
+        return Ok(None);
     };
-    let more = fill(macros, site, token, role, progress)?;
-    count_if(
-        progress,
-        counts,
-        place_of(site),
-        piece_count(more.as_slice()),
-    )?;
-    append(pieces, more)?;
-    Ok(())
+    match fill(alloc, site, token, role, progress)? {
+        Content::Whole(parameter, occurrence) => Ok(Some(Whole {
+            token,
+            behind: index + 1,
+            parameter,
+            occurrence,
+        })),
+        Content::Pieces(more) => {
+            count_if(
+                progress,
+                counts,
+                place_of(site),
+                piece_count(more.as_slice()),
+            )?;
+            append(pieces, more)?;
+            Ok(None)
+        }
+    }
 }
 
-// The parts of the replacement list, one after another.
-#[cycle(expansion)]
-fn fill_all(
-    macros: &Macros,
+/// The parts of the replacement list from an index on, up to the first one whose argument is to be expanded.
+pub fn fill_from<'a>(
+    alloc: Global,
     site: &Site,
-    definition: &Definition,
+    definition: &'a Definition,
+    from: usize,
     counts: bool,
     progress: &mut Progress,
-) -> Result<Vec<Piece>, Stop>
+    pieces: &mut Vec<Piece>,
+) -> Result<Option<Whole<'a>>, Stop>
     requires { IsWithin progress.old }
-    ensures ok { IfOk result (λ pieces.
-        substitution.filled_all (expansion.expanded (macros_of macros.now)) site.now counts (bodies.parts_of definition.now) progress.old
-        ≡ Ok (fills (map piece_value pieces.items) progress.new)) }
+    ensures ok { IfOk result (λ whole. (expander : Expander) →
+        pieces_before (map piece_value pieces.old.items) (substitution.filled_all expander site.now counts (parts_from definition.now from) progress.old)
+        ≡ pieces_before (map piece_value pieces.new.items) (substitution.filled_all expander site.now counts (parts_waiting definition.now whole) progress.new)) }
     ensures follows { OnOk result (Follows progress.old progress.new) }
-    ensures stop { IfErr result (λ stop.
-        StopsAs (substitution.filled_all (expansion.expanded (macros_of macros.now)) site.now counts (bodies.parts_of definition.now) progress.old) stop) }
+    ensures inside { IfOk result (IsFrom from (length definition.now.body)) }
+    ensures stop { IfErr result (λ stop. (expander : Expander) →
+        StopsAs (pieces_before (map piece_value pieces.old.items) (substitution.filled_all expander site.now counts (parts_from definition.now from) progress.old)) stop) }
 {
-    let mut pieces = Vec::new(macros.alloc);
-    'parts: for index in 0..definition.body.len() {
-        fill_at(
-            macros,
-            site,
-            definition,
-            index,
-            counts,
-            progress,
-            &mut pieces,
-        )?;
+    'parts: for index in from..definition.body.len() {
+        let whole = fill_at(alloc, site, definition, index, counts, progress, pieces)?;
+        if whole.is_some() {
+            return Ok(whole);
+        }
     }
-    Ok(pieces)
+    Ok(None)
 }
 
 // Adds a hide set to each of these tokens.
@@ -244,28 +243,26 @@ fn finish(
     Ok(done)
 }
 
-// The replacement in one expansion.
-#[cycle(expansion)]
-fn substitute(
-    macros: &Macros,
+/// The replacement in one expansion, when its parts are filled: each `##` is done, and placemarkers go.
+pub fn complete(
+    alloc: Global,
     site: &Site,
     hidden: &Hidden,
     definition: &Definition,
+    pieces: Vec<Piece>,
     progress: &mut Progress,
 ) -> Result<Vec<Item>, Stop>
     requires { IsWithin progress.old }
     ensures ok { IfOk result (λ tokens.
-        substitution.substituted (expansion.expanded (macros_of macros.now)) site.now hidden.now (bodies.parts_of definition.now) progress.old ≡ Ok (gives tokens.items progress.new)) }
+        put_together site.now hidden.now (bodies.parts_of definition.now) (fills (map piece_value pieces.items) progress.old) ≡ Ok (gives tokens.items progress.new)) }
+    ensures follows { OnOk result (Follows progress.old progress.new) }
     ensures stop { IfErr result (λ stop.
-        StopsAs (substitution.substituted (expansion.expanded (macros_of macros.now)) site.now hidden.now (bodies.parts_of definition.now) progress.old) stop) }
+        StopsAs (put_together site.now hidden.now (bodies.parts_of definition.now) (fills (map piece_value pieces.items) progress.old)) stop) }
 {
-    let alloc = macros.alloc;
-    let pastes = has_paste(definition);
-    let pieces = fill_all(macros, site, definition, !pastes, progress)?;
     let tokens = paste(alloc, site, pieces)?;
     count_if(
         progress,
-        pastes,
+        has_paste(definition),
         place_of(site),
         token_count(tokens.as_slice()),
     )?;
@@ -273,124 +270,37 @@ fn substitute(
     Ok(done)
 }
 
-// Puts tokens before others.
-fn put_before(tokens: Vec<Item>, rest: &mut VecDeque<Item>) -> Result<(), Memory>
-    ensures { OnOk result (rest.new.items ≡ tokens.items ++ rest.old.items) }
-{
-    let mut tokens = tokens;
-    'tokens: while let Some(item) = tokens.pop() {
-        rest.push_front(item)?;
-    }
-    Ok(())
-}
-
-// The expansion with this number for an invocation.
-fn site_of(definition: u32, instance: u32, name: Item, arguments: List<List<Item>>) -> Site
-    ensures { result ≡ site_with name (Expansion definition instance) arguments }
-{
-    let mark = Mark::Expansion {
-        definition,
-        instance,
-    };
-    Site {
-        name,
-        mark,
-        arguments,
-    }
-}
-
-// A macro is replaced, and its replacement stands before what follows the invocation.
-#[cycle(expansion)]
-fn replace(
-    macros: &Macros,
-    invocation: Invocation,
-    rest: &mut VecDeque<Item>,
-    progress: &mut Progress,
-) -> Result<(), Stop>
-    requires { IsWithin progress.old }
-    ensures ok { OnOk result
-        (expansion.replaced (expansion.expanded (macros_of macros.now)) (invocation_value invocation.entry rest.old.items) progress.old
-        ≡ expansion.expanded (macros_of macros.now) rest.new.items progress.new) }
-    ensures follows { OnOk result (Follows progress.old progress.new) }
-    ensures smaller { OnOk result (length rest.new.items + progress.old.spent < length rest.old.items + progress.new.spent) }
-    ensures stop { IfErr result (λ stop.
-        StopsAs (expansion.replaced (expansion.expanded (macros_of macros.now)) (invocation_value invocation.entry rest.old.items) progress.old) stop) }
-{
-    let Invocation {
-        found,
-        name,
-        arguments,
-        hidden,
-        foreign,
-    } = invocation;
-    let instance = progress.next_instance();
-    progress.begin(found.number, &name, foreign)?;
-    let site = site_of(found.number, instance, name, arguments);
-    let tokens = substitute(macros, &site, &hidden, found.definition, progress)?;
-    put_before(tokens, rest)?;
-    Ok(())
-}
-
-// The refusal of an invocation whose arguments don't fit, at its name.
-#[tactic(auto, unfolding(crate::specs::Expansion::no_arguments))]
-fn no_arguments(place: Place) -> Stop
-    ensures { result ≡ expansion.no_arguments place }
-{
-    Stop::Refused(Refusal {
-        number: 9,
-        detail: 0,
-        place,
-    })
-}
-
-// Does what the case at the head of a list asks for.
-#[cycle(expansion)]
-fn expand_next(
-    macros: &Macros,
-    item: Item,
-    rest: &mut VecDeque<Item>,
-    out: &mut Vec<Item>,
-    progress: &mut Progress,
-) -> Result<(), Stop>
-    requires { IsWithin progress.old }
-    ensures ok { OnOk result
-        (tokens_before out.old.items (expansion.expanded (macros_of macros.now) (item ∷ rest.old.items) progress.old)
-        ≡ tokens_before out.new.items (expansion.expanded (macros_of macros.now) rest.new.items progress.new)) }
-    ensures follows { OnOk result (Follows progress.old progress.new) }
-    ensures smaller { OnOk result (length rest.new.items + progress.old.spent ≤ length rest.old.items + progress.new.spent) }
-    ensures stop { IfErr result (λ stop.
-        StopsAs (tokens_before out.old.items (expansion.expanded (macros_of macros.now) (item ∷ rest.old.items) progress.old)) stop) }
-{
-    let place = item.pp.place;
-    match head_of(macros, progress, item, rest)? {
-        Head::Put(item) => {
-            out.push(item)?;
-            Ok(())
-        }
-        Head::Replace(invocation) => {
-            replace(macros, invocation, rest, progress)?;
-            Ok(())
-        }
-        Head::Refuse => Err(no_arguments(place)),
-    }
-}
-
-/// The complete expansion of a list of tokens.
-#[cycle(expansion)]
-pub fn expand_list(
-    macros: &Macros,
+/// The pieces of a parameter whose argument expands to these tokens, which count as work unless `##` is still to come.
+pub fn fill_whole(
+    alloc: Global,
+    site: &Site,
+    whole: Whole,
     tokens: Vec<Item>,
+    counts: bool,
     progress: &mut Progress,
-) -> Result<Vec<Item>, Stop>
+) -> Result<Vec<Piece>, Stop>
     requires { IsWithin progress.old }
-    ensures ok { IfOk result (λ out. expansion.expanded (macros_of macros.now) tokens.items progress.old ≡ Ok (gives out.items progress.new)) }
+    ensures ok { IfOk result (λ pieces.
+        (map piece_value pieces.items ≡ argument_pieces site.now whole.entry tokens.items)
+        × (counted_if counts site.now.name.pp.place (length (argument_pieces site.now whole.entry tokens.items)) progress.old ≡ Ok progress.new)) }
     ensures follows { OnOk result (Follows progress.old progress.new) }
-    ensures stop { IfErr result (λ stop. StopsAs (expansion.expanded (macros_of macros.now) tokens.items progress.old) stop) }
+    ensures stop { IfErr result (λ stop.
+        StopsAs (counted_if counts site.now.name.pp.place (length (argument_pieces site.now whole.entry tokens.items)) progress.old) stop) }
 {
-    let mut rest = VecDeque::from(tokens);
-    let mut out = Vec::new(macros.alloc);
-    'tokens: while let Some(item) = next_of(&mut rest) {
-        expand_next(macros, item, &mut rest, &mut out, progress)?;
-    }
-    Ok(out)
+    let placed = placed(
+        alloc,
+        site,
+        whole.token,
+        whole.parameter,
+        whole.occurrence,
+        tokens.as_slice(),
+    )?;
+    let pieces = token_pieces(alloc, placed)?;
+    count_if(
+        progress,
+        counts,
+        place_of(site),
+        piece_count(pieces.as_slice()),
+    )?;
+    Ok(pieces)
 }

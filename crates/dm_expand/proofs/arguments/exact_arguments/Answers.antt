@@ -1,7 +1,6 @@
-use Rattle.std.proofs.Common.{◌≡◌, ap, ◌∙◌, sym, arith, List, Option, Some, None, true, false}
+use Rattle.std.proofs.Common.{ap, ◌∙◌, sym, arith, List, Some, true, false}
 use Rattle.std.proofs.lemmas.Bool.{cond-true, cond-false, eq-eqb, ne_eqb, lt-ltb}
 use Rattle.dm_expand.specs.Items.{Item}
-use Rattle.dm_expand.specs.Arguments as arguments
 use Rattle.dm_expand.proofs.ArgumentLemmas.{exact-is_nothing, exact-some}
 use Rattle.dm_expand.proofs.arguments.exact_arguments.Goals as goal
 

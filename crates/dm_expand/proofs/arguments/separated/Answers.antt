@@ -1,4 +1,4 @@
-use Rattle.std.proofs.Common.{◌≡◌, ℕ, ◌-◌, ◌++◌, ◌∷◌, [], List, ap, ◌∙◌, sym, arith, length, length-append}
+use Rattle.std.proofs.Common.{ℕ, ◌-◌, ◌++◌, ◌∷◌, [], List, ap, ◌∙◌, sym, arith, length, length-append}
 use Rattle.std.proofs.lemmas.Bool.{and_parts, eqb-true}
 use Rattle.dm_expand.specs.Items.{Item}
 use Rattle.dm_expand.specs.Arguments as arguments

@@ -1,6 +1,6 @@
-use Rattle.std.proofs.Common.{◌≡◌, ◌++◌, ◌∷◌, [], List, Some, ap, ◌∙◌, sym, arith, length, length-append}
+use Rattle.std.proofs.Common.{◌∷◌, [], List, Some, ap, ◌∙◌, sym, arith, length, length-append}
 use Rattle.dm_expand.specs.Items.{Item}
-use Rattle.dm_expand.specs.Arguments.{Enclosed, enclosed_in, depth_behind}
+use Rattle.dm_expand.specs.Arguments.{enclosed_in, depth_behind}
 use Rattle.dm_expand.specs.Views.{all_inside}
 use Rattle.dm_expand.proofs.ArgumentLemmas.{inside-goes_on, inside-closes, inside-nothing}
 use Rattle.dm_expand.proofs.arguments.take_enclosed.Goals as goal

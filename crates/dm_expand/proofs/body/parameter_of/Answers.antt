@@ -1,4 +1,4 @@
-use Rattle.std.proofs.Common.{◌≡◌, ap, ◌∙◌}
+use Rattle.std.proofs.Common.{ap, ◌∙◌}
 use Rattle.std.specs.Prelude.{Some}
 use Rattle.dm_expand.proofs.BodyLemmas.{parameter_of-other, parameter_of-named, parameter_of-variable, parameter_of-word, parameter_of-fixed}
 use Rattle.dm_expand.proofs.body.parameter_of.Goals as goal

@@ -1,4 +1,4 @@
-use Rattle.std.proofs.Common.{◌≡◌, ap, ◌∙◌, sym, arith, length}
+use Rattle.std.proofs.Common.{ap, ◌∙◌, sym, arith, length}
 use Rattle.dm_expand.proofs.FillLemmas.{operands-nothing, operands-some}
 use Rattle.dm_expand.proofs.fill.operands.Goals as goal
 

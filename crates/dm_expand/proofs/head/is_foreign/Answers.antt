@@ -1,4 +1,4 @@
-use Rattle.std.proofs.Common.{◌≡◌, Bool, ap, ◌∙◌, sym, not}
+use Rattle.std.proofs.Common.{ap, ◌∙◌, not}
 use Rattle.dm_expand.specs.Items.{Item}
 use Rattle.dm_expand.specs.Trails.{begins_with, come_otherwise}
 use Rattle.dm_expand.proofs.SearchLemmas.{foreign-opening, foreign-inside, foreign-closing}

@@ -1,4 +1,4 @@
-use Rattle.std.proofs.Common.{◌≡◌, ◌++◌, ◌∷◌, [], ap, ◌∙◌, sym, map, List, Err}
+use Rattle.std.proofs.Common.{◌∷◌, [], ap, ◌∙◌, sym, map, List}
 use Rattle.dm_expand.specs.Items.{Item}
 use Rattle.dm_expand.specs.Pastes as pastes
 use Rattle.dm_expand.specs.Views.{piece_value, tokens_behind, all_before}

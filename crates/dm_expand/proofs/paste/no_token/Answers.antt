@@ -1,4 +1,4 @@
-use Rattle.std.proofs.Common.{◌≡◌, ap, ◌∙◌}
+use Rattle.std.proofs.Common.{ap, ◌∙◌}
 use Rattle.dm_macro.specs.Forms.{refused}
 use Rattle.dm_expand.specs.Items.{Item}
 use Rattle.dm_expand.specs.Pastes.{Site, no_token}

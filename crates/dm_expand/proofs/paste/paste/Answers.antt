@@ -1,4 +1,4 @@
-use Rattle.std.proofs.Common.{◌≡◌, ◌∷◌, ap, ◌∙◌, sym, map, List, Ok}
+use Rattle.std.proofs.Common.{ap, ◌∙◌, sym, map, List, Ok}
 use Rattle.dm_expand.specs.declared.paste.Piece.{Piece}
 use Rattle.dm_expand.specs.Items.{Item}
 use Rattle.dm_expand.specs.Pastes as pastes

@@ -1,4 +1,4 @@
-use Rattle.std.proofs.Common.{◌≡◌, Bool, ◌++◌, ap, ◌∙◌, sym, map, drop, set, get_or, List}
+use Rattle.std.proofs.Common.{Bool, ◌++◌, ap, ◌∙◌, map, drop, set, get_or, List}
 use Rattle.std.proofs.lemmas.List.{take_all, drop_all, append-nil}
 use Rattle.dm_token.specs.declared.expansion.Expansion.{Expansion}
 use Rattle.dm_expand.specs.Steps.{taken_by}

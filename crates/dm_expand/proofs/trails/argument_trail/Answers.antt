@@ -1,4 +1,4 @@
-use Rattle.std.proofs.Common.{◌≡◌, ◌∷◌, [], ◌++◌, ap, ◌∙◌, sym, drop, arith, append_assoc}
+use Rattle.std.proofs.Common.{◌∷◌, [], ◌++◌, ap, ◌∙◌, sym, drop, arith, append_assoc}
 use Rattle.dm_expand.specs.Trails.{past}
 use Rattle.dm_expand.proofs.TrailLemmas.{past-common, common-length}
 use Rattle.dm_expand.proofs.trails.argument_trail.Goals as goal

@@ -1,4 +1,4 @@
-use Rattle.std.proofs.Common.{◌≡◌, ◌+◌, ap, ◌∙◌, sym, arith, List, Ok}
+use Rattle.std.proofs.Common.{◌+◌, ap, ◌∙◌, sym, arith, List, Ok}
 use Rattle.dm_token.specs.declared.expansion.Mark.{Mark}
 use Rattle.dm_expand.specs.Items.{Item}
 use Rattle.dm_expand.specs.Steps.{Progress, spend}

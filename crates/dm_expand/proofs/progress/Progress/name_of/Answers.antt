@@ -1,4 +1,4 @@
-use Rattle.std.proofs.Common.{◌≡◌, ap, ◌∙◌, sym, List}
+use Rattle.std.proofs.Common.{ap, ◌∙◌, sym, List}
 use Rattle.std.proofs.lemmas.Bool.{eq-eqb, ne_eqb}
 use Rattle.std.proofs.lemmas.List.{at_drop_all}
 use Rattle.dm_token.specs.declared.place.Place.{Place}

@@ -1,5 +1,5 @@
 use Rattle.std.proofs.Common.{◌≡◌, ◌++◌, length}
-use Rattle.dm_expand.proofs.substitute.put_before.Given as goal
+use Rattle.dm_expand.proofs.machine.put_before.Given as goal
 
 abbrev pub invariant-tokens : goal.invariant-tokens
 invariant-tokens l = l.tokens.items ++ l.rest.items ≡ l.fn.tokens.items ++ l.fn.rest.items

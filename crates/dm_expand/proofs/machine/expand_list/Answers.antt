@@ -1,0 +1,58 @@
+use Rattle.std.proofs.Common.{List, Option, Result, Ok, ap, ◌∙◌, sym, subst}
+use Rattle.dm_token.specs.declared.stop.Stop.{Stop}
+use Rattle.dm_expand.specs.declared.head.Invocation as code_invocation
+use Rattle.dm_expand.specs.declared.machine.Level as code_level
+use Rattle.dm_expand.specs.declared.machine.Waiting as code_waiting
+use Rattle.dm_expand.specs.Items.{Item}
+use Rattle.dm_expand.specs.Steps.{Progress, Output}
+use Rattle.dm_expand.specs.Expansion.{Macros, expanded}
+use Rattle.dm_expand.specs.HeadViews.{macros_of}
+use Rattle.dm_expand.specs.ListViews.{gives, tokens_before}
+use Rattle.dm_expand.specs.Works.{outward, invoked_on, found_on, IsEnd}
+use Rattle.dm_expand.proofs.ProgressLemmas.{follows_itself}
+use Rattle.dm_expand.proofs.StepLemmas.{stops_handed_as}
+use Rattle.dm_expand.proofs.SubstitutionLemmas.{tokens_before-nothing}
+use Rattle.dm_expand.proofs.WorkLemmas.{outward-nothing, outward-stops}
+use Rattle.dm_expand.proofs.machine.expand_list.Goals as goal
+
+pub expansions-init : goal.expansions-init
+expansions-init c =
+    let macros : Macros = macros_of c.args.macros.now in
+    let progress : Progress = c.args.progress.now in
+    let rest : Result Output Stop = expanded macros c.from.result.items progress in
+    let start : Result Output Stop = tokens_before c.new.result.items rest in (
+      ap (λ (xs : List Item). expanded macros xs progress) (sym c.from.ensures.0)
+          ∙ sym (tokens_before-nothing rest)
+          ∙ ap (λ (xs : List Item). tokens_before xs rest) (sym c.new.ensures.items)
+          ∙ sym (outward-nothing macros start)
+          ∙ ap (λ (ws : List code_waiting.Waiting). outward macros ws start) (sym c.new-waiting.ensures.items),
+      follows_itself progress c.requires.spent,
+      c.requires,
+    )
+
+pub returns-in_err-replace-clause-stop : goal.returns-in_err-replace-clause-stop
+returns-in_err-replace-clause-stop c =
+    let macros : Macros = macros_of c.args.macros.now in
+    let progress : Progress = c.advance.new.progress in
+    let level : code_level.Level = c.advance.new.level in
+    let waiting : List code_waiting.Waiting = c.advance.new.waiting.items in
+    stops_handed_as c.from_residual-in_err-replace.result c.in_err-replace.field-0.0 (invoked_on macros level c.in-Some.invocation progress) _ c.from_residual-in_err-replace.ensures.1
+    (λ other is.
+    c.expansions.invariant.0
+    ∙ c.in_ok-invocation.ensures.found
+    ∙ ap (λ (found : Option code_invocation.Invocation). outward macros waiting (found_on macros level found progress)) c.in-Some.is
+    ∙ ap (outward macros waiting) is
+    ∙ outward-stops macros waiting other)
+    (c.in_err-replace.ensures.stop macros)
+
+pub returns-clause-ok : goal.returns-clause-ok
+returns-clause-ok c =
+    let macros : Macros = macros_of c.args.macros.now in
+    let progress : Progress = c.advance.new.progress in
+    let level : code_level.Level = c.advance.new.level in
+    let waiting : List code_waiting.Waiting = c.advance.new.waiting.items in
+    c.expansions.invariant.0
+    ∙ c.in_ok-invocation.ensures.found
+    ∙ ap (λ (found : Option code_invocation.Invocation). outward macros waiting (found_on macros level found progress)) c.in_default.is
+    ∙ ap (λ (ws : List code_waiting.Waiting). outward macros ws (Ok (gives level.out.items progress))) (subst (IsEnd waiting) c.in_default.is c.in_ok-invocation.ensures.end)
+    ∙ outward-nothing macros (Ok (gives level.out.items progress))

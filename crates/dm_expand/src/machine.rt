@@ -1,0 +1,352 @@
+ghost use Rattle.std.specs.Prelude.{◌≡◌, ◌≤◌, ◌<◌, ◌+◌, ◌-◌, suc, not, ◌∷◌, ◌++◌, IfOk, IfErr, OnOk, Ok, length, map};
+ghost use Rattle.std.specs.List.{list_any};
+ghost use Rattle.dm_macro.specs.Signs.{is_hash_hash};
+ghost use Rattle.dm_token.specs.declared.expansion.Mark.TheVariants.{Expansion};
+ghost use Rattle.dm_expand.specs.Laws.{Follows};
+ghost use Rattle.dm_expand.specs.Steps.{Progress as Progressed};
+ghost use Rattle.dm_expand.specs.Substitution.{filled_all};
+ghost use Rattle.dm_expand.specs.Expansion as expansion;
+ghost use Rattle.dm_expand.specs.Expansion.{Macros as LookedUp, expanded};
+ghost use Rattle.dm_expand.specs.Views.{StopsAs, IsWithin, piece_value};
+ghost use Rattle.dm_expand.specs.HeadViews.{macros_of, site_with};
+ghost use Rattle.dm_expand.specs.ListViews.{gives, fills, pieces_before, tokens_before};
+ghost use Rattle.dm_expand.specs.Works.{outward, load, completed, completed_from, whole_and_others, taken_up, scanned_on, invoked_on, passed_on, found_on, IsEnd};
+
+use crate::arguments::next_of;
+use crate::fill::argument_for;
+use crate::head::{Head, Invocation, Macros, head_of};
+use crate::hidden::Hidden;
+use crate::item::{Item, copied};
+use crate::paste::{Piece, Site};
+use crate::progress::Progress;
+use crate::substitute::{Whole, append, complete, fill_from, fill_whole, has_paste};
+use dm_token::{Definition, List, Mark, Memory, Place, Refusal, Stop};
+use std::alloc::Global;
+use std::collections::VecDeque;
+use std::mem;
+
+/// A list that is expanded: what is still to be scanned, and what was put out before it.
+#[derive(Drop)]
+pub struct Level {
+    pub rest: VecDeque<Item>,
+    pub out: Vec<Item>,
+}
+
+/// A replacement in the making: its expansion, the hide set that it gets, the macro's definition, and the pieces of the
+/// parts that are filled.
+#[derive(Drop)]
+pub struct Filling<'a> {
+    pub site: Site,
+    pub hidden: Hidden,
+    pub definition: &'a Definition,
+    pub pieces: Vec<Piece>,
+}
+
+/// A replacement that waits for the expansion of an argument, with the list that it goes into.
+#[derive(Drop)]
+pub struct Waiting<'a> {
+    pub level: Level,
+    pub filling: Filling<'a>,
+    pub whole: Whole<'a>,
+}
+
+// Puts tokens before others.
+fn put_before(tokens: Vec<Item>, rest: &mut VecDeque<Item>) -> Result<(), Memory>
+    ensures { OnOk result (rest.new.items ≡ tokens.items ++ rest.old.items) }
+{
+    let mut tokens = tokens;
+    'tokens: while let Some(item) = tokens.pop() {
+        rest.push_front(item)?;
+    }
+    Ok(())
+}
+
+// The expansion with this number for an invocation.
+fn site_of(definition: u32, instance: u32, name: Item, arguments: List<List<Item>>) -> Site
+    ensures { result ≡ site_with name (Expansion definition instance) arguments }
+{
+    let mark = Mark::Expansion {
+        definition,
+        instance,
+    };
+    Site {
+        name,
+        mark,
+        arguments,
+    }
+}
+
+// The refusal of an invocation whose arguments don't fit, at its name.
+#[tactic(auto, unfolding(crate::specs::Expansion::no_arguments))]
+fn no_arguments(place: Place) -> Stop
+    ensures { result ≡ expansion.no_arguments place }
+{
+    Stop::Refused(Refusal {
+        number: 9,
+        detail: 0,
+        place,
+    })
+}
+
+// Makes an argument's list the one that is expanded, and the one before it waits.
+fn enter<'a>(
+    alloc: Global,
+    filling: Filling<'a>,
+    whole: Whole<'a>,
+    level: &mut Level,
+    waiting: &mut Vec<Waiting<'a>>,
+) -> Result<(), Memory>
+    ensures ok { OnOk result ((macros : LookedUp) (progress : Progressed) →
+        outward macros waiting.old.items (completed macros level.old filling.entry.site filling.entry.hidden filling.entry.definition.now (pieces_before (map piece_value filling.entry.pieces.items)
+        (filled_all (expanded macros) filling.entry.site (not (list_any is_hash_hash filling.entry.definition.now.body)) (whole_and_others filling.entry.definition.now whole.entry) progress)))
+        ≡ outward macros waiting.new.items (scanned_on macros level.new progress)) }
+    ensures load { OnOk result (load waiting.new.items ≡ load waiting.old.items + suc (length filling.entry.definition.now.body - whole.entry.behind)) }
+{
+    let argument = copied(alloc, argument_for(&filling.site, whole.parameter))?;
+    let inner = Level {
+        rest: VecDeque::from(argument),
+        out: Vec::new(alloc),
+    };
+    let outer = mem::replace(level, inner);
+    waiting.push(Waiting {
+        level: outer,
+        filling,
+        whole,
+    })?;
+    Ok(())
+}
+
+// Puts a replacement before what follows its invocation.
+fn leave(
+    alloc: Global,
+    filling: Filling,
+    level: &mut Level,
+    progress: &mut Progress,
+) -> Result<(), Stop>
+    requires { IsWithin progress.old }
+    ensures ok { OnOk result ((macros : LookedUp) →
+        completed macros level.old filling.entry.site filling.entry.hidden filling.entry.definition.now (Ok (fills (map piece_value filling.entry.pieces.items) progress.old))
+        ≡ scanned_on macros level.new progress.new) }
+    ensures follows { OnOk result (Follows progress.old progress.new) }
+    ensures stop { IfErr result (λ stop. (macros : LookedUp) →
+        StopsAs (completed macros level.old filling.entry.site filling.entry.hidden filling.entry.definition.now (Ok (fills (map piece_value filling.entry.pieces.items) progress.old))) stop) }
+{
+    let Filling {
+        site,
+        hidden,
+        definition,
+        pieces,
+    } = filling;
+    let tokens = complete(alloc, &site, &hidden, definition, pieces, progress)?;
+    put_before(tokens, &mut level.rest)?;
+    Ok(())
+}
+
+// Goes on with a replacement from one of its parts on.
+fn go_on<'a>(
+    alloc: Global,
+    filling: Filling<'a>,
+    from: usize,
+    level: &mut Level,
+    waiting: &mut Vec<Waiting<'a>>,
+    progress: &mut Progress,
+) -> Result<(), Stop>
+    requires { IsWithin progress.old }
+    ensures ok { OnOk result ((macros : LookedUp) →
+        outward macros waiting.old.items (completed_from macros level.old filling.entry from progress.old) ≡ outward macros waiting.new.items (scanned_on macros level.new progress.new)) }
+    ensures follows { OnOk result (Follows progress.old progress.new) }
+    ensures load { OnOk result (load waiting.new.items ≤ load waiting.old.items + (length filling.entry.definition.now.body - from)) }
+    ensures stop { IfErr result (λ stop. (macros : LookedUp) → StopsAs (completed_from macros level.old filling.entry from progress.old) stop) }
+{
+    let Filling {
+        site,
+        hidden,
+        definition,
+        pieces,
+    } = filling;
+    let mut pieces = pieces;
+    let counts = !has_paste(definition);
+    let left = fill_from(
+        alloc,
+        &site,
+        definition,
+        from,
+        counts,
+        progress,
+        &mut pieces,
+    )?;
+    let filling = Filling {
+        site,
+        hidden,
+        definition,
+        pieces,
+    };
+    match left {
+        Some(whole) => {
+            enter(alloc, filling, whole, level, waiting)?;
+            Ok(())
+        }
+        None => {
+            leave(alloc, filling, level, progress)?;
+            Ok(())
+        }
+    }
+}
+
+// Takes up a replacement that waited for the expansion of an argument, which is put out now.
+fn take_up<'a>(
+    alloc: Global,
+    waits: Waiting<'a>,
+    level: &mut Level,
+    waiting: &mut Vec<Waiting<'a>>,
+    progress: &mut Progress,
+) -> Result<(), Stop>
+    requires { IsWithin progress.old }
+    ensures ok { OnOk result ((macros : LookedUp) →
+        outward macros waiting.old.items (taken_up macros waits.entry (Ok (gives level.old.out.items progress.old))) ≡ outward macros waiting.new.items (scanned_on macros level.new progress.new)) }
+    ensures follows { OnOk result (Follows progress.old progress.new) }
+    ensures load { OnOk result (load waiting.new.items < load waiting.old.items + suc (length waits.entry.filling.definition.now.body - waits.entry.whole.behind)) }
+    ensures stop { IfErr result (λ stop. (macros : LookedUp) → StopsAs (taken_up macros waits.entry (Ok (gives level.old.out.items progress.old))) stop) }
+{
+    let Waiting {
+        level: outer,
+        filling,
+        whole,
+    } = waits;
+    let mut filling = filling;
+    let Level { rest: _, out } = mem::replace(level, outer);
+    let counts = !has_paste(filling.definition);
+    let more = fill_whole(alloc, &filling.site, whole, out, counts, progress)?;
+    append(&mut filling.pieces, more)?;
+    go_on(alloc, filling, whole.behind, level, waiting, progress)?;
+    Ok(())
+}
+
+// Does what the case at the head of a list asks for, unless a macro is to be replaced.
+fn scan_next<'a>(
+    macros: &Macros<'a>,
+    progress: &Progress,
+    item: Item,
+    level: &mut Level,
+) -> Result<Option<Invocation<'a>>, Stop>
+    requires { IsWithin progress.now }
+    ensures found { IfOk result (λ found.
+        tokens_before level.old.out.items (expanded (macros_of macros.now) (item ∷ level.old.rest.items) progress.now) ≡ passed_on (macros_of macros.now) level.new found progress.now) }
+    ensures shorter { OnOk result (length level.new.rest.items ≤ length level.old.rest.items) }
+    ensures stop { IfErr result (λ stop.
+        StopsAs (tokens_before level.old.out.items (expanded (macros_of macros.now) (item ∷ level.old.rest.items) progress.now)) stop) }
+{
+    let place = item.pp.place;
+    match head_of(macros, progress, item, &mut level.rest)? {
+        Head::Put(item) => {
+            level.out.push(item)?;
+            Ok(None)
+        }
+        Head::Replace(invocation) => Ok(Some(invocation)),
+        Head::Refuse => Err(no_arguments(place)),
+    }
+}
+
+// Scans a list up to the next macro that is to be replaced.
+fn scan<'a>(
+    macros: &Macros<'a>,
+    progress: &Progress,
+    level: &mut Level,
+) -> Result<Option<Invocation<'a>>, Stop>
+    requires { IsWithin progress.now }
+    ensures found { IfOk result (λ found. scanned_on (macros_of macros.now) level.old progress.now ≡ found_on (macros_of macros.now) level.new found progress.now) }
+    ensures stop { IfErr result (λ stop. StopsAs (scanned_on (macros_of macros.now) level.old progress.now) stop) }
+{
+    'tokens: while let Some(item) = next_of(&mut level.rest) {
+        let found = scan_next(macros, progress, item, level)?;
+        if found.is_some() {
+            return Ok(found);
+        }
+    }
+    Ok(None)
+}
+
+// Goes on up to the next macro that is to be replaced.
+fn advance<'a>(
+    macros: &Macros<'a>,
+    level: &mut Level,
+    waiting: &mut Vec<Waiting<'a>>,
+    progress: &mut Progress,
+) -> Result<Option<Invocation<'a>>, Stop>
+    requires { IsWithin progress.old }
+    ensures found { IfOk result (λ found.
+        outward (macros_of macros.now) waiting.old.items (scanned_on (macros_of macros.now) level.old progress.old)
+        ≡ outward (macros_of macros.now) waiting.new.items (found_on (macros_of macros.now) level.new found progress.new)) }
+    ensures end { IfOk result (IsEnd waiting.new.items) }
+    ensures follows { OnOk result (Follows progress.old progress.new) }
+    ensures stop { IfErr result (λ stop.
+        StopsAs (outward (macros_of macros.now) waiting.old.items (scanned_on (macros_of macros.now) level.old progress.old)) stop) }
+{
+    'levels: loop {
+        let found = scan(macros, progress, level)?;
+        if found.is_some() {
+            return Ok(found);
+        }
+        let Some(waits) = waiting.pop() else {
+            return Ok(None);
+        };
+        take_up(macros.alloc, waits, level, waiting, progress)?;
+    }
+}
+
+// A macro is replaced, as far as no argument is to be expanded first.
+fn replace<'a>(
+    alloc: Global,
+    invocation: Invocation<'a>,
+    level: &mut Level,
+    waiting: &mut Vec<Waiting<'a>>,
+    progress: &mut Progress,
+) -> Result<(), Stop>
+    requires { IsWithin progress.old }
+    ensures ok { OnOk result ((macros : LookedUp) →
+        outward macros waiting.old.items (invoked_on macros level.old invocation.entry progress.old) ≡ outward macros waiting.new.items (scanned_on macros level.new progress.new)) }
+    ensures follows { OnOk result (Follows progress.old progress.new) }
+    ensures rises { OnOk result (progress.old.spent < progress.new.spent) }
+    ensures stop { IfErr result (λ stop. (macros : LookedUp) → StopsAs (invoked_on macros level.old invocation.entry progress.old) stop) }
+{
+    let Invocation {
+        found,
+        name,
+        arguments,
+        hidden,
+        foreign,
+    } = invocation;
+    let instance = progress.next_instance();
+    progress.begin(found.number, &name, foreign)?;
+    let filling = Filling {
+        site: site_of(found.number, instance, name, arguments),
+        hidden,
+        definition: found.definition,
+        pieces: Vec::new(alloc),
+    };
+    go_on(alloc, filling, 0, level, waiting, progress)?;
+    Ok(())
+}
+
+/// The complete expansion of a list of tokens.
+pub fn expand_list(
+    macros: &Macros,
+    tokens: Vec<Item>,
+    progress: &mut Progress,
+) -> Result<Vec<Item>, Stop>
+    requires { IsWithin progress.old }
+    ensures ok { IfOk result (λ out. expansion.expanded (macros_of macros.now) tokens.items progress.old ≡ Ok (gives out.items progress.new)) }
+    ensures follows { OnOk result (Follows progress.old progress.new) }
+    ensures stop { IfErr result (λ stop. StopsAs (expansion.expanded (macros_of macros.now) tokens.items progress.old) stop) }
+{
+    let mut level = Level {
+        rest: VecDeque::from(tokens),
+        out: Vec::new(macros.alloc),
+    };
+    let mut waiting = Vec::new(macros.alloc);
+    'expansions: while let Some(invocation) = advance(macros, &mut level, &mut waiting, progress)? {
+        replace(macros.alloc, invocation, &mut level, &mut waiting, progress)?;
+    }
+    let Level { rest: _, out } = level;
+    Ok(out)
+}
