@@ -1,6 +1,7 @@
 -- Hide sets that are kept as lists of their numbers.
-use Rattle.std.proofs.Common.{◌≡◌, ℕ, Bool, true, false, cond, ◌&&◌, List, [], ◌∷◌, ◌++◌, refl, sym, ◌∙◌, nat_eq, rules}
+use Rattle.std.proofs.Common.{◌||◌, ap, ◌≡◌, ℕ, Bool, true, false, cond, ◌&&◌, List, [], ◌∷◌, ◌++◌, refl, sym, ◌∙◌, nat_eq, rules}
 use Rattle.std.specs.List.{list_any, filter}
+use Rattle.std.proofs.lemmas.List.Folds.{list_any-append}
 use Rattle.std.specs.Ordering.{nat_cmp}
 use Rattle.std.specs.Cmp.{nat_cmp_total}
 use Rattle.std.specs.FinSet as set
@@ -48,3 +49,51 @@ kept t (y ∷ ys) q = kept_first t y q ys (set.contains t y) refl (kept t ys q)
 -- the numbers of a list that a set has are those of both
 pub filter-is : (t : set.FinSet nat_cmp) (xs : List ℕ) → of_list (filter (set.contains t) xs) ≡ set.intersection (of_list xs) t
 filter-is t xs = same _ _ (λ q. kept t xs q ∙ sym (set.contains-intersection nat_cmp_total (of_list xs) t q))
+
+-- a list with more behind it has the numbers of both
+append-is : (xs ys : List ℕ) (q : ℕ) → set.contains (of_list (xs ++ ys)) q ≡ (set.contains (of_list xs) q || set.contains (of_list ys) q)
+append-is xs ys q =
+    contains-from_list_nat (xs ++ ys) q
+    ∙ list_any-append (λ other. nat_eq other q) xs ys
+    ∙ ap (λ b. b || list_any (λ other. nat_eq other q) ys) (sym (contains-from_list_nat xs q))
+    ∙ ap (λ b. set.contains (of_list xs) q || b) (sym (contains-from_list_nat ys q))
+
+within_left : (a b : Bool) → (a || b) ≡ (a || (a || b))
+within_left true b = refl
+within_left false b = refl
+
+within_right : (a b : Bool) → (a || b) ≡ ((a || b) || a)
+within_right true b = refl
+within_right false true = refl
+within_right false false = refl
+
+within_both : (a b : Bool) → a ≡ (a && (a || b))
+within_both true b = refl
+within_both false b = refl
+
+-- a set whose numbers come first among another's
+pub union-front : (mine theirs rest : List ℕ) (s t : set.FinSet nat_cmp) → of_list mine ≡ s → of_list theirs ≡ t → theirs ≡ mine ++ rest → t ≡ set.union s t
+union-front mine theirs rest s t is are front =
+    sym are
+    ∙ ap of_list front
+    ∙ same _ _ (λ q. append-is mine rest q ∙ within_left (set.contains (of_list mine) q) (set.contains (of_list rest) q)
+    ∙ ap (λ b. set.contains (of_list mine) q || b) (sym (append-is mine rest q)) ∙ sym (set.contains-union nat_cmp_total (of_list mine) (of_list (mine ++ rest)) q))
+    ∙ ap (λ u. set.union (of_list mine) u) (ap of_list (sym front) ∙ are)
+    ∙ ap (λ u. set.union u t) is
+
+pub union-back : (mine theirs rest : List ℕ) (s t : set.FinSet nat_cmp) → of_list mine ≡ s → of_list theirs ≡ t → mine ≡ theirs ++ rest → s ≡ set.union s t
+union-back mine theirs rest s t is are back =
+    sym is
+    ∙ ap of_list back
+    ∙ same _ _ (λ q. append-is theirs rest q ∙ within_right (set.contains (of_list theirs) q) (set.contains (of_list rest) q)
+    ∙ ap (λ b. b || set.contains (of_list theirs) q) (sym (append-is theirs rest q)) ∙ sym (set.contains-union nat_cmp_total (of_list (theirs ++ rest)) (of_list theirs) q))
+    ∙ ap (λ u. set.union u (of_list theirs)) (ap of_list (sym back) ∙ is)
+    ∙ ap (λ u. set.union s u) are
+
+pub meet-front : (mine theirs rest : List ℕ) (s t : set.FinSet nat_cmp) → of_list mine ≡ s → of_list theirs ≡ t → theirs ≡ mine ++ rest → s ≡ set.intersection s t
+meet-front mine theirs rest s t is are front =
+    sym is
+    ∙ same _ _ (λ q. within_both (set.contains (of_list mine) q) (set.contains (of_list rest) q)
+    ∙ ap (λ b. set.contains (of_list mine) q && b) (sym (append-is mine rest q)) ∙ sym (set.contains-intersection nat_cmp_total (of_list mine) (of_list (mine ++ rest)) q))
+    ∙ ap (λ u. set.intersection (of_list mine) u) (ap of_list (sym front) ∙ are)
+    ∙ ap (λ u. set.intersection u t) is

@@ -12,5 +12,6 @@ pub mod SearchLemmas
 pub mod StepLemmas
 pub mod StringLemmas
 pub mod SubstitutionLemmas
+pub mod TakeLemmas
 pub mod TrailLemmas
 pub mod WorkLemmas

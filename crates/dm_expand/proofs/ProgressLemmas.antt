@@ -44,12 +44,12 @@ follows_on p q r first second =
       numbered = λ from numbered. second.numbered from (first.numbered from numbered);
     }
 
-taken-numbered : (argument : List Item) (first : ℕ) (made : List Expansion) (next : ℕ) → AreNumbered first made next → AreNumbered first (map (taken_by argument) made) next
+pub taken-numbered : (argument : List Item) (first : ℕ) (made : List Expansion) (next : ℕ) → AreNumbered first made next → AreNumbered first (map (taken_by argument) made) next
 unfolding taken_by
 taken-numbered argument first [] next numbered = numbered
 taken-numbered argument first (one ∷ made) next numbered = (numbered.0, taken-numbered argument (suc first) made next numbered.1)
 
-push-numbered : (one : Expansion) (first : ℕ) (made : List Expansion) → AreNumbered first made one.instance → AreNumbered first (made ++ one ∷ []) (suc one.instance)
+pub push-numbered : (one : Expansion) (first : ℕ) (made : List Expansion) → AreNumbered first made one.instance → AreNumbered first (made ++ one ∷ []) (suc one.instance)
 push-numbered one first [] numbered = (sym numbered, ap suc numbered)
 push-numbered one first (other ∷ made) numbered = (numbered.0, push-numbered one (suc first) made numbered.1)
 

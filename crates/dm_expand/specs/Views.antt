@@ -1,5 +1,8 @@
 -- What the code's values and answers mean.
-use Rattle.std.specs.Prelude.{◌≡◌, ◌≤◌, Bool, true, false, List, [], ◌∷◌, ◌++◌, Option, None, Some, Result, Ok, Err}
+use Rattle.std.specs.Prelude.{◌≡◌, ◌≤◌, ◌||◌, ℕ, Bool, true, false, List, [], ◌∷◌, ◌++◌, Option, None, Some, Result, Ok, Err}
+use Rattle.std.specs.List.{list_any}
+use Rattle.dm_token.specs.declared.expansion.Expansion.{Expansion}
+use Rattle.dm_token.specs.declared.expansion.Mark.{Mark}
 use Rattle.dm_token.specs.declared.stop.Stop.{Stop}
 use Rattle.dm_token.specs.declared.stop.Stop.TheVariants.{Memory, Refused, Limit, ReadFault}
 use Rattle.dm_token.specs.declared.token.PpToken.{PpToken}
@@ -9,6 +12,8 @@ use Rattle.dm_expand.specs.declared.body.Role.TheVariants.{Plain, Hash, Beside, 
 use Rattle.dm_expand.specs.declared.paste.Piece as code_piece
 use Rattle.dm_expand.specs.declared.paste.Piece.TheVariants.{Token, Placemarker, Operator}
 use Rattle.dm_expand.specs.Items.{Item}
+use Rattle.dm_expand.specs.Trails.{marks_instance}
+use Rattle.dm_expand.specs.Laws.{AreNumbered}
 use Rattle.dm_expand.specs.Steps.{Progress, greatest_work, ◌>>=◌}
 use Rattle.dm_expand.specs.Arguments.{Enclosed}
 use Rattle.dm_expand.specs.Bodies.{Part, plain, hash, beside, whole, paste}
@@ -20,6 +25,14 @@ StopsAs meaning Memory = Unit {0}
 StopsAs meaning (Refused refusal) = meaning ≡ Err (Refused refusal)
 StopsAs meaning (Limit limit) = meaning ≡ Err (Limit limit)
 StopsAs meaning (ReadFault file) = meaning ≡ Err (ReadFault file)
+
+-- the expansions are numbered from this number on
+abbrev pub AreNumberedSo : ℕ → List Expansion → Type 0
+AreNumberedSo first expansions = (next : ℕ) × AreNumbered first expansions next
+
+-- an expansion is taken where it was before, or where a trail has its mark
+abbrev pub taken_along : List Mark → Expansion → Expansion
+taken_along trail made = record made { taken = made.taken || list_any (marks_instance made.instance) trail }
 
 -- the work keeps its limit, and each expansion counts as work
 pub record IsWithin (progress : Progress) : Type 0 where

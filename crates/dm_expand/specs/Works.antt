@@ -8,7 +8,7 @@ use Rattle.dm_macro.specs.HideSets.{HiddenNumbers}
 use Rattle.dm_macro.specs.Signs.{is_hash_hash}
 use Rattle.dm_expand.specs.declared.body.Role.{Role}
 use Rattle.dm_expand.specs.declared.substitute.Content as code_content
-use Rattle.dm_expand.specs.declared.substitute.Content.TheVariants.{Pieces, Whole}
+use Rattle.dm_expand.specs.declared.substitute.Content.TheVariants.{One, Pieces, Whole}
 use Rattle.dm_expand.specs.declared.substitute.Whole as code_whole
 use Rattle.dm_expand.specs.declared.head.Invocation as code_invocation
 use Rattle.dm_expand.specs.declared.machine.Level as code_level
@@ -27,6 +27,7 @@ use Rattle.dm_expand.specs.ListViews.{gives, fills, pieces_before, tokens_before
 
 -- what a part is filled with at once, or that its argument is expanded first
 abbrev pub IsContent : Site → PpToken → Role → Progress → Progress → code_content.Content → Type 0
+IsContent site pp role before after (One piece) = (expander : Expander) → filled expander site (part_with pp role) before ≡ Ok (fills (piece_value piece ∷ []) after)
 IsContent site pp role before after (Pieces pieces) = (expander : Expander) → filled expander site (part_with pp role) before ≡ Ok (fills (map piece_value pieces.items) after)
 IsContent site pp role before after (Whole parameter occurrence) = (part_with pp role ≡ whole pp parameter occurrence) × (after ≡ before)
 

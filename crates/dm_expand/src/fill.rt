@@ -1,10 +1,11 @@
-ghost use Rattle.std.specs.Prelude.{◌≡◌, [], ◌∷◌, IfOk, map};
+ghost use Rattle.std.specs.Prelude.{◌≡◌, ℕ, [], ◌∷◌, ◌++◌, IfOk, map};
 ghost use Rattle.dm_token.specs.declared.expansion.Mark.TheVariants.{Argument};
 ghost use Rattle.dm_token.specs.declared.token.PpKind.TheVariants.{Literal};
 ghost use Rattle.dm_expand.specs.Items.{first_with_blank};
 ghost use Rattle.dm_expand.specs.Pastes as pastes;
 ghost use Rattle.dm_expand.specs.Strings.{quoted as string_of};
 ghost use Rattle.dm_expand.specs.Steps.{take_argument};
+ghost use Rattle.dm_expand.specs.Trails.{body_trail};
 ghost use Rattle.dm_expand.specs.Substitution as substitution;
 ghost use Rattle.dm_expand.specs.Views.{piece_value};
 ghost use Rattle.std.specs.FinSet as set;
@@ -16,7 +17,7 @@ use crate::paste::{Piece, Site, make_token};
 use crate::progress::Progress;
 use crate::string::quoted;
 use crate::trails::{argument_trail, grown};
-use dm_token::{Mark, Memory, PpKind, PpToken};
+use dm_token::{Mark, Memory, PpKind, PpToken, Trail};
 use std::alloc::Global;
 use std::collections::VecDeque;
 
@@ -32,16 +33,14 @@ pub fn argument_for<'a>(site: &'a Site, parameter: usize) -> &'a [Item]
 }
 
 /// A token of the replacement list itself.
-#[tactic(auto, unfolding(crate::specs::Substitution::body_item, crate::specs::Trails::body_trail))]
+#[tactic(auto, unfolding(crate::specs::Substitution::body_item))]
 pub fn body_item(alloc: Global, site: &Site, token: &PpToken) -> Result<Item, Memory>
     ensures { IfOk result (λ item. item ≡ substitution.body_item site.now token.now) }
 {
-    let name = &site.name;
-    let trail = grown(&name.trail, site.mark)?;
     Ok(Item {
         pp: token.copy()?,
         hidden: Hidden::nothing(alloc),
-        trail,
+        trail: site.inside.copy()?,
     })
 }
 
@@ -59,20 +58,13 @@ fn argument_mark(parameter: usize, occurrence: usize) -> Result<Mark, Memory>
 }
 
 // An argument's token that came to one of its parameter's places.
-#[tactic(auto, unfolding(crate::specs::Substitution::argument_item, crate::specs::Trails::argument_trail, crate::specs::Trails::body_trail))]
-fn argument_item(
-    alloc: Global,
-    site: &Site,
-    parameter: usize,
-    occurrence: usize,
-    item: &Item,
-) -> Result<Item, Memory>
-    ensures { IfOk result (λ placed. placed ≡ substitution.argument_item site.now parameter occurrence item.now) }
+#[tactic(auto, unfolding(crate::specs::Substitution::argument_item, crate::specs::Trails::argument_trail))]
+fn argument_item(alloc: Global, site: &Site, base: &Trail, item: &Item) -> Result<Item, Memory>
+    ensures { IfOk result (λ placed. (parameter occurrence : ℕ) →
+        base.now ≡ body_trail site.now.name.trail site.now.mark ++ Argument parameter occurrence ∷ [] → placed ≡ substitution.argument_item site.now parameter occurrence item.now) }
 {
     let name = &site.name;
-    let argument = argument_mark(parameter, occurrence)?;
-    let expanded = grown(&name.trail, site.mark)?;
-    let trail = argument_trail(alloc, &name.trail, &expanded, argument, &item.trail)?;
+    let trail = argument_trail(alloc, &name.trail, base, &item.trail)?;
     Ok(Item {
         pp: item.pp.copy()?,
         hidden: item.hidden.copy()?,
@@ -90,9 +82,11 @@ fn argument_items(
 ) -> Result<Vec<Item>, Memory>
     ensures { IfOk result (λ placed. placed.items ≡ map (substitution.argument_item site.now parameter occurrence) items.now) }
 {
-    let mut placed = Vec::new(alloc);
+    let mark = argument_mark(parameter, occurrence)?;
+    let base = grown(&site.inside, mark)?;
+    let mut placed = Vec::with_capacity(alloc, items.len())?;
     for item in items {
-        let one = argument_item(alloc, site, parameter, occurrence, item)?;
+        let one = argument_item(alloc, site, &base, item)?;
         placed.push(one)?;
     }
     Ok(placed)
@@ -125,8 +119,8 @@ pub fn placed(
     Ok(placed)
 }
 
-/// One piece.
-pub fn one_piece(alloc: Global, piece: Piece) -> Result<Vec<Piece>, Memory>
+// One piece.
+fn one_piece(alloc: Global, piece: Piece) -> Result<Vec<Piece>, Memory>
     ensures { IfOk result (λ pieces. map piece_value pieces.items ≡ piece_value piece ∷ []) }
 {
     let mut pieces = Vec::new(alloc);
@@ -138,8 +132,8 @@ pub fn one_piece(alloc: Global, piece: Piece) -> Result<Vec<Piece>, Memory>
 pub fn token_pieces(alloc: Global, tokens: Vec<Item>) -> Result<Vec<Piece>, Memory>
     ensures { IfOk result (λ pieces. map piece_value pieces.items ≡ map pastes.token tokens.items) }
 {
+    let mut pieces = Vec::with_capacity(alloc, tokens.len())?;
     let mut queue = VecDeque::from(tokens);
-    let mut pieces = Vec::new(alloc);
     'tokens: while let Some(item) = next_of(&mut queue) {
         pieces.push(Piece::Token(item))?;
     }
@@ -153,9 +147,8 @@ pub fn fill_hash(
     token: &PpToken,
     parameter: usize,
     progress: &mut Progress,
-) -> Result<Vec<Piece>, Memory>
-    ensures pieces { IfOk result (λ pieces. map piece_value pieces.items
-        ≡ pastes.token (pastes.made site.now Literal (string_of (substitution.argument_for site.now parameter)) token.now.blank_before set.empty) ∷ []) }
+) -> Result<Item, Memory>
+    ensures made { IfOk result (λ made. made ≡ pastes.made site.now Literal (string_of (substitution.argument_for site.now parameter)) token.now.blank_before set.empty) }
     ensures taken { progress.new ≡ take_argument (substitution.argument_for site.now parameter) progress.old }
 {
     let argument = argument_for(site, parameter);
@@ -168,8 +161,7 @@ pub fn fill_hash(
         token.blank_before,
         Hidden::nothing(alloc),
     )?;
-    let pieces = one_piece(alloc, Piece::Token(made))?;
-    Ok(pieces)
+    Ok(made)
 }
 
 /// A parameter beside `##`: its argument as it is, or a placemarker where that is empty (6.10.3.3p2).

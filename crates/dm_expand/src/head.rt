@@ -76,8 +76,7 @@ fn macro_of<'a>(macros: &Macros<'a>, token: &PpToken) -> Option<Macro<'a>>
 fn object_like<'a>(alloc: Global, found: Macro<'a>, name: Item) -> Result<Head<'a>, Memory>
     ensures { IfOk result (λ head. (rest : List Token) → head_value rest head ≡ expansion.object_like (macro_value found.entry) name rest) }
 {
-    let mut hidden = name.hidden.copy()?;
-    hidden.add(found.number)?;
+    let hidden = name.hidden.with(found.number)?;
     Ok(Head::Replace(Invocation {
         found,
         name,
@@ -89,7 +88,6 @@ fn object_like<'a>(alloc: Global, found: Macro<'a>, name: Item) -> Result<Head<'
 
 // A function-like macro's name, the `)` that closes the invocation, and the arguments.
 fn with_arguments<'a>(
-    alloc: Global,
     found: Macro<'a>,
     name: Item,
     closing: &Item,
@@ -99,8 +97,8 @@ fn with_arguments<'a>(
     ensures puts_nothing { IfOk result PutsNothing }
     ensures head { IfOk result (λ head. (rest : List Token) → head_value rest head ≡ replace_with (macro_value found.entry) name arguments (set.insert (set.intersection name.hidden closing.now.hidden) found.entry.number) foreign rest) }
 {
-    let mut hidden = Hidden::meet(alloc, &name.hidden, &closing.hidden)?;
-    hidden.add(found.number)?;
+    let both = name.hidden.meet(&closing.hidden)?;
+    let hidden = both.with(found.number)?;
     Ok(Head::Replace(Invocation {
         found,
         name,
@@ -145,7 +143,7 @@ fn enclosing<'a>(
     let Some(arguments) = arguments_of(alloc, found.definition, inside)? else {
         return Ok(Head::Refuse);
     };
-    let head = with_arguments(alloc, found, name, &closing, foreign, arguments)?;
+    let head = with_arguments(found, name, &closing, foreign, arguments)?;
     Ok(head)
 }
 

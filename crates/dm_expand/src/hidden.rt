@@ -1,4 +1,4 @@
-ghost use Rattle.std.specs.Prelude.{◌≡◌, ℕ, Bool, List, IfOk, OnOk, nat_eq};
+ghost use Rattle.std.specs.Prelude.{◌≡◌, ℕ, Bool, List, ◌++◌, drop, length, IsTrue, IfOk, OnOk, nat_eq};
 ghost use Rattle.std.specs.List.{list_any};
 ghost use Rattle.std.specs.Ordering.{nat_cmp};
 ghost use Rattle.std.specs.FinSet as set;
@@ -6,23 +6,27 @@ ghost use Rattle.std.specs.FinSet as set;
 use dm_token::Memory;
 use std::alloc::Global;
 use std::marker::Model;
+use std::rc::Rc;
 
-/// The macros that are hidden for a token (6.10.3.4p2). Contracts see the set of their definitions' numbers.
+/// The macros that are hidden for a token (6.10.3.4p2). Contracts see the set of their definitions' numbers. Tokens share
+/// their sets, so a copy takes no memory.
 #[derive(Drop)]
 pub struct Hidden {
-    numbers: Vec<u32>,
+    alloc: Global,
+    numbers: Option<Rc<Vec<u32>>>,
 }
 
 impl Model for Hidden {
     ghost use Rattle.std.specs.Coded.{coded_ℕ};
     ghost use Rattle.std.specs.FinSet as set;
     ghost use Rattle.dm_macro.specs.HideSets.{HiddenNumbers};
+    ghost use Rattle.dm_expand.specs.Hides.{numbers_of};
 
     ghost Value = { HiddenNumbers };
 
     ghost coded = { set.code coded_ℕ };
 
-    ghost view = { λ hidden. set.from_list hidden.numbers.items };
+    ghost view = { λ hidden. set.from_list (numbers_of hidden.numbers) };
 }
 
 impl Hidden {
@@ -31,53 +35,113 @@ impl Hidden {
         ensures { result ≡ set.empty }
     {
         Hidden {
-            numbers: Vec::new(alloc),
+            alloc,
+            numbers: None,
+        }
+    }
+
+    // The set of these numbers.
+    fn of(alloc: Global, numbers: Vec<u32>) -> Result<Hidden, Memory>
+        ensures { IfOk result (λ hidden. hidden ≡ set.from_list numbers.items) }
+    {
+        let shared = Rc::new(alloc, numbers)?;
+        Ok(Hidden {
+            alloc,
+            numbers: Some(shared),
+        })
+    }
+
+    // Its numbers, in the order in which they were put in.
+    fn numbers(&self) -> &[u32]
+        ensures { set.from_list {R = nat_cmp} result.now ≡ self.now }
+    {
+        match &self.numbers {
+            None => &[],
+            Some(shared) => shared.as_ref().as_slice(),
         }
     }
 
     pub fn holds(&self, number: u32) -> bool
         ensures { result ≡ set.contains self.now number }
     {
-        is_among(self.numbers.as_slice(), number)
+        is_among(self.numbers(), number)
     }
 
-    /// Hides one macro more.
-    pub fn add(&mut self, number: u32) -> Result<(), Memory>
-        ensures { OnOk result (self.new ≡ set.insert self.old number) }
+    /// The set with one macro more.
+    pub fn with(&self, number: u32) -> Result<Hidden, Memory>
+        ensures { IfOk result (λ more. more ≡ set.insert self.now number) }
     {
-        add_to(&mut self.numbers, number)
+        let mine = self.numbers();
+        let mut all = copied(self.alloc, mine)?;
+        add_to(&mut all, number)?;
+        let more = Hidden::of(self.alloc, all)?;
+        Ok(more)
     }
 
-    /// Hides what another set hides too.
-    pub fn join(&mut self, other: &Hidden) -> Result<(), Memory>
-        ensures { OnOk result (self.new ≡ set.union self.old other.now) }
+    /// What one of the two sets hides.
+    pub fn union(&self, other: &Hidden) -> Result<Hidden, Memory>
+        ensures { IfOk result (λ either. either ≡ set.union self.now other.now) }
     {
-        for number in other.numbers.as_slice() {
-            add_to(&mut self.numbers, *number)?;
+        let mine = self.numbers();
+        let theirs = other.numbers();
+        if is_front(mine, theirs) {
+            let longer = other.copy()?;
+            return Ok(longer);
         }
-        Ok(())
+        if is_front(theirs, mine) {
+            let longer = self.copy()?;
+            return Ok(longer);
+        }
+        let mut all = copied(self.alloc, mine)?;
+        for number in theirs {
+            add_to(&mut all, *number)?;
+        }
+        let either = Hidden::of(self.alloc, all)?;
+        Ok(either)
     }
 
     /// What both sets hide.
-    pub fn meet(alloc: Global, one: &Hidden, other: &Hidden) -> Result<Hidden, Memory>
-        ensures { IfOk result (λ both. both ≡ set.intersection one.now other.now) }
+    pub fn meet(&self, other: &Hidden) -> Result<Hidden, Memory>
+        ensures { IfOk result (λ both. both ≡ set.intersection self.now other.now) }
     {
-        let mut numbers = Vec::new(alloc);
-        for number in one.numbers.as_slice() {
+        let mine = self.numbers();
+        let theirs = other.numbers();
+        if is_front(mine, theirs) {
+            let shorter = self.copy()?;
+            return Ok(shorter);
+        }
+        let mut kept = Vec::new(self.alloc);
+        for number in mine {
             if other.holds(*number) {
-                numbers.push(*number)?;
+                kept.push(*number)?;
             }
         }
-        Ok(Hidden { numbers })
+        let both = Hidden::of(self.alloc, kept)?;
+        Ok(both)
     }
 
-    /// The same set.
+    /// The same set, which is shared.
     pub fn copy(&self) -> Result<Hidden, Memory>
         ensures { IfOk result (λ same. same ≡ self.now) }
     {
-        let numbers = Vec::from_slice(*self.numbers.allocator(), self.numbers.as_slice())?;
-        Ok(Hidden { numbers })
+        let numbers = match &self.numbers {
+            None => None,
+            Some(shared) => Some(shared.clone()?),
+        };
+        Ok(Hidden {
+            alloc: self.alloc,
+            numbers,
+        })
     }
+}
+
+// Numbers, with room for one more.
+fn copied(alloc: Global, numbers: &[u32]) -> Result<Vec<u32>, Memory>
+    ensures { IfOk result (λ copy. copy.items ≡ numbers.now) }
+{
+    let mut copy = Vec::with_capacity(alloc, numbers.len() + 1)?;
+    copy.extend_from_slice(numbers)?;
+    Ok(copy)
 }
 
 // Adds a number to a list, unless it is there.
@@ -95,4 +159,19 @@ fn is_among(numbers: &[u32], number: u32) -> bool
     ensures { result ≡ list_any (λ other. nat_eq other number) numbers.now }
 {
     numbers.iter().any(|other| *other == number)
+}
+
+// Whether a list begins with another.
+fn is_front(front: &[u32], numbers: &[u32]) -> bool
+    ensures { IsTrue result → numbers.now ≡ front.now ++ drop (length front.now) numbers.now }
+{
+    if numbers.len() < front.len() {
+        return false;
+    }
+    for (index, number) in front.iter().enumerate() {
+        if *number != numbers[index] {
+            return false;
+        }
+    }
+    true
 }

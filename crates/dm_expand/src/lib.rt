@@ -87,6 +87,7 @@ pub fn expand(
         instance: _,
         spent,
         expansions,
+        first: _,
     } = progress;
     work.spent = spent;
     Ok(Expanded {

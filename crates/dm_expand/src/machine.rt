@@ -20,6 +20,7 @@ use crate::item::{Item, copied};
 use crate::paste::{Piece, Site};
 use crate::progress::Progress;
 use crate::substitute::{Whole, append, complete, fill_from, fill_whole, has_paste};
+use crate::trails::grown;
 use dm_token::{Definition, List, Mark, Memory, Place, Refusal, Stop};
 use std::alloc::Global;
 use std::collections::VecDeque;
@@ -62,18 +63,26 @@ fn put_before(tokens: Vec<Item>, rest: &mut VecDeque<Item>) -> Result<(), Memory
 }
 
 // The expansion with this number for an invocation.
-fn site_of(definition: u32, instance: u32, name: Item, arguments: List<List<Item>>) -> Site
-    ensures { result ≡ site_with name (Expansion definition instance) arguments }
+#[tactic(auto, unfolding(crate::specs::Trails::body_trail))]
+fn site_of(
+    definition: u32,
+    instance: u32,
+    name: Item,
+    arguments: List<List<Item>>,
+) -> Result<Site, Memory>
+    ensures { IfOk result (λ site. site ≡ site_with name (Expansion definition instance) arguments) }
 {
     let mark = Mark::Expansion {
         definition,
         instance,
     };
-    Site {
+    let inside = grown(&name.trail, mark)?;
+    Ok(Site {
         name,
         mark,
         arguments,
-    }
+        inside,
+    })
 }
 
 // The refusal of an invocation whose arguments don't fit, at its name.
@@ -318,8 +327,9 @@ fn replace<'a>(
     } = invocation;
     let instance = progress.next_instance();
     progress.begin(found.number, &name, foreign)?;
+    let site = site_of(found.number, instance, name, arguments)?;
     let filling = Filling {
-        site: site_of(found.number, instance, name, arguments),
+        site,
         hidden,
         definition: found.definition,
         pieces: Vec::new(alloc),

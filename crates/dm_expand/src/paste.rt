@@ -5,9 +5,8 @@ ghost use Rattle.dm_expand.specs.Views.{StopsAs, piece_value, tokens_left, token
 use crate::arguments::next_of;
 use crate::hidden::Hidden;
 use crate::item::Item;
-use crate::trails::grown;
 use dm_lex::one_token;
-use dm_token::{List, Mark, Memory, PpKind, PpToken, Refusal, Stop, Text};
+use dm_token::{List, Mark, Memory, PpKind, PpToken, Refusal, Stop, Text, Trail};
 use std::alloc::Global;
 use std::collections::VecDeque;
 use std::marker::Model;
@@ -18,10 +17,14 @@ pub struct Site {
     pub name: Item,
     pub mark: Mark,
     pub arguments: List<List<Item>>,
+    /// The trail of the name, with the mark.
+    pub inside: Trail,
 }
 
 impl Model for Site {
     ghost use Rattle.dm_expand.specs.Pastes as pastes;
+    ghost use Rattle.std.specs.Prelude.{◌≡◌};
+    ghost use Rattle.dm_expand.specs.Trails.{body_trail};
     ghost use Rattle.std.specs.Coded.{codes, coded_ℕ};
     ghost use Rattle.std.specs.FinSet as set;
     ghost use Rattle.std.specs.Ordering.{nat_cmp};
@@ -31,6 +34,8 @@ impl Model for Site {
     ghost coded = { Prim.hlevel (codes, set.code {R = nat_cmp} coded_ℕ) };
 
     ghost view = { λ site. record { name = site.name; mark = site.mark; arguments = site.arguments } };
+
+    ghost invariant = { λ site. site.inside ≡ body_trail site.name.trail site.mark };
 }
 
 /// A piece of a replacement list: a token, a placemarker with whether its parameter has a blank before it, or a `##` of
@@ -43,7 +48,7 @@ pub enum Piece {
 }
 
 /// A token that `#` or `##` makes: it has the place of the name whose expansion makes it.
-#[tactic(auto, unfolding(crate::specs::Pastes::made, crate::specs::Trails::body_trail))]
+#[tactic(auto, unfolding(crate::specs::Pastes::made))]
 pub fn make_token(
     site: &Site,
     kind: PpKind,
@@ -54,7 +59,7 @@ pub fn make_token(
     ensures { IfOk result (λ item. item ≡ pastes.made site.now kind spelling blank hidden) }
 {
     let name = &site.name;
-    let trail = grown(&name.trail, site.mark)?;
+    let trail = site.inside.copy()?;
     let pp = PpToken {
         kind,
         spelling,
@@ -109,7 +114,7 @@ fn join_tokens(alloc: Global, site: &Site, left: &Item, right: &Item) -> Result<
     let Some(kind) = one_token(alloc, &spelling)? else {
         return Err(no_token(site));
     };
-    let hidden = Hidden::meet(alloc, &left.hidden, &right.hidden)?;
+    let hidden = left.hidden.meet(&right.hidden)?;
     let made = make_token(site, kind, spelling, left.pp.blank_before, hidden)?;
     Ok(Piece::Token(made))
 }

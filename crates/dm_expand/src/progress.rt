@@ -1,12 +1,11 @@
-ghost use Rattle.dm_expand.specs.Trails.{carry as carry_of};
-ghost use Rattle.std.specs.Prelude.{◌||◌, ◌≡◌, ◌≤◌, ◌<◌, Ok, Err, map, OnOk, IfErr};
+ghost use Rattle.std.specs.Prelude.{◌≡◌, [], ◌∷◌, ◌≤◌, ◌<◌, Ok, Err, map, OnOk, IfErr};
 ghost use Rattle.dm_expand.specs.Steps as steps;
 ghost use Rattle.dm_expand.specs.Predefined.{name_of as place_of_name};
-ghost use Rattle.dm_expand.specs.Views.{StopsAs, IsWithin};
+ghost use Rattle.dm_expand.specs.Views.{StopsAs, IsWithin, AreNumberedSo, taken_along};
 
 use crate::item::Item;
-use crate::trails::carry;
-use dm_token::{Expansion, Limit, Place, Stop};
+use crate::trails::innermost;
+use dm_token::{Expansion, Limit, Mark, Place, Stop, Trail};
 use std::alloc::Global;
 use std::marker::Model;
 
@@ -20,17 +19,22 @@ pub struct Progress {
     pub instance: u32,
     pub spent: u32,
     pub expansions: Vec<Expansion>,
+    /// The number of the first of these expansions.
+    pub first: u32,
 }
 
 impl Model for Progress {
     ghost use Rattle.std.specs.Coded.{codes};
     ghost use Rattle.dm_expand.specs.Steps as steps;
+    ghost use Rattle.dm_expand.specs.Laws.{AreNumbered};
 
     ghost Value = { steps.Progress };
 
     ghost coded = { Prim.hlevel (codes) };
 
     ghost view = { λ progress. record { instance = progress.instance; spent = progress.spent; expansions = progress.expansions.items } };
+
+    ghost invariant = { λ progress. AreNumbered progress.first progress.expansions.items progress.instance };
 }
 
 impl Progress {
@@ -43,6 +47,7 @@ impl Progress {
             instance,
             spent,
             expansions: Vec::new(alloc),
+            first: instance,
         }
     }
 
@@ -92,17 +97,21 @@ impl Progress {
     pub fn take(&mut self, argument: &[Item])
         ensures { self.new ≡ steps.take_argument argument.now self.old }
     {
-        take_in(self.expansions.as_mut_slice(), argument);
+        let first = self.first;
+        take_in(self.expansions.as_mut_slice(), first, argument);
     }
 
     /// The place of the name of the expansion with this number, and else another place.
     pub fn name_of(&self, instance: u32, other: Place) -> Place
         ensures { result ≡ place_of_name instance self.now.expansions other }
     {
-        for made in self.expansions.as_slice() {
-            if made.instance == instance {
-                return made.name;
-            }
+        if instance < self.first {
+            return other;
+        }
+        let made = self.expansions.as_slice();
+        let index = (instance - self.first) as usize;
+        if index < made.len() {
+            return made[index].name;
         }
         other
     }
@@ -119,18 +128,46 @@ fn too_much(place: Place) -> Stop
     })
 }
 
-// Marks those of these expansions as taken whose marks one of these tokens carries.
-fn take_in(expansions: &mut [Expansion], argument: &[Item])
+// Marks those of these expansions as taken whose marks one of these tokens carries. They are numbered from the first one's
+// number on, so a mark tells where its expansion stands.
+fn take_in(expansions: &mut [Expansion], first: u32, argument: &[Item])
+    requires { AreNumberedSo first expansions.old }
     ensures { expansions.new ≡ map (steps.taken_by argument.now) expansions.old }
 {
-    for made in expansions.iter_mut() {
-        made.taken = is_taken(made.taken, made.instance, argument);
+    for item in argument {
+        take_along(expansions, first, &item.trail);
     }
 }
 
-// Whether an expansion is taken, where it was before or where one of these tokens carries its mark.
-fn is_taken(before: bool, instance: u32, argument: &[Item]) -> bool
-    ensures { result ≡ (before || carry_of instance argument.now) }
+// Marks those as taken whose marks a trail has.
+fn take_along(expansions: &mut [Expansion], first: u32, trail: &Trail)
+    requires { AreNumberedSo first expansions.old }
+    ensures { expansions.new ≡ map (taken_along trail.now) expansions.old }
 {
-    before || carry(instance, argument)
+    let mut left = trail;
+    'walk: while let Some((mark, outer)) = innermost(left) {
+        take_marked(expansions, first, mark);
+        left = outer;
+    }
+}
+
+// Marks the one as taken whose mark this is.
+fn take_marked(expansions: &mut [Expansion], first: u32, mark: Mark)
+    requires { AreNumberedSo first expansions.old }
+    ensures { expansions.new ≡ map (taken_along (mark ∷ [])) expansions.old }
+{
+    let Mark::Expansion {
+        definition: _,
+        instance,
+    } = mark
+    else {
+        return;
+    };
+    if instance < first {
+        return;
+    }
+    let index = (instance - first) as usize;
+    if index < expansions.len() {
+        expansions[index].taken = true;
+    }
 }

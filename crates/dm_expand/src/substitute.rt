@@ -11,9 +11,7 @@ ghost use Rattle.dm_expand.specs.Works.{IsContent, parts_from, parts_left, parts
 
 use crate::arguments::next_of;
 use crate::body::{Role, role_at, token_at};
-use crate::fill::{
-    body_item, fill_beside, fill_hash, one_piece, placed, set_first_blank, token_pieces,
-};
+use crate::fill::{body_item, fill_beside, fill_hash, placed, set_first_blank, token_pieces};
 use crate::hidden::Hidden;
 use crate::item::Item;
 use crate::paste::{Piece, Site, paste};
@@ -27,6 +25,7 @@ use std::collections::VecDeque;
 /// (6.10.3.1p1), with the parameter and which of its places this is.
 #[derive(Drop)]
 enum Content {
+    One(Piece),
     Pieces(Vec<Piece>),
     Whole(usize, usize),
 }
@@ -46,17 +45,15 @@ fn fill(
     match role {
         Role::Plain => {
             let item = body_item(alloc, site, token)?;
-            let pieces = one_piece(alloc, Piece::Token(item))?;
-            Ok(Content::Pieces(pieces))
+            Ok(Content::One(Piece::Token(item)))
         }
         Role::Paste => {
             let item = body_item(alloc, site, token)?;
-            let pieces = one_piece(alloc, Piece::Operator(item))?;
-            Ok(Content::Pieces(pieces))
+            Ok(Content::One(Piece::Operator(item)))
         }
         Role::Hash(parameter) => {
-            let pieces = fill_hash(alloc, site, token, parameter, progress)?;
-            Ok(Content::Pieces(pieces))
+            let made = fill_hash(alloc, site, token, parameter, progress)?;
+            Ok(Content::One(Piece::Token(made)))
         }
         Role::Beside(parameter, occurrence) => {
             let pieces = fill_beside(alloc, site, token, parameter, occurrence, progress)?;
@@ -163,6 +160,11 @@ fn fill_at<'a>(
             parameter,
             occurrence,
         })),
+        Content::One(piece) => {
+            count_if(progress, counts, place_of(site), 1)?;
+            pieces.push(piece)?;
+            Ok(None)
+        }
         Content::Pieces(more) => {
             count_if(
                 progress,
@@ -223,7 +225,7 @@ fn hide(item: Item, hidden: &Hidden) -> Result<Item, Memory>
     ensures { IfOk result (λ hiding. hiding ≡ substitution.hidden_besides hidden.now item) }
 {
     let mut item = item;
-    item.hidden.join(hidden)?;
+    item.hidden = item.hidden.union(hidden)?;
     Ok(item)
 }
 

@@ -16,8 +16,8 @@ pub fn grown(trail: &Trail, mark: Mark) -> Result<Trail, Memory>
     trail.grow(mark)
 }
 
-// The innermost mark of a trail, and the trail without it.
-fn innermost(trail: &Trail) -> Option<(Mark, &Trail)>
+/// The innermost mark of a trail, and the trail without it.
+pub fn innermost(trail: &Trail) -> Option<(Mark, &Trail)>
     ensures { MatchOption result (trail.now ≡ []) (λ found. trail.now ≡ found.1.now ++ found.0 ∷ []) }
 {
     let outer = trail.parent()?;
@@ -55,61 +55,18 @@ fn marks_behind(alloc: Global, trail: &Trail, kept: u32) -> Result<Vec<Mark>, Me
     Ok(marks)
 }
 
-/// The trail of an argument's token, where `expanded` is the name's trail with the expansion's mark.
+/// The trail of an argument's token, where `base` is the name's trail with the expansion's mark and the argument's.
 pub fn argument_trail(
     alloc: Global,
     name: &Trail,
-    expanded: &Trail,
-    argument: Mark,
+    base: &Trail,
     trail: &Trail,
 ) -> Result<Trail, Memory>
-    ensures { IfOk result (λ longer. longer ≡ expanded.now ++ argument ∷ trails.past name.now trail.now) }
+    ensures { IfOk result (λ longer. longer ≡ base.now ++ trails.past name.now trail.now) }
 {
     let shared = name.common(trail).length();
-    let base = grown(expanded, argument)?;
-    let longer = regrown(alloc, base, trail, shared)?;
+    let longer = regrown(alloc, base.copy()?, trail, shared)?;
     Ok(longer)
-}
-
-// Whether a mark is that of the expansion with this number.
-#[tactic(auto, unfolding(crate::specs::Trails::marks_instance))]
-fn marks_instance(mark: Mark, instance: u32) -> bool
-    ensures { result ≡ trails.marks_instance instance mark }
-{
-    match mark {
-        Mark::Expansion {
-            definition: _,
-            instance: number,
-        } => number == instance,
-        Mark::Argument { .. } => false,
-    }
-}
-
-// Whether a trail has the mark of the expansion with this number.
-fn has_instance(trail: &Trail, instance: u32) -> bool
-    ensures { result ≡ list_any (trails.marks_instance instance) trail.now }
-{
-    let mut left = trail;
-    'walk: while let Some((mark, outer)) = innermost(left) {
-        if marks_instance(mark, instance) {
-            return true;
-        }
-        left = outer;
-    }
-    false
-}
-
-/// Whether one of the tokens carries the mark of an expansion.
-#[tactic(auto, unfolding(crate::specs::Trails::carry))]
-pub fn carry(instance: u32, items: &[Item]) -> bool
-    ensures { result ≡ trails.carry instance items.now }
-{
-    for item in items {
-        if has_instance(&item.trail, instance) {
-            return true;
-        }
-    }
-    false
 }
 
 // Whether a trail begins with another.

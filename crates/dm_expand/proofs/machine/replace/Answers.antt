@@ -39,12 +39,12 @@ returns-in_err-go_on-clause-stop c =
     let progress : Progress = c.args.progress.now in
     let now : Progress = c.begin.new.self in
     let invocation : Invocation = invocation_value c.args.invocation c.args.level.now.rest.items in
-    let site : c.site_of.result ≡ site_of invocation progress.instance =
-    c.site_of.ensures ∙ ap (λ (n : ℕ). site_with invocation.name (Expansion invocation.macro.number n) invocation.arguments) c.next_instance-instance.ensures in
-    let starts : Macros → List code_piece.Piece → Result Output Stop = λ macros xs. completed macros c.args.level.now c.site_of.result c.args.invocation.hidden definition (pieces_before (map piece_value xs)
-    (filled_all (expanded macros) c.site_of.result (not (list_any is_hash_hash definition.body)) (parts_from definition 0) now)) in
+    let site : c.in_ok-site.site ≡ site_of invocation progress.instance =
+    c.in_ok-site.ensures ∙ ap (λ (n : ℕ). site_with invocation.name (Expansion invocation.macro.number n) invocation.arguments) c.next_instance-instance.ensures in
+    let starts : Macros → List code_piece.Piece → Result Output Stop = λ macros xs. completed macros c.args.level.now c.in_ok-site.site c.args.invocation.hidden definition (pieces_before (map piece_value xs)
+    (filled_all (expanded macros) c.in_ok-site.site (not (list_any is_hash_hash definition.body)) (parts_from definition 0) now)) in
     stops_handed_each c.from_residual-in_err-go_on.result c.in_err-go_on.field-0.0 (λ macros. starts macros c.new.result.items) (λ macros. invoked_on macros c.args.level.now c.args.invocation progress) c.from_residual-in_err-go_on.ensures.1
-    (λ macros other is. replace-is macros c.args.level.now c.args.invocation c.site_of.result progress now site c.in_ok-begin.ensures.ok ∙ ap (starts macros) (sym c.new.ensures.items) ∙ is)
+    (λ macros other is. replace-is macros c.args.level.now c.args.invocation c.in_ok-site.site progress now site c.in_ok-begin.ensures.ok ∙ ap (starts macros) (sym c.new.ensures.items) ∙ is)
     c.in_err-go_on.ensures.stop
 
 pub returns-clause-ok : goal.returns-clause-ok
@@ -54,12 +54,12 @@ returns-clause-ok c = λ macros.
     let progress : Progress = c.args.progress.now in
     let now : Progress = c.begin.new.self in
     let invocation : Invocation = invocation_value c.args.invocation c.args.level.now.rest.items in
-    let site : c.site_of.result ≡ site_of invocation progress.instance =
-    c.site_of.ensures ∙ ap (λ (n : ℕ). site_with invocation.name (Expansion invocation.macro.number n) invocation.arguments) c.next_instance-instance.ensures in
-    let starts : List code_piece.Piece → Result Output Stop = λ xs. completed macros c.args.level.now c.site_of.result c.args.invocation.hidden definition (pieces_before (map piece_value xs)
-    (filled_all (expanded macros) c.site_of.result (not (list_any is_hash_hash definition.body)) (parts_from definition 0) now)) in
+    let site : c.in_ok-site.site ≡ site_of invocation progress.instance =
+    c.in_ok-site.ensures ∙ ap (λ (n : ℕ). site_with invocation.name (Expansion invocation.macro.number n) invocation.arguments) c.next_instance-instance.ensures in
+    let starts : List code_piece.Piece → Result Output Stop = λ xs. completed macros c.args.level.now c.in_ok-site.site c.args.invocation.hidden definition (pieces_before (map piece_value xs)
+    (filled_all (expanded macros) c.in_ok-site.site (not (list_any is_hash_hash definition.body)) (parts_from definition 0) now)) in
     ap (outward macros c.args.waiting.now.items)
-    (replace-is macros c.args.level.now c.args.invocation c.site_of.result progress now site c.in_ok-begin.ensures.ok ∙ ap starts (sym c.new.ensures.items))
+    (replace-is macros c.args.level.now c.args.invocation c.in_ok-site.site progress now site c.in_ok-begin.ensures.ok ∙ ap starts (sym c.new.ensures.items))
     ∙ c.in_ok-go_on.ensures.ok macros
 
 pub returns-clause-follows : goal.returns-clause-follows

@@ -11,32 +11,32 @@ use Rattle.dm_expand.proofs.FillLemmas.{filled-plain, filled-paste, filled-hash,
 use Rattle.dm_expand.proofs.ProgressLemmas.{take_argument-follows}
 use Rattle.dm_expand.proofs.substitute.fill.Goals as goal
 
-pub returns-in_ok-pieces-in-Plain-clause-content : goal.returns-in_ok-pieces-in-Plain-clause-content
-returns-in_ok-pieces-in-Plain-clause-content c = λ expander.
+pub returns-in_ok-item-in-Plain-clause-content : goal.returns-in_ok-item-in-Plain-clause-content
+returns-in_ok-item-in-Plain-clause-content c = λ expander.
     let progress : Progress = c.args.progress.now in
     ap (λ (role : Role). substitution.filled expander c.args.site.now (part_with c.args.token.now role) progress) c.in-Plain.is
     ∙ filled-plain expander c.args.site.now c.args.token.now progress
-    ∙ ap (λ (xs : List pastes.Piece). Ok (fills xs progress)) (sym (c.in_ok-pieces-in-Plain.ensures ∙ ap (λ (x : Item). pastes.token x ∷ []) c.in_ok-item-in-Plain.ensures))
+    ∙ ap (λ (xs : List pastes.Piece). Ok (fills xs progress)) (sym (ap (λ (x : Item). pastes.token x ∷ []) c.in_ok-item-in-Plain.ensures))
 
-pub returns-in_ok-pieces-in-Paste-clause-content : goal.returns-in_ok-pieces-in-Paste-clause-content
-returns-in_ok-pieces-in-Paste-clause-content c = λ expander.
+pub returns-in_ok-item-in-Paste-clause-content : goal.returns-in_ok-item-in-Paste-clause-content
+returns-in_ok-item-in-Paste-clause-content c = λ expander.
     let progress : Progress = c.args.progress.now in
     ap (λ (role : Role). substitution.filled expander c.args.site.now (part_with c.args.token.now role) progress) c.in-Paste.is
     ∙ filled-paste expander c.args.site.now c.args.token.now progress
-    ∙ ap (λ (xs : List pastes.Piece). Ok (fills xs progress)) (sym (c.in_ok-pieces-in-Paste.ensures ∙ ap (λ (x : Item). pastes.operator x ∷ []) c.in_ok-item-in-Paste.ensures))
+    ∙ ap (λ (xs : List pastes.Piece). Ok (fills xs progress)) (sym (ap (λ (x : Item). pastes.operator x ∷ []) c.in_ok-item-in-Paste.ensures))
 
-pub returns-in_ok-pieces-in-Hash-clause-content : goal.returns-in_ok-pieces-in-Hash-clause-content
-returns-in_ok-pieces-in-Hash-clause-content c = λ expander.
+pub returns-in_ok-made-in-Hash-clause-content : goal.returns-in_ok-made-in-Hash-clause-content
+returns-in_ok-made-in-Hash-clause-content c = λ expander.
     let progress : Progress = c.args.progress.now in
     let taken : Progress = take_argument (substitution.argument_for c.args.site.now c.in-Hash.parameter) progress in
     ap (λ (role : Role). substitution.filled expander c.args.site.now (part_with c.args.token.now role) progress) c.in-Hash.is
     ∙ filled-hash expander c.args.site.now c.args.token.now c.in-Hash.parameter progress
-    ∙ ap (λ (xs : List pastes.Piece). Ok (fills xs taken)) (sym c.in_ok-pieces-in-Hash.ensures.pieces)
-    ∙ ap (λ (q : Progress). Ok (fills (map piece_value c.in_ok-pieces-in-Hash.pieces.items) q)) (sym c.in_ok-pieces-in-Hash.ensures.taken)
+    ∙ ap (λ (x : Item). Ok (fills (pastes.token x ∷ []) taken)) (sym c.in_ok-made-in-Hash.ensures.made)
+    ∙ ap (λ (q : Progress). Ok (fills (pastes.token c.in_ok-made-in-Hash.made ∷ []) q)) (sym c.in_ok-made-in-Hash.ensures.taken)
 
-pub returns-in_ok-pieces-in-Hash-clause-follows : goal.returns-in_ok-pieces-in-Hash-clause-follows
-returns-in_ok-pieces-in-Hash-clause-follows c =
-    subst (Follows c.args.progress.now) (sym c.in_ok-pieces-in-Hash.ensures.taken) (take_argument-follows _ c.args.progress.now c.requires.spent)
+pub returns-in_ok-made-in-Hash-clause-follows : goal.returns-in_ok-made-in-Hash-clause-follows
+returns-in_ok-made-in-Hash-clause-follows c =
+    subst (Follows c.args.progress.now) (sym c.in_ok-made-in-Hash.ensures.taken) (take_argument-follows _ c.args.progress.now c.requires.spent)
 
 pub returns-in_ok-pieces-in-Beside-clause-content : goal.returns-in_ok-pieces-in-Beside-clause-content
 returns-in_ok-pieces-in-Beside-clause-content c = λ expander.

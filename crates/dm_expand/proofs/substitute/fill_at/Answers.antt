@@ -1,4 +1,4 @@
-use Rattle.std.proofs.Common.{ℕ, ◌+◌, ◌++◌, ◌∷◌, List, ap, ◌∙◌, sym, subst, map, length}
+use Rattle.std.proofs.Common.{[], ℕ, ◌+◌, ◌++◌, ◌∷◌, List, ap, ◌∙◌, sym, subst, map, length}
 use Rattle.std.proofs.lemmas.List.{map-append}
 use Rattle.dm_token.specs.declared.place.Place.{Place}
 use Rattle.dm_token.specs.declared.token.PpToken.{PpToken}
@@ -37,13 +37,13 @@ returns-in_err-count_if-in-Pieces-clause-stop c =
     let now : Progress = c.fill.new.progress in
     let content = subst (IsContent c.args.site.now c.token_at-token.result.now c.in-Some.role progress now) c.in-Pieces.is c.in_ok-parameter.ensures.content in
     let more : List pastes.Piece = map piece_value c.in-Pieces.more.items in
-    stops_handed_each c.from_residual-in_err-count_if-in-Pieces.result c.in_err-count_if-in-Pieces.field-0.0 (λ expander. counted_if c.args.counts c.place_of.result c.piece_count.result now) _ c.from_residual-in_err-count_if-in-Pieces.ensures.1
+    stops_handed_each c.from_residual-in_err-count_if-in-Pieces.result c.in_err-count_if-in-Pieces.field-0.0 (λ expander. counted_if c.args.counts c.place_of-in-Pieces.result c.piece_count.result now) _ c.from_residual-in_err-count_if-in-Pieces.ensures.1
     (λ expander other is.
     ap (λ (parts : List bodies.Part). pieces_before pieces (substitution.filled_all expander c.args.site.now c.args.counts parts progress))
     (parts-at names body i c.token_at-token.result.now c.requires.inside c.token_at-token.ensures.is ∙ ap (λ (xs : List bodies.Part). xs ++ rest) (sym c.in-Some.ensures))
     ∙ ap (pieces_before pieces) (filled_all-count-stops expander c.args.site.now c.args.counts part rest progress (fills more now) other (content expander)
-    (ap (λ (place : Place). counted_if c.args.counts place (length more) now) (sym c.place_of.ensures)
-    ∙ ap (λ (n : ℕ). counted_if c.args.counts c.place_of.result n now) (sym (c.piece_count.ensures ∙ ap (λ (xs : List code_piece.Piece). length (map piece_value xs)) c.as_slice.ensures.value))
+    (ap (λ (place : Place). counted_if c.args.counts place (length more) now) (sym c.place_of-in-Pieces.ensures)
+    ∙ ap (λ (n : ℕ). counted_if c.args.counts c.place_of-in-Pieces.result n now) (sym (c.piece_count.ensures ∙ ap (λ (xs : List code_piece.Piece). length (map piece_value xs)) c.as_slice.ensures.value))
     ∙ is)))
     (λ expander. c.in_err-count_if-in-Pieces.ensures.stop)
 
@@ -79,13 +79,58 @@ returns-in_ok-append-in-Pieces-clause-ok c = λ expander.
     let now : Progress = c.fill.new.progress in
     let content = subst (IsContent c.args.site.now c.token_at-token.result.now c.in-Some.role progress now) c.in-Pieces.is c.in_ok-parameter.ensures.content in
     let more : List pastes.Piece = map piece_value c.in-Pieces.more.items in
+    let after : Progress = c.count_if-in-Pieces.new.progress in
+    let behind = substitution.filled_all expander c.args.site.now c.args.counts rest after in
+    ap (λ (parts : List bodies.Part). pieces_before pieces (substitution.filled_all expander c.args.site.now c.args.counts parts progress))
+    (parts-at names body i c.token_at-token.result.now c.requires.inside c.token_at-token.ensures.is ∙ ap (λ (xs : List bodies.Part). xs ++ rest) (sym c.in-Some.ensures))
+    ∙ ap (pieces_before pieces) (filled_all-part expander c.args.site.now c.args.counts part rest progress (fills more now) after (content expander)
+    (ap (λ (place : Place). counted_if c.args.counts place (length more) now) (sym c.place_of-in-Pieces.ensures)
+    ∙ ap (λ (n : ℕ). counted_if c.args.counts c.place_of-in-Pieces.result n now) (sym (c.piece_count.ensures ∙ ap (λ (xs : List code_piece.Piece). length (map piece_value xs)) c.as_slice.ensures.value))
+    ∙ c.in_ok-count_if-in-Pieces.ensures.ok))
+    ∙ pieces_before-append pieces more behind
+    ∙ ap (λ (xs : List pastes.Piece). pieces_before xs behind) (sym (ap (map piece_value) c.in_ok-append-in-Pieces.ensures ∙ map-append piece_value c.args.pieces.now.items c.in-Pieces.more.items))
+
+pub returns-in_err-count_if-in-One-clause-stop : goal.returns-in_err-count_if-in-One-clause-stop
+returns-in_err-count_if-in-One-clause-stop c =
+    let definition = c.args.definition.now in
+    let names : List (List ℕ) = bodies.parameters_of definition in
+    let body : List PpToken = definition.body in
+    let i = c.args.index in
+    let rest : List bodies.Part = parts_from definition (i + 1) in
+    let part : bodies.Part = part_with c.token_at-token.result.now c.in-Some.role in
+    let pieces : List pastes.Piece = map piece_value c.args.pieces.now.items in
+    let progress : Progress = c.args.progress.now in
+    let now : Progress = c.fill.new.progress in
+    let content = subst (IsContent c.args.site.now c.token_at-token.result.now c.in-Some.role progress now) c.in-One.is c.in_ok-parameter.ensures.content in
+    let more : List pastes.Piece = piece_value c.in-One.piece ∷ [] in
+    stops_handed_each c.from_residual-in_err-count_if-in-One.result c.in_err-count_if-in-One.field-0.0 (λ expander. counted_if c.args.counts c.place_of.result 1 now) _ c.from_residual-in_err-count_if-in-One.ensures.1
+    (λ expander other is.
+    ap (λ (parts : List bodies.Part). pieces_before pieces (substitution.filled_all expander c.args.site.now c.args.counts parts progress))
+    (parts-at names body i c.token_at-token.result.now c.requires.inside c.token_at-token.ensures.is ∙ ap (λ (xs : List bodies.Part). xs ++ rest) (sym c.in-Some.ensures))
+    ∙ ap (pieces_before pieces) (filled_all-count-stops expander c.args.site.now c.args.counts part rest progress (fills more now) other (content expander)
+    (ap (λ (place : Place). counted_if c.args.counts place (length more) now) (sym c.place_of.ensures)
+    ∙ is)))
+    (λ expander. c.in_err-count_if-in-One.ensures.stop)
+
+pub returns-in_ok-push-in-One-clause-ok : goal.returns-in_ok-push-in-One-clause-ok
+returns-in_ok-push-in-One-clause-ok c = λ expander.
+    let definition = c.args.definition.now in
+    let names : List (List ℕ) = bodies.parameters_of definition in
+    let body : List PpToken = definition.body in
+    let i = c.args.index in
+    let rest : List bodies.Part = parts_from definition (i + 1) in
+    let part : bodies.Part = part_with c.token_at-token.result.now c.in-Some.role in
+    let pieces : List pastes.Piece = map piece_value c.args.pieces.now.items in
+    let progress : Progress = c.args.progress.now in
+    let now : Progress = c.fill.new.progress in
+    let content = subst (IsContent c.args.site.now c.token_at-token.result.now c.in-Some.role progress now) c.in-One.is c.in_ok-parameter.ensures.content in
+    let more : List pastes.Piece = piece_value c.in-One.piece ∷ [] in
     let after : Progress = c.count_if.new.progress in
     let behind = substitution.filled_all expander c.args.site.now c.args.counts rest after in
     ap (λ (parts : List bodies.Part). pieces_before pieces (substitution.filled_all expander c.args.site.now c.args.counts parts progress))
     (parts-at names body i c.token_at-token.result.now c.requires.inside c.token_at-token.ensures.is ∙ ap (λ (xs : List bodies.Part). xs ++ rest) (sym c.in-Some.ensures))
     ∙ ap (pieces_before pieces) (filled_all-part expander c.args.site.now c.args.counts part rest progress (fills more now) after (content expander)
     (ap (λ (place : Place). counted_if c.args.counts place (length more) now) (sym c.place_of.ensures)
-    ∙ ap (λ (n : ℕ). counted_if c.args.counts c.place_of.result n now) (sym (c.piece_count.ensures ∙ ap (λ (xs : List code_piece.Piece). length (map piece_value xs)) c.as_slice.ensures.value))
-    ∙ c.in_ok-count_if-in-Pieces.ensures.ok))
+    ∙ c.in_ok-count_if-in-One.ensures.ok))
     ∙ pieces_before-append pieces more behind
-    ∙ ap (λ (xs : List pastes.Piece). pieces_before xs behind) (sym (ap (map piece_value) c.in_ok-append-in-Pieces.ensures ∙ map-append piece_value c.args.pieces.now.items c.in-Pieces.more.items))
+    ∙ ap (λ (xs : List pastes.Piece). pieces_before xs behind) (sym (ap (map piece_value) c.in_ok-push-in-One.ensures.items ∙ map-append piece_value c.args.pieces.now.items (c.in-One.piece ∷ [])))

@@ -4,4 +4,4 @@ use Rattle.std.specs.FinSet as set
 use Rattle.dm_expand.proofs.hidden.Hidden.meet.Given as goal
 
 abbrev pub invariant-loop-number : goal.invariant-loop-number
-invariant-loop-number l = l.numbers.items ≡ filter (set.contains l.other) (take l.number-index l.number-items)
+invariant-loop-number l = l.kept.items ≡ filter (set.contains l.other) (take l.number-index l.mine)

@@ -1,9 +1,11 @@
-use Rattle.std.proofs.Common.{◌+◌, ap, ◌∙◌, sym, arith, List, Ok}
+use Rattle.std.proofs.Common.{◌≡◌, ◌+◌, ap, ◌∙◌, sym, arith, List, Ok, suc, subst, false}
 use Rattle.dm_token.specs.declared.expansion.Mark.{Mark}
+use Rattle.dm_token.specs.declared.expansion.Expansion.{Expansion}
+use Rattle.dm_expand.specs.Laws.{AreNumbered}
 use Rattle.dm_expand.specs.Items.{Item}
 use Rattle.dm_expand.specs.Steps.{Progress, spend}
 use Rattle.dm_expand.proofs.StepLemmas.{greatest_work-is, pushed, begun-is, begin-counted, begin-stops, stops_handed}
-use Rattle.dm_expand.proofs.ProgressLemmas.{Counted, spend-counted}
+use Rattle.dm_expand.proofs.ProgressLemmas.{push-numbered, Counted, spend-counted}
 use Rattle.dm_expand.proofs.SubstitutionLemmas.{each-ok}
 use Rattle.dm_expand.proofs.progress.Progress.begin.Goals as goal
 
@@ -35,3 +37,10 @@ returns-clause-ok c =
     (ap (λ (x : Item). spend x.pp.place 1 c.args.self.now) (sym c.name.view_is) ∙ c.in_ok-spend.ensures.ok)
     ∙ ap (λ (q : Progress). Ok q) (begun-is c.args.definition name c.args.foreign counted c.push.new.self.items expansions)
     ∙ ap (λ (q : Progress). Ok (record { instance = q.instance + 1; spent = q.spent; expansions = c.push.new.self.items })) (sym c.self.view_is)
+
+pub invariant_of-self-2 : goal.invariant_of-self-2
+invariant_of-self-2 c =
+    let more : suc c.self.inside.instance ≡ c.self.inside.instance + 1 = omega arith in
+    let made : Expansion = record { definition = c.args.definition; instance = c.self.inside.instance; name = c.name.inside.pp.place; trail = c.in_ok-copy.field-0; taken = false; foreign = c.args.foreign } in
+    subst (λ n. AreNumbered c.self.inside.first c.push.new.self.items n) more
+    (subst (λ (es : List Expansion). AreNumbered c.self.inside.first es (suc c.self.inside.instance)) (sym c.in_ok-push.ensures.items) (push-numbered made c.self.inside.first c.self.inside.expansions.items c.self.invariant))

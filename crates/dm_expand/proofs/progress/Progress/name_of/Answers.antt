@@ -1,32 +1,28 @@
-use Rattle.std.proofs.Common.{ap, ◌∙◌, sym, List}
-use Rattle.std.proofs.lemmas.Bool.{eq-eqb, ne_eqb}
-use Rattle.std.proofs.lemmas.List.{at_drop_all}
-use Rattle.dm_token.specs.declared.place.Place.{Place}
+use Rattle.std.proofs.Common.{◌-◌, ap, ◌∙◌, sym, subst, arith, List}
 use Rattle.dm_token.specs.declared.expansion.Expansion.{Expansion}
 use Rattle.dm_expand.specs.Predefined as predefined
 use Rattle.dm_expand.specs.Steps.{Progress}
-use Rattle.dm_expand.proofs.SearchLemmas.{next_is, name_of-found, name_of-passed, name_of-nothing}
+use Rattle.dm_expand.specs.Laws.{AreNumbered}
+use Rattle.dm_expand.proofs.TakeLemmas.{name_of-below, name_of-beyond, name_of-at}
 use Rattle.dm_expand.proofs.progress.Progress.name_of.Goals as goal
 
-pub returns-then-made-instance : goal.returns-then-made-instance
-returns-then-made-instance c =
-    let items : List Expansion = c.as_slice-made-items.result.now in
-    let whole : List Expansion → Place = λ es. predefined.name_of c.args.instance es c.args.other in
-    sym (name_of-found c.args.instance c.made-item.result _ c.args.other (eq-eqb _ _ c.if-made-instance.true))
-    ∙ next_is whole items c.loop-made.made-index c.made-item.result (whole items) c.loop-made-test.true c.made-item.is c.loop-made.invariant
-    ∙ ap whole (c.as_slice-made-items.ensures.value ∙ ap (λ (p : Progress). p.expansions) c.self.view_is)
+pub returns-then-instance-self : goal.returns-then-instance-self
+returns-then-instance-self c =
+    name_of-below c.args.instance c.self.inside.first c.self.inside.instance c.self.inside.expansions.items c.args.other c.self.invariant c.if-instance-self.true
+    ∙ ap (λ (p : Progress). predefined.name_of c.args.instance p.expansions c.args.other) c.self.view_is
 
-pub loop-made-preserved : goal.loop-made-preserved
-loop-made-preserved c =
-    let items : List Expansion = c.as_slice-made-items.result.now in
-    let whole : List Expansion → Place = λ es. predefined.name_of c.args.instance es c.args.other in
-    sym (name_of-passed c.args.instance c.made-item.result _ c.args.other (ne_eqb _ _ c.if-made-instance.false))
-    ∙ next_is whole items c.loop-made.made-index c.made-item.result (whole items) c.loop-made-test.true c.made-item.is c.loop-made.invariant
+pub returns-then-index-made : goal.returns-then-index-made
+returns-then-index-made c =
+    let numbered = subst (λ (es : List Expansion). AreNumbered c.self.inside.first es c.self.inside.instance) (sym c.as_slice-made.ensures.value) c.self.invariant in
+    name_of-at c.args.instance c.self.inside.first c.self.inside.instance (c.args.instance - c.self.inside.first) c.as_slice-made.result.now c.index-made-index.result c.args.other numbered
+    (omega (arith, c.if-instance-self.false)) (omega (arith, c.if-index-made.true))
+    ∙ ap (λ (es : List Expansion). predefined.name_of c.args.instance es c.args.other) c.as_slice-made.ensures.value
+    ∙ ap (λ (p : Progress). predefined.name_of c.args.instance p.expansions c.args.other) c.self.view_is
 
 pub returns : goal.returns
 returns c =
-    let items : List Expansion = c.as_slice-made-items.result.now in
-    let whole : List Expansion → Place = λ es. predefined.name_of c.args.instance es c.args.other in
-    sym (at_drop_all whole items c.loop-made.made-index c.loop-made-test.false ∙ name_of-nothing c.args.instance c.args.other)
-    ∙ c.loop-made.invariant
-    ∙ ap whole (c.as_slice-made-items.ensures.value ∙ ap (λ (p : Progress). p.expansions) c.self.view_is)
+    let numbered = subst (λ (es : List Expansion). AreNumbered c.self.inside.first es c.self.inside.instance) (sym c.as_slice-made.ensures.value) c.self.invariant in
+    name_of-beyond c.args.instance c.self.inside.first c.self.inside.instance c.as_slice-made.result.now c.args.other numbered
+    (omega (arith, c.if-instance-self.false, c.if-index-made.false))
+    ∙ ap (λ (es : List Expansion). predefined.name_of c.args.instance es c.args.other) c.as_slice-made.ensures.value
+    ∙ ap (λ (p : Progress). predefined.name_of c.args.instance p.expansions c.args.other) c.self.view_is

@@ -1,7 +1,7 @@
 use Rattle.std.proofs.Common.{◌≡◌, take}
 use Rattle.std.specs.FinSet as set
 use Rattle.dm_expand.proofs.HiddenLemmas.{of_list}
-use Rattle.dm_expand.proofs.hidden.Hidden.join.Given as goal
+use Rattle.dm_expand.proofs.hidden.Hidden.union.Given as goal
 
 abbrev pub invariant-loop-number : goal.invariant-loop-number
-invariant-loop-number l = of_list l.self-inside.numbers.items ≡ set.union l.fn.self (of_list (take l.number-index l.number-items))
+invariant-loop-number l = of_list l.all.items ≡ set.union l.self (of_list (take l.number-index l.theirs))
