@@ -12,7 +12,7 @@ ghost use Rattle.std.specs.FinSet as set;
 
 use crate::arguments::next_of;
 use crate::hidden::Hidden;
-use crate::item::Item;
+use crate::item::{Item, copied};
 use crate::paste::{Piece, Site, make_token};
 use crate::progress::Progress;
 use crate::string::quoted;
@@ -59,17 +59,14 @@ fn argument_mark(parameter: usize, occurrence: usize) -> Result<Mark, Memory>
 
 // An argument's token that came to one of its parameter's places.
 #[tactic(auto, unfolding(crate::specs::Substitution::argument_item, crate::specs::Trails::argument_trail))]
-fn argument_item(alloc: Global, site: &Site, base: &Trail, item: &Item) -> Result<Item, Memory>
+fn argument_item(alloc: Global, site: &Site, base: &Trail, item: Item) -> Result<Item, Memory>
     ensures { IfOk result (λ placed. (parameter occurrence : ℕ) →
-        base.now ≡ body_trail site.now.name.trail site.now.mark ++ Argument parameter occurrence ∷ [] → placed ≡ substitution.argument_item site.now parameter occurrence item.now) }
+        base.now ≡ body_trail site.now.name.trail site.now.mark ++ Argument parameter occurrence ∷ [] → placed ≡ substitution.argument_item site.now parameter occurrence item) }
 {
+    let Item { pp, hidden, trail } = item;
     let name = &site.name;
-    let trail = argument_trail(alloc, &name.trail, base, &item.trail)?;
-    Ok(Item {
-        pp: item.pp.copy()?,
-        hidden: item.hidden.copy()?,
-        trail,
-    })
+    let trail = argument_trail(alloc, &name.trail, base, &trail)?;
+    Ok(Item { pp, hidden, trail })
 }
 
 // The same of all its tokens.
@@ -78,14 +75,15 @@ fn argument_items(
     site: &Site,
     parameter: usize,
     occurrence: usize,
-    items: &[Item],
+    items: Vec<Item>,
 ) -> Result<Vec<Item>, Memory>
-    ensures { IfOk result (λ placed. placed.items ≡ map (substitution.argument_item site.now parameter occurrence) items.now) }
+    ensures { IfOk result (λ placed. placed.items ≡ map (substitution.argument_item site.now parameter occurrence) items.items) }
 {
     let mark = argument_mark(parameter, occurrence)?;
     let base = grown(&site.inside, mark)?;
     let mut placed = Vec::with_capacity(alloc, items.len())?;
-    for item in items {
+    let mut queue = VecDeque::from(items);
+    'items: while let Some(item) = next_of(&mut queue) {
         let one = argument_item(alloc, site, &base, item)?;
         placed.push(one)?;
     }
@@ -110,9 +108,9 @@ pub fn placed(
     token: &PpToken,
     parameter: usize,
     occurrence: usize,
-    items: &[Item],
+    items: Vec<Item>,
 ) -> Result<Vec<Item>, Memory>
-    ensures { IfOk result (λ placed. placed.items ≡ substitution.placed site.now token.now parameter occurrence items.now) }
+    ensures { IfOk result (λ placed. placed.items ≡ substitution.placed site.now token.now parameter occurrence items.items) }
 {
     let mut placed = argument_items(alloc, site, parameter, occurrence, items)?;
     set_first_blank(placed.as_mut_slice(), token.blank_before);
@@ -179,7 +177,8 @@ pub fn fill_beside(
 {
     let argument = argument_for(site, parameter);
     progress.take(argument);
-    let tokens = placed(alloc, site, token, parameter, occurrence, argument)?;
+    let copies = copied(alloc, argument)?;
+    let tokens = placed(alloc, site, token, parameter, occurrence, copies)?;
     let pieces = operands(alloc, token.blank_before, tokens)?;
     Ok(pieces)
 }

@@ -112,10 +112,10 @@ fn source_items(alloc: Global, group: &[PpToken]) -> Result<Vec<Item>, Memory>
 fn tokens_of(alloc: Global, items: Vec<Item>) -> Result<List<Token>, Memory>
     ensures { IfOk result (λ tokens. tokens ≡ map token_of items.items) }
 {
+    let mut tokens = Vec::with_capacity(alloc, items.len())?;
     let mut queue = VecDeque::from(items);
-    let mut tokens = List::new(alloc);
     'items: while let Some(item) = next_of(&mut queue) {
         tokens.push(item.into_token())?;
     }
-    Ok(tokens)
+    Ok(List::from_vec(tokens))
 }

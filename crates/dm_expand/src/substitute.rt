@@ -210,8 +210,8 @@ pub fn fill_from<'a>(
 fn hidden_besides(alloc: Global, hidden: &Hidden, tokens: Vec<Item>) -> Result<Vec<Item>, Memory>
     ensures { IfOk result (λ hiding. hiding.items ≡ map (substitution.hidden_besides hidden.now) tokens.items) }
 {
+    let mut hiding = Vec::with_capacity(alloc, tokens.len())?;
     let mut queue = VecDeque::from(tokens);
-    let mut hiding = Vec::new(alloc);
     'tokens: while let Some(item) = next_of(&mut queue) {
         let one = hide(item, hidden)?;
         hiding.push(one)?;
@@ -295,7 +295,7 @@ pub fn fill_whole(
         whole.token,
         whole.parameter,
         whole.occurrence,
-        tokens.as_slice(),
+        tokens,
     )?;
     let pieces = token_pieces(alloc, placed)?;
     count_if(

@@ -265,3 +265,27 @@ fn numbers_expansions_and_keeps_trails(rt: HostRuntime) -> Result<(), Fail> {
     assert!(rt; !expansions[0].taken && !expansions[1].foreign);
     Ok(())
 }
+
+/// How many tokens a text gives that has an opening so often, then a token, and then as many closings.
+fn nested<R: Abort + AllocGlobal>(rt: &R, opening: &str, count: usize) -> Result<usize, Stop> {
+    let table = table_of(rt, &["#define ID(x) x"])?;
+    let mut text = Vec::new(rt.alloc());
+    for _ in 0..count {
+        text.extend_from_slice(opening.as_bytes())?;
+    }
+    text.push(b'1')?;
+    for _ in 0..count {
+        text.push(b')')?;
+    }
+    let group = tokens_of(rt, &text)?;
+    let mut work = Work { spent: 10 };
+    let expanded = expand(rt.alloc(), &table, &[], group.items(), 5, &mut work)?;
+    Ok(expanded.tokens.len())
+}
+
+#[test]
+fn nesting_takes_no_stack(rt: HostRuntime) -> Result<(), Fail> {
+    assert_eq!(rt; nested(&rt, "(", 10_000)?, 20_001);
+    assert_eq!(rt; nested(&rt, "ID(", 300)?, 1);
+    Ok(())
+}
