@@ -1,0 +1,16 @@
+mod ConditionLemmas
+mod DefinitionLemmas
+mod FileLemmas
+mod GrowLemmas
+mod LeaveLemmas
+mod LineLemmas
+mod ListLemmas
+mod NameLemmas
+mod PartLemmas
+mod PlaceLemmas
+mod ReadingLemmas
+mod SearchLemmas
+mod SourceLemmas
+mod StepLemmas
+mod TopLemmas
+mod UnitLemmas

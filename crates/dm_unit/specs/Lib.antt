@@ -1,0 +1,12 @@
+pub mod Conditions
+pub mod Definitions
+pub mod Directives
+pub mod Includes
+pub mod Lines
+pub mod Loaders
+pub mod Readings
+pub mod Sections
+pub mod Sources
+pub mod States
+pub mod Units
+pub mod Views

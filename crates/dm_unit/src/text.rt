@@ -1,0 +1,66 @@
+//! Text groups.
+
+ghost use Rattle.std.specs.Prelude.{IfOk, IfErr, OnOk};
+ghost use Rattle.dm_unit.specs.Loaders.{shown};
+ghost use Rattle.dm_unit.specs.Readings.{after_text};
+ghost use Rattle.dm_unit.specs.Views.{IsFaultless, state_of, LeadsTo, ExpansionStops, IsCounted, Follows, Expands};
+
+use crate::reader::Reader;
+use crate::stops::{in_unit, passed};
+use dm_expand::{Expanded, expand};
+use dm_search::Loader;
+use dm_token::{PpToken, Stop, Text};
+use std::alloc::Global;
+
+/// The greatest number of tokens of a unit.
+const MAX_TOKENS: usize = 1_000_000;
+
+/// Expands a text group (6.10.3).
+pub(crate) fn read_text(
+    alloc: Global,
+    reader: &mut Reader,
+    loader: &Loader,
+    group: &[PpToken],
+) -> Result<(), Stop>
+    requires { IsCounted reader.old }
+    ensures leads { LeadsTo (after_text reader.old.main group.now (state_of reader.old (shown loader.now))) result (state_of reader.new (shown loader.now)) }
+    ensures follows { OnOk result (Follows reader.old reader.new) }
+    ensures faultless { IfErr result IsFaultless }
+{
+    let expanded = expand_in(alloc, reader, loader.names(), group)?;
+    let Expanded { tokens, expansions } = expanded;
+    reader.expansions.append(&mut expansions.into_vec())?;
+    reader.tokens.append(&mut tokens.into_vec())?;
+    if reader.tokens.len() > MAX_TOKENS {
+        return Err(passed(2, reader.main));
+    }
+    Ok(())
+}
+
+/// The expansion of a group of tokens, where `names` are the files' names by number. It counts in the unit.
+pub(crate) fn expand_in(
+    alloc: Global,
+    reader: &mut Reader,
+    names: &[Text],
+    group: &[PpToken],
+) -> Result<Expanded, Stop>
+    requires { IsCounted reader.old }
+    ensures expands { IfOk result (λ expanded. Expands reader.old reader.new names.now group.now expanded.tokens expanded.expansions) }
+    ensures stop { IfErr result (ExpansionStops reader.old names.now group.now) }
+    ensures faultless { IfErr result IsFaultless }
+{
+    match expand(
+        alloc,
+        &reader.table,
+        names,
+        group,
+        reader.instance,
+        &mut reader.work,
+    ) {
+        Ok(expanded) => {
+            reader.instance += expanded.expansions.len() as u32;
+            Ok(expanded)
+        }
+        Err(stop) => Err(in_unit(reader.main, stop)),
+    }
+}
