@@ -118,12 +118,14 @@ def wrong_words(run):
     run.put("a.c")
     for words in [[], ["apply"], ["apply", "a.c", "a.c"], ["apply", "a.c", ""], ["plan", "a.c"]]:
         run.expect(words, 1, USAGE)
+    for words in [["expand"], ["expand", "a.c"], ["expand", "", "a.c"], ["expand", "--", "a.c"], ["expand", "a.c", "--help"]]:
+        run.expect(words, 1, USAGE)
     run.holds("a.c", OLD)
 
 
 def words_that_are_not_utf8(run):
     run.put("a.c")
-    for words in [[b"\xff"], ["apply", b"\xff.c"], ["apply", "a.c", b"\xc3"], [b"apply\x80", "a.c"]]:
+    for words in [[b"\xff"], ["apply", b"\xff.c"], ["apply", "a.c", b"\xc3"], [b"apply\x80", "a.c"], ["expand", "a.c", b"\xff"]]:
         run.expect(words, 1, USAGE)
     run.holds("a.c", OLD)
 
@@ -276,6 +278,83 @@ def want_of_memory_for_the_words(run):
     run.same("the statuses", sorted(statuses - NOT_STARTED), [1, 8])
 
 
+def a_unit_is_expanded(run):
+    os.mkdir(run.path("inc"))
+    run.put("m.json", b'{"units": [{"file": "a.c", "include": ["inc"], "define": ["WIDE"]}, {"file": "b.c"}]}')
+    run.put("inc/h.h", b"#ifndef H\n#define H\n#define TWICE(x) ((x) + (x))\n#endif\n")
+    run.put("a.c", b'#include <h.h>\n#include "h.h"\n#if defined WIDE\nlong a = TWICE(2);\n#endif\n')
+    run.put("b.c", b"#define EMPTY\nEMPTY\n")
+    run.expect(["expand", "m.json", "a.c"], 0, b"long a = ( ( 2 ) + ( 2 ) ) ;\n")
+    run.expect(["expand", "m.json", "b.c"], 0, b"")
+    run.expect(["expand", "b.c", "b.c"], 0, b"")
+    run.has_only("a.c", "b.c", "inc", "m.json")
+    run.holds("inc/h.h", b"#ifndef H\n#define H\n#define TWICE(x) ((x) + (x))\n#endif\n")
+
+
+def what_can_not_be_expanded_is_explained(run):
+    run.expect(["expand", "m.json", "a.c"], 2, b"manifest M1 m.json\n")
+    run.expect(["expand", "../a.c", "../a.c"], 2, b"manifest M4 ../a.c\n")
+    run.expect(["expand", "a.c", "b.c"], 2, b"manifest M7 b.c\n")
+    run.expect(["expand", "a.c", "a.c"], 3, b"a.c:1:1: refusal 7 NotFound\n")
+    run.put("m.json", b'{"units": [{"file": "a.c"}], "more": 1}')
+    run.expect(["expand", "m.json", "a.c"], 2, b"manifest M3 more\n")
+    run.put("m.json", b" " * (LIMIT + 1))
+    run.expect(["expand", "m.json", "a.c"], 4, b"limit L1 m.json\n")
+    run.put("a.c", b'#include "h.h"\n')
+    run.put("h.h", b"int a;\n#if 1\n")
+    run.expect(["expand", "a.c", "a.c"], 3, b"h.h:2:1: refusal 6 Conditionals\n")
+    run.put("h.h", b"\n" * (LIMIT + 1))
+    run.expect(["expand", "a.c", "a.c"], 4, b"limit L1 h.h\n")
+    os.remove(run.path("h.h"))
+    os.mkdir(run.path("h.h"))
+    run.expect(["expand", "a.c", "a.c"], 5, b"read fault h.h\n")
+    os.remove(run.path("m.json"))
+    os.mkfifo(run.path("m.json"))
+    run.expect(["expand", "m.json", "a.c"], 5, b"read fault m.json\n")
+
+
+def units_of_the_greatest_size(run):
+    run.put("a.c", b";" * 1_000_000 + b"\n")
+    run.expect(["expand", "a.c", "a.c"], 0, b"; " * 999_999 + b";\n")
+    run.put("a.c", b";" * 1_000_001 + b"\n")
+    run.expect(["expand", "a.c", "a.c"], 4, b"limit L2 a.c\n")
+    run.put("a.c", b"#if 1\n" * (LIMIT // 6))
+    run.expect(["expand", "a.c", "a.c"], 3, b"a.c:%d:1: refusal 6 Conditionals\n" % (LIMIT // 6))
+    run.put("a.c", b"#if 1\n" * (LIMIT // 13 - 1) + b"a\n" + b"#endif\n" * (LIMIT // 13 - 1))
+    run.expect(["expand", "a.c", "a.c"], 0, b"a\n")
+    for number in range(1, 66):
+        run.put(f"h{number}.h", b'#include "h%d.h"\n' % (number + 1) if number < 65 else b"b\n")
+    run.put("a.c", b'#include "h2.h"\n')
+    run.expect(["expand", "a.c", "a.c"], 0, b"b\n")
+    run.put("a.c", b'#include "h1.h"\n')
+    run.expect(["expand", "a.c", "a.c"], 4, b"limit L4 a.c\n")
+    run.put("h.h", b"#pragma once\n")
+    run.put("a.c", b'#include "h.h"\n' * 16_384 + b"c\n")
+    run.expect(["expand", "a.c", "a.c"], 0, b"c\n")
+    run.put("a.c", b'#include "h.h"\n' * 16_385)
+    run.expect(["expand", "a.c", "a.c"], 4, b"limit L9 a.c\n")
+    for number in range(4_096):
+        run.put(f"f{number}.h", b"")
+    run.put("a.c", b"".join(b'#include "f%d.h"\n' % number for number in range(4_095)))
+    run.expect(["expand", "a.c", "a.c"], 0, b"")
+    run.put("a.c", b"".join(b'#include "f%d.h"\n' % number for number in range(4_096)))
+    run.expect(["expand", "a.c", "a.c"], 4, b"limit L6 f4095.h\n")
+
+
+def a_listing_that_can_not_be_put(run):
+    run.put("a.c", b"int a;\n")
+    with open("/dev/full", "wb") as full:
+        run.expect(["expand", "a.c", "a.c"], 7, None, to=full)
+        run.expect(["expand", "a.c", "b.c"], 2, None, to=full)
+        run.expect(["expand", "b.c", "b.c"], 3, None, to=full)
+    ends = os.pipe()
+    os.close(ends[0])
+    run.expect(["expand", "a.c", "a.c"], 7, None, to=ends[1])
+    os.close(ends[1])
+    run.holds("a.c", b"int a;\n")
+    run.has_only("a.c")
+
+
 RUNS = [
     wrong_words,
     words_that_are_not_utf8,
@@ -290,6 +369,10 @@ RUNS = [
     output_that_fails,
     want_of_memory_changes_nothing,
     want_of_memory_for_the_words,
+    a_unit_is_expanded,
+    what_can_not_be_expanded_is_explained,
+    units_of_the_greatest_size,
+    a_listing_that_can_not_be_put,
 ]
 
 

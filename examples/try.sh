@@ -1,10 +1,12 @@
 #!/bin/sh
-# Proves and builds the tool, showing each function as it is proved, applies it to a copy of an example, and shows what
-# became of that. Ends with the status of the build where it fails, and else with the tool's own.
+# Proves and builds the tool, showing each function as it is proved and how long it takes, expands an example in two ways,
+# applies the tool to a copy of another example, and shows what became of that. Ends with the status of the build where it
+# fails, and else with the first status of the tool that isn't 0.
 top=$(cd "$(dirname "$0")/.." && pwd) || exit 2
 work=$(mktemp -d) || exit 2
 trap 'rm -rf "$work"' EXIT
-echo "Proving and building the tool. The first time on a machine this takes 5 to 10 minutes, and later some seconds." >&2
+echo "Proving and building the tool. The first time on a machine this takes 10 to 20 minutes, and later some seconds." >&2
+began=$(date +%s)
 # Where the build succeeds it ends with a run of the tool, whose output and status count for nothing here.
 {
     (cd "$top/crates/demacro" && rt run -- apply none.c)
@@ -16,10 +18,21 @@ if ! grep -q '^rt: running ' "$work/log"; then
     [ "$status" -ne 0 ] || status=2
     exit "$status"
 fi
-cp "$top/examples/letter.c" "$work" && cd "$work" || exit 2
-echo "demacro apply letter.c"
-"$top/crates/demacro/out/demacro" apply letter.c
-status=$?
-echo
+echo "Proved and built in $(($(date +%s) - began)) seconds." >&2
+failed=0
+
+# Shows a call of the tool, makes it, and keeps the first status that isn't 0.
+call() {
+    echo "$ demacro $*"
+    "$top/crates/demacro/out/demacro" "$@"
+    status=$?
+    [ "$failed" -ne 0 ] || failed=$status
+    echo
+}
+
+cp "$top/examples/letter.c" "$top/examples/light.c" "$top/examples/light.h" "$top/examples/light.json" "$work" && cd "$work" || exit 2
+call expand light.c light.c
+call expand light.json light.c
+call apply letter.c
 cat letter.c
-exit "$status"
+exit "$failed"

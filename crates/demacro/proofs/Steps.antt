@@ -19,12 +19,14 @@ use Rattle.demacro.specs.declared.planning.Plan.TheVariants.{Apply, Explain}
 use Rattle.demacro.specs.declared.applying.Committed.TheVariants.{Done, WriteFailed, OutputFailed}
 use Rattle.demacro.specs.Outside.{Outside, HasText, IsAbsent, IsTooLong, Puts, PutsText, KeepsFiles}
 use Rattle.demacro.specs.Texts.{write_fault_line, usage_line}
-use Rattle.demacro.specs.Words.{named_file}
+use Rattle.demacro.specs.Words.{Request, apply, expand, request_of}
+use Rattle.demacro.specs.UnitEndings as unit
+use Rattle.demacro.specs.UnitEndings.{EndsExpandingAs}
 use Rattle.demacro.specs.Plans.{IsPlan, IsReady, IsChange, line_for, status_for}
 use Rattle.demacro.specs.Commits.{IsCommittedAs, changed_files}
 use Rattle.std.specs.declared.io.ErrorKind.{ErrorKind}
 use Rattle.demacro.specs.Arguments.{PutsUsage, EndsUnread, is_want_of_memory}
-use Rattle.demacro.specs.Endings.{Ending, done, wrong_words, file_absent, form_left, file_too_long, read_failed, write_failed, output_failed, memory_wanted, status_of, EndsAt, EndsFor, Ends, EndsAs, EndsNamed, IsApplied, HoldsProgram, report_on}
+use Rattle.demacro.specs.Endings.{Ending, done, wrong_words, file_absent, form_left, file_too_long, read_failed, write_failed, output_failed, memory_wanted, status_of, EndsAt, EndsFor, Ends, EndsAs, EndsNamed, IsWanting, IsApplied, HoldsProgram, report_on}
 
 -- faults that rose since a later moment rose since an earlier one
 Rose-earlier : (before middle after : ℕ) → before ≤ middle → Rose middle after → Rose before after
@@ -171,9 +173,10 @@ ends_told name alias before after plan trouble (Ok status) planned is same keeps
 ends_told name alias before after plan trouble (Err error) planned is same keeps puts status_is unwritten = (keeps, unwritten)
 
 -- a call ends for want of memory, whatever its words are
-pub ends_wanting : (named : Option (List ℕ)) (before after : Outside) → KeepsFiles before after → after.written ≡ before.written → EndsFor named before after memory_wanted
-ends_wanting None before after keeps unwritten = (keeps, unwritten)
-ends_wanting (Some name) before after keeps unwritten = (keeps, unwritten)
+pub ends_wanting : (request : Option Request) (before after : Outside) → IsWanting before after → EndsFor request before after 8
+ends_wanting None before after wanting = (memory_wanted, refl, wanting)
+ends_wanting (Some (apply name)) before after wanting = (memory_wanted, refl, wanting)
+ends_wanting (Some (expand project file)) before after wanting = (unit.memory_wanted, refl, wanting)
 
 -- where the arguments can't be read, the process ends as with wrong words
 pub ends_unread : (kind : ErrorKind) (before after : Outside) (status : ℕ) → KeepsFiles before after → PutsUsage before.written after.written before.sink_faults after.sink_faults status
@@ -187,20 +190,26 @@ pub at_error : {A E : Type 0} (result : Result A E) (error : E) (P : A → Type 
 at_error result error P Q is holds = subst (λ told. MatchResult told P Q) (sym is) holds
 
 -- a call with other words puts the usage line, or ends for want of memory
-pub ends_unnamed : (words : List (List ℕ)) (before after : Outside) (result : Result ℕ Memory) → named_file words ≡ None → KeepsFiles before after → OnOk result (Puts before after usage_line)
+pub ends_unnamed : (words : List (List ℕ)) (before after : Outside) (result : Result ℕ Memory) → request_of words ≡ None → KeepsFiles before after → OnOk result (Puts before after usage_line)
     → IfOk result (λ status. status ≡ 1) → OnErr result (after.written ≡ before.written) → EndsAs words before after result
 ends_unnamed words before after (Ok status) none keeps puts is unwritten =
-    (wrong_words, is, subst (λ found. EndsFor found before after wrong_words) (sym none) (keeps, puts))
-ends_unnamed words before after (Err error) none keeps puts is unwritten =
-    subst (λ found. EndsFor found before after memory_wanted) (sym none) (keeps, unwritten)
+    subst (λ request. EndsFor request before after status) (sym none) (wrong_words, is, (keeps, puts))
+ends_unnamed words before after (Err error) none keeps puts is unwritten = (keeps, unwritten)
 
--- a call with good words ends as applying the file does
-pub ends_named : (words : List (List ℕ)) (name : List ℕ) (before after : Outside) (result : Result ℕ Memory) → named_file words ≡ Some name → EndsNamed name before after result → EndsAs words before after result
-ends_named words name before after (Ok status) is ends = (ends.0, ends.1, subst (λ found. EndsFor found before after ends.0) (sym is) ends.2)
-ends_named words name before after (Err error) is ends = subst (λ found. EndsFor found before after memory_wanted) (sym is) ends
+-- a call to apply a file ends as applying it does
+pub ends_named : (words : List (List ℕ)) (name : List ℕ) (before after : Outside) (result : Result ℕ Memory) → request_of words ≡ Some (apply name) → EndsNamed name before after result → EndsAs words before after result
+ends_named words name before after (Ok status) asks ends = subst (λ request. EndsFor request before after status) (sym asks) ends
+ends_named words name before after (Err error) asks ends = ends
+
+-- a call to expand a unit ends as expanding it does
+pub ends_expanding : (words : List (List ℕ)) (project file : List ℕ) (before after : Outside) (result : Result ℕ Memory) → request_of words ≡ Some (expand project file)
+    → EndsExpandingAs project file before after result → EndsAs words before after result
+ends_expanding words project file before after (Ok status) asks ends = subst (λ request. EndsFor request before after status) (sym asks) ends
+ends_expanding words project file before after (Err error) asks ends = ends
 
 -- where the words are good, the file holds a program and nothing fails, the status says that all is done
-pub complete_for : (words : List (List ℕ)) (name : List ℕ) (before after : Outside) (program : Program) (status : ℕ) → Ends words before after status → named_file words ≡ Some name → HoldsProgram before.files name program
-    → ¬ Rose before.folder_faults after.folder_faults → ¬ Rose before.sink_faults after.sink_faults → (status ≡ 0) ⊎ (status ≡ 8)
-complete_for words name before after program status (ending, is, ends) named holds folder sink =
-    subst (λ n. (n ≡ 0) ⊎ (n ≡ 8)) (sym is) (complete name before after program ending holds (subst (λ found. EndsFor found before after ending) named ends) folder sink)
+pub complete_for : (words : List (List ℕ)) (name : List ℕ) (before after : Outside) (program : Program) (status : ℕ) → Ends words before after status → request_of words ≡ Some (apply name)
+    → HoldsProgram before.files name program → ¬ Rose before.folder_faults after.folder_faults → ¬ Rose before.sink_faults after.sink_faults → (status ≡ 0) ⊎ (status ≡ 8)
+complete_for words name before after program status ends asks holds folder sink =
+    let named = subst (λ request. EndsFor request before after status) asks ends in
+    subst (λ n. (n ≡ 0) ⊎ (n ≡ 8)) (sym named.1) (complete name before after program named.0 holds named.2 folder sink)

@@ -8,8 +8,9 @@ use Rattle.dm_core.specs.Forms.{first_of, LeavesFormAt, MeansTheSame}
 use Rattle.dm_io.specs.Files.{Files, file_at, with_file, MayHaveSpoiled}
 use Rattle.dm_io.specs.Output.{appended, MayHaveAppended}
 use Rattle.dm_io.specs.Faults.{Rose}
-use Rattle.demacro.specs.Words.{named_file}
-use Rattle.demacro.specs.Texts.{usage_line, refusal_line, not_found, not_yet, limit_line, read_fault_line, write_fault_line, report_of}
+use Rattle.demacro.specs.Words.{Request, apply, expand, request_of}
+use Rattle.demacro.specs.Texts.{usage_line, refusal_line, limit_line, read_fault_line, write_fault_line, report_of}
+use Rattle.demacro.specs.UnitEndings.{UnitEnding, status_of_unit, EndsExpanding}
 use Rattle.demacro.specs.Outside.{Outside, HasText, IsAbsent, IsTooLong, Puts, KeepsFiles}
 
 -- the endings, with the program that was applied, or with the bytes that are no program and where they leave the form
@@ -56,11 +57,11 @@ EndsAt name before after (done program) =
     IsApplied before name program × IsRewritten before after name program × (after.written ≡ appended before.written (report_on name program))
 EndsAt name before after wrong_words = ⊥
 EndsAt name before after file_absent =
-    IsAbsent before.files name × KeepsFiles before after × Puts before after (refusal_line name 1 1 not_found)
+    IsAbsent before.files name × KeepsFiles before after × Puts before after (refusal_line name 1 1 7)
 EndsAt name before after (form_left bytes offset) =
-    HasText before.files name bytes × LeavesFormAt bytes offset × KeepsFiles before after × Puts before after (refusal_line name (line_at bytes offset) (column_at bytes offset) not_yet)
+    HasText before.files name bytes × LeavesFormAt bytes offset × KeepsFiles before after × Puts before after (refusal_line name (line_at bytes offset) (column_at bytes offset) 20)
 EndsAt name before after file_too_long =
-    IsTooLong before.files name × KeepsFiles before after × Puts before after (limit_line name)
+    IsTooLong before.files name × KeepsFiles before after × Puts before after (limit_line 1 name)
 EndsAt name before after read_failed =
     Rose before.folder_faults after.folder_faults × KeepsFiles before after × Puts before after (read_fault_line name)
 EndsAt name before after (write_failed program) =
@@ -75,24 +76,30 @@ EndsWithoutFile before after wrong_words = KeepsFiles before after × Puts befor
 EndsWithoutFile before after memory_wanted = KeepsFiles before after × (after.written ≡ before.written)
 EndsWithoutFile before after _ = ⊥
 
--- what each ending means for the words, which name a file or are no good
-abbrev pub EndsFor : Option (List ℕ) → Outside → Outside → Ending → Type 0
-EndsFor None before after ending = EndsWithoutFile before after ending
-EndsFor (Some name) before after ending = EndsAt name before after ending
+-- what the words ask for is done, and the call ends with this status
+abbrev pub EndsFor : Option Request → Outside → Outside → ℕ → Type 0
+EndsFor None before after status = (ending : Ending) × (status ≡ status_of ending) × EndsWithoutFile before after ending
+EndsFor (Some (apply name)) before after status = (ending : Ending) × (status ≡ status_of ending) × EndsAt name before after ending
+EndsFor (Some (expand project file)) before after status =
+    (ending : UnitEnding) × (status ≡ status_of_unit ending) × EndsExpanding project file before after ending
 
 -- a call with these words ends with this status
 abbrev pub Ends : List (List ℕ) → Outside → Outside → ℕ → Type 0
-Ends words before after status = (ending : Ending) × (status ≡ status_of ending) × EndsFor (named_file words) before after ending
+Ends words before after status = EndsFor (request_of words) before after status
+
+-- nothing is done for want of memory
+abbrev pub IsWanting : Outside → Outside → Type 0
+IsWanting before after = KeepsFiles before after × (after.written ≡ before.written)
 
 -- a call that applies a file ends: with a status, or for want of memory
 abbrev pub EndsNamed : List ℕ → Outside → Outside → Result ℕ Memory → Type 0
 EndsNamed name before after (Ok status) = (ending : Ending) × (status ≡ status_of ending) × EndsAt name before after ending
-EndsNamed name before after (Err error) = EndsAt name before after memory_wanted
+EndsNamed name before after (Err error) = IsWanting before after
 
--- the same for any words
+-- a call for any words ends: with a status, or for want of memory
 abbrev pub EndsAs : List (List ℕ) → Outside → Outside → Result ℕ Memory → Type 0
 EndsAs words before after (Ok status) = Ends words before after status
-EndsAs words before after (Err error) = EndsFor (named_file words) before after memory_wanted
+EndsAs words before after (Err error) = IsWanting before after
 
 -- the files are told, and the one of this name holds this program of the first form
 pub record HoldsProgram (told : Option Files) (name : List ℕ) (program : Program) : Type 0 where

@@ -1,7 +1,11 @@
 pub mod Arguments
+pub mod CommandLine
 pub mod Commits
 pub mod Endings
+pub mod Listings
 pub mod Outside
 pub mod Plans
+pub mod Projects
 pub mod Texts
+pub mod UnitEndings
 pub mod Words

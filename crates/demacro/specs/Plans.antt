@@ -11,7 +11,7 @@ use Rattle.demacro.specs.declared.planning.Trouble.TheVariants.{NotFound, NotYet
 use Rattle.demacro.specs.declared.planning.Prepared.{Prepared}
 use Rattle.demacro.specs.declared.planning.Plan.{Plan}
 use Rattle.demacro.specs.declared.planning.Plan.TheVariants.{Apply, Explain}
-use Rattle.demacro.specs.Texts.{report_of, refusal_line, not_found, not_yet, limit_line, read_fault_line, write_fault_line}
+use Rattle.demacro.specs.Texts.{report_of, refusal_line, limit_line, read_fault_line, write_fault_line}
 use Rattle.demacro.specs.Outside.{HasText, IsAbsent, IsTooLong}
 
 -- the change of a file: none where its bytes stay, and else the new ones
@@ -49,9 +49,9 @@ IsPlan files name before after (Explain ReadFault) = Rose before after
 
 -- the line that explains why there is nothing to apply, and the status
 abbrev pub line_for : List ℕ → Trouble → List ℕ
-line_for name NotFound = refusal_line name 1 1 not_found
-line_for name (NotYet place) = refusal_line name place.line place.column not_yet
-line_for name TooLong = limit_line name
+line_for name NotFound = refusal_line name 1 1 7
+line_for name (NotYet place) = refusal_line name place.line place.column 20
+line_for name TooLong = limit_line 1 name
 line_for name ReadFault = read_fault_line name
 
 abbrev pub status_for : Trouble → ℕ

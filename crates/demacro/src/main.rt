@@ -3,10 +3,14 @@
 #![tactic(auto)]
 
 mod applying;
+mod expanding;
 mod explaining;
 mod joining;
+mod listing;
+mod parsing;
 mod planning;
 mod process;
+mod project;
 mod reporting;
 mod top;
 mod words;

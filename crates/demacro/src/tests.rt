@@ -8,6 +8,8 @@ use std::io::{self, ErrorKind};
 use std::process::{Abort, ExitCode};
 use std::test::Fail;
 
+mod expanding;
+
 /// A call on a folder with the one file `a.c`, and what has to come of it.
 #[derive(Clone, Copy)]
 struct Case<'a> {
@@ -22,7 +24,7 @@ struct Case<'a> {
     after: &'a str,
 }
 
-const USAGE: &str =
+pub const USAGE: &str =
     "usage: demacro plan M [--json] | apply M [--json] | expand M UNIT | run M UNIT [--order N] [--steps N] [--input FILE] | gen N\n";
 
 const LETTER: &str =
@@ -51,7 +53,7 @@ fn quiet<'a>(before: &'a str, status: u8, output: &'a str, after: &'a str) -> Ca
     }
 }
 
-fn texts(alloc: Global, words: &[&str]) -> Result<Vec<String>, Fail> {
+pub fn texts(alloc: Global, words: &[&str]) -> Result<Vec<String>, Fail> {
     let mut texts = Vec::new(alloc);
     for word in words {
         texts.push(String::from_str(alloc, word)?)?;
@@ -59,7 +61,7 @@ fn texts(alloc: Global, words: &[&str]) -> Result<Vec<String>, Fail> {
     Ok(texts)
 }
 
-fn numbers(alloc: Global, items: &[u32]) -> Result<List<u32>, Fail> {
+pub fn numbers(alloc: Global, items: &[u32]) -> Result<List<u32>, Fail> {
     Ok(List::from_vec(Vec::from_slice(alloc, items)?))
 }
 

@@ -2,32 +2,46 @@ ghost use Rattle.std.specs.Prelude.{◌≡◌, ◌≤◌, ◌⊎◌, ℕ, List, 
 ghost use Rattle.dm_core.specs.Programs.{Program};
 ghost use Rattle.dm_io.specs.Files.{HasFile};
 ghost use Rattle.dm_io.specs.Faults.{Rose};
-ghost use Rattle.demacro.specs.Words.{named_file};
+ghost use Rattle.demacro.specs.Words.{apply, expand as to_expand, request_of, AsksFor};
 ghost use Rattle.demacro.specs.Outside.{outside};
 ghost use Rattle.demacro.specs.Commits.{IsCommittedAs};
+ghost use Rattle.demacro.specs.UnitEndings.{HoldsUnit};
 ghost use Rattle.demacro.specs.Endings.{Ends, EndsAs, EndsNamed, HoldsProgram};
 
 use crate::applying::{commit, make_ready, status_of};
+use crate::expanding::expand;
 use crate::explaining::{explain, explain_usage};
+use crate::parsing::named_unit;
 use crate::planning::{Plan, Prepared, make_plan};
-use crate::words::source_file;
+use crate::words::{Command, command_of};
 use dm_io::{Folder, Sink};
 use dm_token::{Memory, Text};
 use std::alloc::Global;
 
 /// Does what the words say, and answers the exit status.
 ///
-/// The words are the command line without the program's name. The one command is `apply FILE`, for a file of at most
-/// 1,048,576 bytes that holds a program of the first form: each of its macros that is a term of the sum becomes an
-/// enumerator in the same line, and the report is put. The statuses are: 0 done, 1 wrong words, 3 refused source, 4 a
-/// limit passed, 5 the file can't be read, 6 it can't be written, 7 the report can't be put, 8 want of memory.
+/// The words are the command line without the program's name.
+///
+/// - `apply FILE`, for a file of at most 1,048,576 bytes that holds a program of the first form: each of its macros that
+///   is a term of the sum becomes an enumerator in the same line, and the report is put.
+/// - `expand M UNIT`, for a project M, which is a `.c` file alone or a manifest, and the main file of one of its units:
+///   the unit's tokens after phase 4 are put.
+///
+/// The statuses are: 0 done, 1 wrong words, 2 a fault of the manifest, 3 refused source, 4 a limit passed, 5 a file can't
+/// be read, 6 it can't be written, 7 the output can't be put, 8 want of memory.
 pub fn run<F: Folder, S: Sink>(alloc: Global, words: &[String], folder: &mut F, out: &mut S) -> u8
     ensures ending { Ends (map string_bytes words.now)
         (outside F.Folder S.Sink folder.old out.old)
         (outside F.Folder S.Sink folder.new out.new) result }
     // Where the words are good, the file holds a program of the first form and nothing fails, all is done.
-    ensures complete { (name : List ℕ) (program : Program) → named_file (map string_bytes words.now) ≡ Some name
+    ensures complete { (name : List ℕ) (program : Program) → request_of (map string_bytes words.now) ≡ Some (apply name)
         → HoldsProgram (F.files folder.old) name program
+        → ¬ Rose (F.faults folder.old) (F.faults folder.new) → ¬ Rose (S.faults out.old) (S.faults out.new)
+        → (result ≡ 0) ⊎ (result ≡ 8) }
+
+    // Where the words are good, the project has the unit, the unit is read and nothing fails, it is put.
+    ensures complete_unit { (project : List ℕ) (file : List ℕ) → request_of (map string_bytes words.now) ≡ Some (to_expand project file)
+        → HoldsUnit (F.files folder.old) project file
         → ¬ Rose (F.faults folder.old) (F.faults folder.new) → ¬ Rose (S.faults out.old) (S.faults out.new)
         → (result ≡ 0) ⊎ (result ≡ 8) }
 
@@ -53,16 +67,49 @@ fn run_words<F: Folder, S: Sink>(
     ensures folder_later { F.faults folder.old ≤ F.faults folder.new }
     ensures sink_later { S.faults out.old ≤ S.faults out.new }
 {
-    match source_file(words) {
-        Some(name) => {
-            let name = Text::new(alloc, name)?;
-            apply(alloc, &name, folder, out)
-        }
+    match command_of(words) {
         None => explain_usage(alloc, out),
+        Some(Command::Apply(name)) => apply_named(alloc, name, folder, out),
+        Some(Command::Expand) => expand_named(alloc, words, folder, out),
     }
 }
 
 /// Applies the file of a name.
+fn apply_named<F: Folder, S: Sink>(
+    alloc: Global,
+    name: &str,
+    folder: &mut F,
+    out: &mut S,
+) -> Result<u8, Memory>
+    ensures ending { EndsNamed name.now
+        (outside F.Folder S.Sink folder.old out.old)
+        (outside F.Folder S.Sink folder.new out.new) result }
+    ensures folder_later { F.faults folder.old ≤ F.faults folder.new }
+    ensures sink_later { S.faults out.old ≤ S.faults out.new }
+{
+    let name = Text::new(alloc, name)?;
+    apply(alloc, &name, folder, out)
+}
+
+/// Expands the unit that good words ask for.
+fn expand_named<F: Folder, S: Sink>(
+    alloc: Global,
+    words: &[String],
+    folder: &mut F,
+    out: &mut S,
+) -> Result<u8, Memory>
+    requires { AsksFor (map string_bytes words.now) (Some Command.Expand) }
+    ensures ending { EndsAs (map string_bytes words.now)
+        (outside F.Folder S.Sink folder.old out.old)
+        (outside F.Folder S.Sink folder.new out.new) result }
+    ensures folder_later { F.faults folder.old ≤ F.faults folder.new }
+    ensures sink_later { S.faults out.old ≤ S.faults out.new }
+{
+    let (project, file) = named_unit(alloc, words)?;
+    expand(alloc, project, file, folder, out)
+}
+
+/// Applies a file.
 fn apply<F: Folder, S: Sink>(
     alloc: Global,
     name: &Text,

@@ -1,24 +1,43 @@
 ghost use Rattle.std.specs.Prelude.{◌≡◌, [], ◌∷◌, map, string_bytes};
-ghost use Rattle.std.specs.Option.{option_copied};
-ghost use Rattle.demacro.specs.Words.{named_file, is_source_name as names_source};
+ghost use Rattle.demacro.specs.Words.{AsksFor, is_plain_word as plain_word, is_source_name as names_source};
 
 use dm_token::is_normal_name;
 
-/// The file that the words name: they are `apply` and a normal name that ends in `.c`.
-pub fn source_file(words: &[String]) -> Option<&str>
-    ensures { option_copied result ≡ named_file (map string_bytes words.now) }
+/// What good words ask for.
+#[derive(Clone, Copy, Debug, PartialEq, Eq)]
+pub enum Command<'a> {
+    /// To apply the file of this name.
+    Apply(&'a str),
+    /// To expand a unit of a project. The words are still to be read.
+    Expand,
+}
+
+/// The command that the words ask for, if they are good.
+pub fn command_of(words: &[String]) -> Option<Command<'_>>
+    ensures { AsksFor (map string_bytes words.now) result }
 {
     match words {
-        [command, name] => source_of(command.as_str(), name.as_str()),
+        [command, file] => apply_of(command.as_str(), file.as_str()),
+        [command, project, unit] => expand_of(command.as_str(), project.as_str(), unit.as_str()),
         _ => None,
     }
 }
 
-fn source_of<'a>(command: &str, name: &'a str) -> Option<&'a str>
-    ensures { option_copied result ≡ named_file (command.now ∷ name.now ∷ []) }
+fn apply_of<'a>(command: &str, file: &'a str) -> Option<Command<'a>>
+    ensures { AsksFor (command.now ∷ file.now ∷ []) result }
 {
-    if command == "apply" && is_source_name(name.as_bytes()) {
-        Some(name)
+    if command == "apply" && is_source_name(file.as_bytes()) {
+        Some(Command::Apply(file))
+    } else {
+        None
+    }
+}
+
+fn expand_of<'a>(command: &str, project: &str, unit: &str) -> Option<Command<'a>>
+    ensures { AsksFor (command.now ∷ project.now ∷ unit.now ∷ []) result }
+{
+    if command == "expand" && is_plain_word(project) && is_plain_word(unit) {
+        Some(Command::Expand)
     } else {
         None
     }
@@ -29,4 +48,14 @@ fn is_source_name(name: &[u8]) -> bool
     ensures { result ≡ names_source name.now }
 {
     is_normal_name(name) && name.ends_with(b".c".as_slice())
+}
+
+/// Whether a word is neither empty nor an option.
+fn is_plain_word(word: &str) -> bool
+    ensures { result ≡ plain_word word.now }
+{
+    match word.as_bytes() {
+        [] => false,
+        [first, ..] => *first != b'-',
+    }
 }

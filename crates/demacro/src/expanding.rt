@@ -1,0 +1,56 @@
+ghost use Rattle.std.specs.Prelude.{◌≡◌, ◌≤◌, true};
+ghost use Rattle.dm_manifest.specs.Units.{IsLawful};
+ghost use Rattle.demacro.specs.Outside.{outside};
+ghost use Rattle.demacro.specs.UnitEndings.{EndsExpandingAs, EndsWithAs};
+
+use crate::explaining::{explain_no_unit, explain_stop};
+use crate::listing::put_listing;
+use crate::project::{Sought, find_unit};
+use dm_io::{Folder, Sink};
+use dm_search::Loader;
+use dm_token::{Memory, Text, Unit};
+use dm_unit::unit_tokens;
+use std::alloc::Global;
+
+/// Expands the unit of a project with this main file: puts its tokens, or why there are none.
+pub fn expand<F: Folder, S: Sink>(
+    alloc: Global,
+    project: &str,
+    file: &str,
+    folder: &mut F,
+    out: &mut S,
+) -> Result<u8, Memory>
+    ensures ending { EndsExpandingAs project.now file.now
+        (outside F.Folder S.Sink folder.old out.old)
+        (outside F.Folder S.Sink folder.new out.new) result }
+    ensures folder_later { F.faults folder.old ≤ F.faults folder.new }
+    ensures sink_later { S.faults out.old ≤ S.faults out.new }
+{
+    let project = Text::new(alloc, project)?;
+    let file = Text::new(alloc, file)?;
+    match find_unit(alloc, folder, &project, &file)? {
+        Sought::Found(unit) => expand_unit(alloc, &unit, folder, out),
+        Sought::Missing(why) => explain_no_unit(alloc, out, project.bytes(), file.bytes(), &why),
+    }
+}
+
+/// Expands a unit.
+fn expand_unit<F: Folder, S: Sink>(
+    alloc: Global,
+    unit: &Unit,
+    folder: &mut F,
+    out: &mut S,
+) -> Result<u8, Memory>
+    requires { IsLawful unit.now }
+    ensures ending { EndsWithAs unit.now
+        (outside F.Folder S.Sink folder.old out.old)
+        (outside F.Folder S.Sink folder.new out.new) result }
+    ensures folder_later { F.faults folder.old ≤ F.faults folder.new }
+    ensures sink_later { S.faults out.old ≤ S.faults out.new }
+{
+    let mut loader = Loader::new(alloc)?;
+    match unit_tokens(alloc, folder, &mut loader, unit) {
+        Ok(tokens) => put_listing(alloc, out, &tokens),
+        Err(stop) => explain_stop(alloc, out, loader.names(), stop),
+    }
+}
