@@ -31,12 +31,17 @@ def best(command):
     return min(time for time, _ in runs), min(peak for _, peak in runs)
 
 
-shape, lexer, path = sys.argv[1:]
-size = os.path.getsize(path)
-ours, peak = best([lexer, path])
-_, floor = best([lexer, os.devnull])
-theirs, _ = best(["gcc", "-E", path])
-print(
-    f"{shape}: {ours * 1000:.0f} ms, gcc -E {theirs * 1000:.0f} ms, ratio {ours / theirs:.2f}, "
-    f"peak {(peak - floor) / size:.0f} bytes a byte of source"
-)
+def main():
+    shape, lexer, path = sys.argv[1:]
+    size = os.path.getsize(path)
+    ours, peak = best([lexer, path])
+    _, floor = best([lexer, os.devnull])
+    theirs, _ = best(["gcc", "-E", path])
+    print(
+        f"{shape}: {ours * 1000:.0f} ms, gcc -E {theirs * 1000:.0f} ms, ratio {ours / theirs:.2f}, "
+        f"peak {(peak - floor) / size:.0f} bytes a byte of source"
+    )
+
+
+if __name__ == "__main__":
+    main()
