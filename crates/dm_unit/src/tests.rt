@@ -1,9 +1,12 @@
 //! Worked units, each stop, and units at the limits.
 
+ghost use Rattle.std.specs.Prelude.{◌≤◌, All, IsTrue, length};
+ghost use Rattle.dm_token.specs.Limits.{source_length_limit as limit};
+
 use crate::unit_tokens;
 use dm_io::MemoryFolder;
 use dm_search::Loader;
-use dm_token::{List, Stop, Text, Unit, UnitTokens};
+use dm_token::{List, Stop, Text, Unit, UnitTokens, source_length_limit};
 use std::process::Abort;
 use std::test::Fail;
 
@@ -33,6 +36,15 @@ fn add<R: Abort + AllocGlobal>(
     Ok(())
 }
 
+/// Whether each define is no longer than a file.
+fn are_short(defines: &[Text]) -> bool
+    ensures { IsTrue result → All (λ define. length define ≤ limit) defines.now }
+{
+    defines
+        .iter()
+        .all(|define| define.bytes().len() <= source_length_limit())
+}
+
 /// Reads the unit of a folder, with the define `N=3`.
 fn read<R: Abort + AllocGlobal>(
     rt: &R,
@@ -41,9 +53,7 @@ fn read<R: Abort + AllocGlobal>(
     let mut loader = Loader::new(rt.alloc())?;
     assert!(rt; loader.names().len() < 10_000);
     let unit = unit(rt, "N=3")?;
-    for define in unit.define.items() {
-        assert!(rt; define.bytes().len() < 100);
-    }
+    assert!(rt; are_short(unit.define.items()));
     Ok(unit_tokens(rt.alloc(), folder, &mut loader, &unit))
 }
 
