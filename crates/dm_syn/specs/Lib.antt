@@ -1,0 +1,11 @@
+pub mod Symbols
+pub mod Trees
+pub mod Views
+pub mod Heights
+pub mod Scopes
+pub mod Sources
+pub mod Spans
+pub mod Grammar
+pub mod Statements
+pub mod Capped
+pub mod Yields
