@@ -1,0 +1,6 @@
+pub mod DistinctLemmas
+pub mod SoundLemmas
+pub mod LayoutLemmas
+pub mod ComparisonLemmas
+pub mod WritingLemmas
+pub mod ComposingLemmas

@@ -1,0 +1,13 @@
+pub mod Alike
+pub mod CTypes
+pub mod EqualLaws
+pub mod Hashing
+pub mod Comparing
+pub mod Layouts
+pub mod Sound
+pub mod Spelling
+pub mod TableLaws
+pub mod Tables
+pub mod Wraps
+pub mod Writing
+pub mod Composing
