@@ -1,0 +1,12 @@
+pub mod Trees
+pub mod Paths
+pub mod Units
+pub mod Evaluation
+pub mod Constants
+pub mod Scenes
+pub mod Operands
+pub mod Initialisers
+pub mod Typing
+pub mod Views
+pub mod TypeNumbers
+pub mod Opened
