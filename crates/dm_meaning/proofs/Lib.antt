@@ -1,0 +1,14 @@
+mod AmongLemmas
+mod MoveLemmas
+mod StepLemmas
+mod OptionLemmas
+mod QuietLemmas
+mod ConstantLemmas
+mod RunLemmas
+mod StatementLemmas
+mod StateLemmas
+mod StartLemmas
+mod ExtendLemmas
+mod LifeLemmas
+mod UnitLemmas
+mod PrimLemmas

@@ -1,0 +1,15 @@
+//! What C programs mean: an abstract machine (ISO/IEC 9899:2011, 5.1.2.3) whose steps are free choices where C leaves the
+//! order of evaluation open, its runs, and when one program refines another.
+#![tactic(auto)]
+
+mod cause;
+mod laws;
+
+pub use cause::Cause;
+pub use laws::{
+    Simulation, enumerated_refines, extended_answers, extended_steps, inner_locks, inner_steps,
+    own_lifetimes, refines_itself, refines_through, simulated, unended_steps, units_refine,
+};
+
+#[cfg(test)]
+mod tests;
