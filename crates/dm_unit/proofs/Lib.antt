@@ -6,6 +6,7 @@ mod LeaveLemmas
 mod LineLemmas
 mod ListLemmas
 mod NameLemmas
+pub mod OutcomeLemmas
 mod PartLemmas
 mod PlaceLemmas
 mod ReadingLemmas

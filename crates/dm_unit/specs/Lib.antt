@@ -4,6 +4,7 @@ pub mod Directives
 pub mod Includes
 pub mod Lines
 pub mod Loaders
+pub mod Outcomes
 pub mod Readings
 pub mod Sections
 pub mod Sources

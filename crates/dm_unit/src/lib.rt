@@ -2,13 +2,14 @@
 //! (6.10).
 #![tactic(auto)]
 
-ghost use Rattle.std.specs.Prelude.{◌≡◌, ◌≢◌, ◌+◌, ◌<◌, ◌≤◌, ℕ, List, Some, Err, IfErr, OnOk, All, length, slice_range};
+ghost use Rattle.std.specs.Prelude.{◌≡◌, ◌≢◌, ◌+◌, ◌<◌, ◌≤◌, ℕ, Bool, List, Some, Err, IfErr, OnOk, All, length, slice_range};
 ghost use Rattle.dm_token.specs.Limits.{source_length_limit};
 ghost use Rattle.dm_token.specs.declared.stop.Stop.TheVariants.{Memory, ReadFault};
 ghost use Rattle.dm_io.specs.Faults.{Rose};
 ghost use Rattle.dm_io.specs.Files.{Files};
 ghost use Rattle.dm_search.specs.Loaded.{number_of};
-ghost use Rattle.dm_unit.specs.States.{Setting, Catalogue};
+ghost use Rattle.dm_unit.specs.States.{Setting, Catalogue, State, Outcome};
+ghost use Rattle.dm_unit.specs.Outcomes.{seeing, Agree, IsLike};
 ghost use Rattle.dm_unit.specs.Loaders.{Grows, WasUnknown, shown, stopped_at};
 ghost use Rattle.dm_unit.specs.Readings.{ReadsPart, ReadsFile, ReadsMain, ReadsUnit, DoesManifests, Enters};
 ghost use Rattle.dm_unit.specs.Units.{IsReadAs, setting_of};
@@ -80,7 +81,15 @@ pub fn unit_tokens<F: Folder>(
     read_unit(alloc, folder, loader, unit)
 }
 
-/// The same, with what it leaves in one clause.
+/// A unit has at most one outcome, failed readings apart and whatever names may be looked for: one state, up to the order
+/// of the names used in conditions (those that stand at one place have none), or one refusal or limit.
+pub fn one_outcome()
+    ensures { (setting : Setting) (looked : List ℕ → Bool) (name : List ℕ) (defines : List (List ℕ)) (state : State) (one other : Outcome) →
+        ReadsUnit setting name defines state one → ReadsUnit (seeing looked setting) name defines state other →
+        IfErr one IsFaultless → IfErr other IsFaultless → Agree IsLike one other }
+{}
+
+/// `unit_tokens`, with what it leaves in one clause.
 fn read_unit<F: Folder>(
     alloc: Global,
     folder: &mut F,
