@@ -12,7 +12,9 @@ use Rattle.dm_io.specs.Output.{appended, MayHaveAppended}
 use Rattle.dm_io.specs.Faults.{Rose}
 use Rattle.dm_search.specs.Loaded.{Loaded}
 use Rattle.dm_search.specs.Fresh.{fresh}
-use Rattle.dm_unit.specs.Units.{IsReadAs, setting_of}
+use Rattle.dm_unit.specs.Units.{IsReadAs, setting_of, first_files, state_with}
+use Rattle.dm_unit.specs.Loaders.{is_known}
+use Rattle.dm_unit.proofs.OutcomeLemmas.{one-outcome}
 use Rattle.demacro.specs.declared.project.NoUnit.{NoUnit}
 use Rattle.dm_token.specs.Names.{is_normal_name}
 use Rattle.dm_token.specs.Limits.{source_length_limit}
@@ -28,7 +30,7 @@ use Rattle.demacro.specs.Outside.{HasText, Outside, KeepsFiles, Puts, PutsText}
 use Rattle.demacro.specs.Projects.{HasManifest, HasNoUnit, HasUnit, IsManifestFault, IsProject, NamesManifest, unit_named, line_of_no_unit, status_of_no_unit}
 use Rattle.demacro.specs.Endings.{Ends, EndsFor}
 use Rattle.demacro.specs.Words.{expand, request_of}
-use Rattle.demacro.specs.UnitEndings.{UnitEnding, listed, unit_missing, refused, limit_passed, file_unread, listing_failed, memory_wanted, status_of_unit, IsReading, listing, EndsWith, EndsWithAs, EndsExpanding, EndsExpandingAs, HoldsUnit, IsFree, line_of_stop, status_of_stop}
+use Rattle.demacro.specs.UnitEndings.{UnitEnding, listed, unit_missing, refused, limit_passed, file_unread, listing_failed, memory_wanted, status_of_unit, IsReading, listing, EndsWith, EndsWithAs, EndsExpanding, EndsExpandingAs, HoldsUnit, line_of_stop, status_of_stop}
 
 -- faults that rose since a later moment rose since an earlier one
 Rose-earlier : (before middle after : ℕ) → before ≤ middle → Rose middle after → Rose before after
@@ -210,13 +212,32 @@ has_unit files project file unit before after (Manifest fault) has none quiet =
 has_unit files project file unit before after Unlisted has none quiet =
     true≢false (ap is_some (sym has.2 ∙ ap (unit_named file) (one_project files project has.0 none.0 has.1 none.1) ∙ none.2))
 
+-- a stop for which the unit's text is not the cause
+abbrev IsFree : Stop → Type 0
+IsFree stop.Memory = Unit {0}
+IsFree (stop.Refused refusal) = ⊥
+IsFree (stop.Limit limit) = ⊥
+IsFree (stop.ReadFault file) = Unit {0}
+
+-- a unit that is read has no stop, where the files are told, but for a fault or for want of memory
+reads-no-stop : (files : Files) (unit : Source) (tokens : UnitTokens) (one other : Loaded) (why : Stop) → IsReadAs (setting_of fresh one files unit) unit fresh (Ok tokens) one
+    → IsReadAs (setting_of fresh other files unit) unit fresh (Err why) other → IsFree why
+reads-no-stop files unit tokens one other stop.Memory reads stops = tt
+reads-no-stop files unit tokens one other (stop.Refused refusal) reads stops =
+    absurd (one-outcome (setting_of fresh one files unit) (is_known other) unit.file unit.define (state_with (first_files fresh unit)) (Ok reads.0) (Err (stop.Refused refusal)) reads.1 stops tt tt)
+reads-no-stop files unit tokens one other (stop.Limit limit) reads stops =
+    absurd (one-outcome (setting_of fresh one files unit) (is_known other) unit.file unit.define (state_with (first_files fresh unit)) (Ok reads.0) (Err (stop.Limit limit)) reads.1 stops tt tt)
+reads-no-stop files unit tokens one other (stop.ReadFault file) reads stops = tt
+
 -- a unit that is read stops only by a fault or for want of memory
 unread : (project file : List ℕ) (before : Outside) → HoldsUnit before.files project file → (why : Stop) (loaded : Loaded) (other : Source) → HasUnit before.files project file other
     → IsReading before.files other (Err why) loaded → IsFree why
 unread project file before holds why loaded other has reads =
     let same : other ≡ holds.unit =
     one_unit holds.files project file other holds.unit (subst (λ told. HasUnit told project file other) holds.are_told has) (subst (λ told. HasUnit told project file holds.unit) holds.are_told holds.has) in
-    holds.is_read why loaded (subst (λ (unit : Source). IsReading before.files unit (Err why) loaded) same reads)
+    reads-no-stop holds.files holds.unit holds.tokens holds.loaded loaded why
+    (subst (λ (told : Option Files). IsReading told holds.unit (Ok holds.tokens) holds.loaded) holds.are_told holds.is_read)
+    (subst (λ (told : Option Files). IsReading told holds.unit (Err why) loaded) holds.are_told (subst (λ (unit : Source). IsReading before.files unit (Err why) loaded) same reads))
 
 -- where the unit is read and nothing fails, only two endings are left
 complete_unit : (project file : List ℕ) (before after : Outside) (ending : UnitEnding) → HoldsUnit before.files project file → EndsExpanding project file before after ending

@@ -98,17 +98,12 @@ status_of_stop (stop.Refused refusal) = 3
 status_of_stop (stop.Limit limit) = 4
 status_of_stop (stop.ReadFault file) = 5
 
--- a stop for which the unit's text is not the cause
-abbrev pub IsFree : Stop → Type 0
-IsFree stop.Memory = Unit {0}
-IsFree (stop.Refused refusal) = ⊥
-IsFree (stop.Limit limit) = ⊥
-IsFree (stop.ReadFault file) = Unit {0}
-
--- the files are told, the project has the unit, and its reading meets no refusal and passes no limit
+-- the files are told, the project has the unit, and its reading gives these tokens
 pub record HoldsUnit (told : Option Files) (project file : List ℕ) : Type 0 where
   pub files : Files
   pub are_told : told ≡ Some files
   pub unit : Source
   pub has : HasUnit told project file unit
-  pub is_read : (why : Stop) (loaded : Loaded) → IsReading told unit (Err why) loaded → IsFree why
+  pub tokens : UnitTokens
+  pub loaded : Loaded
+  pub is_read : IsReading told unit (Ok tokens) loaded
