@@ -150,7 +150,7 @@ read_same layout memory more locks fewer kind at has among e =
       same,
     )
 
-store_same : (layout : Layout) (memory more : Memory) (locks fewer : List At) (kind : CType) (at : At) → HasAll more memory → AreAmong fewer locks
+pub store_same : (layout : Layout) (memory more : Memory) (locks fewer : List At) (kind : CType) (at : At) → HasAll more memory → AreAmong fewer locks
     → store_causes layout memory locks kind at ≡ [] → store_causes layout more fewer kind at ≡ []
 store_same layout memory more locks fewer kind at has among e =
     let const_causes = when Const (is_fixed (reached_in layout at.path (look memory at.name)) || not (may_be_written (look memory at.name))) in

@@ -12,3 +12,10 @@ mod ExtendLemmas
 mod LifeLemmas
 mod UnitLemmas
 mod PrimLemmas
+mod FewerLemmas
+mod CallRunLemmas
+mod CallStatementLemmas
+mod YieldLemmas
+mod CallStateLemmas
+mod StaticLemmas
+mod CallStartLemmas

@@ -226,7 +226,7 @@ module _ (change : Replaced) (replacement : IsReplacement change) where
   abbrev old_statics : (ℕ → ℕ) → Objects
   old_statics names = named_from names 0 (static_numbers change.old.statics) []
 
-  statics_agree : (names : ℕ → ℕ) → named_from names 0 (static_numbers change.statics) [] ≡ renamed_objects change.rename (old_statics names)
+  pub statics_agree : (names : ℕ → ℕ) → named_from names 0 (static_numbers change.statics) [] ≡ renamed_objects change.rename (old_statics names)
   statics_agree names =
       ap (λ ds. named_from names 0 ds []) (numbers_agree change.statics change.old.statics replacement.statics) ∙ named_from_renamed change.rename names 0 (static_numbers change.old.statics) []
 
@@ -234,20 +234,20 @@ module _ (change : Replaced) (replacement : IsReplacement change) where
   zeroed_same names =
       ap (λ ds. zeroed_from (new_of change) names 0 ds []) (numbers_agree change.statics change.old.statics replacement.statics) ∙ zeroed_agrees names 0 (static_numbers change.old.statics) []
 
-  memory_agrees : (names : ℕ → ℕ) → statics_memory (new_of change) names (named_from names 0 (static_numbers change.statics) []) ≡ statics_memory change.old names (old_statics names)
+  pub memory_agrees : (names : ℕ → ℕ) → statics_memory (new_of change) names (named_from names 0 (static_numbers change.statics) []) ≡ statics_memory change.old names (old_statics names)
   memory_agrees names =
       let zeroed = zeroed_from change.old names 0 (static_numbers change.old.statics) [] in
       ap (λ o. all_initialised (new_of change) o (zeroed_from (new_of change) names 0 (static_numbers change.statics) []) change.statics (zeroed_from (new_of change) names 0 (static_numbers change.statics) [])) (statics_agree names)
       ∙ ap (λ z. all_initialised (new_of change) (renamed_objects change.rename (old_statics names)) z change.statics z) (zeroed_same names)
       ∙ all_initialised_agree (old_statics names) zeroed change.statics change.old.statics replacement.statics zeroed
 
-  zipped_length : {X Y : Type 0} (R : X → Y → Type 0) (xs : List X) (ys : List Y) → Zipped R xs ys → length xs ≡ length ys
+  pub zipped_length : {X Y : Type 0} (R : X → Y → Type 0) (xs : List X) (ys : List Y) → Zipped R xs ys → length xs ≡ length ys
   zipped_length R [] [] h = refl
   zipped_length R [] (y ∷ ys) h = absurd h
   zipped_length R (x ∷ xs) [] h = absurd h
   zipped_length R (x ∷ xs) (y ∷ ys) h = ap suc (zipped_length R xs ys h.1)
 
-  arguments_agree : (n : ℕ) (ds : List ℕ) → arguments_for n (map change.rename ds) ≡ arguments_for n ds
+  pub arguments_agree : (n : ℕ) (ds : List ℕ) → arguments_for n (map change.rename ds) ≡ arguments_for n ds
   arguments_agree n [] = refl
   arguments_agree n (d ∷ ds) = refl
 
@@ -268,7 +268,7 @@ module _ (change : Replaced) (replacement : IsReplacement change) where
       by_bool true k = h.0
       by_bool false k = k
 
-  other_main : (one other : Option Definition) (main : Definition) → OptionAgrees (DefinitionAgrees change) one other → one ≡ Some main → (m : Definition) × (other ≡ Some m) × DefinitionAgrees change main m
+  pub other_main : (one other : Option Definition) (main : Definition) → OptionAgrees (DefinitionAgrees change) one other → one ≡ Some main → (m : Definition) × (other ≡ Some m) × DefinitionAgrees change main m
   other_main None other main h e = absurd (none_is_some main e)
   other_main (Some one) None main h e = absurd h
   other_main (Some one) (Some other) main h e = (other, refl, subst (λ d. DefinitionAgrees change d other) (some_is_some one main e) h)

@@ -19,5 +19,6 @@ pub mod Extending
 pub mod Lifetimes
 pub mod Replaced
 pub mod ReplacedUnits
+pub mod Called
 pub mod Choices
 pub mod Examples

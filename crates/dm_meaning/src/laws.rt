@@ -3,6 +3,8 @@ ghost use Rattle.dm_meaning.specs.Among.{IsAmong};
 ghost use Rattle.dm_meaning.specs.Machines.{going};
 ghost use Rattle.dm_meaning.specs.Refinement.{Refines};
 ghost use Rattle.dm_meaning.specs.Replaced.{Replaced, new_of, IsReplacement};
+ghost use Rattle.dm_meaning.specs.Called as called;
+ghost use Rattle.dm_meaning.specs.Called.{Called, IsCalling};
 ghost use Rattle.dm_meaning.specs.Simulation.{IsSimulation};
 ghost use Rattle.dm_meaning.specs.Values.{At, Value};
 ghost use Rattle.dm_meaning.specs.Programs.{Program};
@@ -107,4 +109,10 @@ pub fn extended_answers()
     ensures { (layout : Layout) (memory more : Memory) → HasAll more memory
         → (name : List ℕ) (kind : CType) (arguments : List Value) (input output : List ℕ)
         → SameOptionalAnswer (Prim name kind layout memory arguments input output) (Prim name kind layout more arguments input output) }
+{}
+
+/// A program in which calls of an added function without parameters, whose body is one `return` of an expression that
+/// names no object, stand in place of the expression, at any places in any trees, refines the program with the expression.
+pub fn called_refines()
+    ensures { (change : Called) → IsCalling change → Refines (machine_of (called.new_of change)) (machine_of change.old) }
 {}

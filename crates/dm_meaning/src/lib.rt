@@ -7,8 +7,9 @@ mod laws;
 
 pub use cause::Cause;
 pub use laws::{
-    Simulation, enumerated_refines, extended_answers, extended_steps, inner_locks, inner_steps,
-    own_lifetimes, refines_itself, refines_through, simulated, unended_steps, units_refine,
+    Simulation, called_refines, enumerated_refines, extended_answers, extended_steps, inner_locks,
+    inner_steps, own_lifetimes, refines_itself, refines_through, simulated, unended_steps,
+    units_refine,
 };
 
 #[cfg(test)]

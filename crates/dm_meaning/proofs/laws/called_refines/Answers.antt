@@ -1,0 +1,5 @@
+use Rattle.dm_meaning.proofs.CallStartLemmas.{called_refines}
+use Rattle.dm_meaning.proofs.laws.called_refines.Goals as goal
+
+pub returns : goal.returns
+returns c = called_refines

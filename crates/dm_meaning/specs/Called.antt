@@ -1,0 +1,127 @@
+-- A program in which calls of an added function without parameters, whose body is one `return` of an expression, stand in place of that
+-- expression (6.5.2.2, 6.8.6.4p3).
+--     Called      the old program, what the new one has, how the numbers of its declarations come of the old ones, and the added function
+--     Agrees change tree other      a tree of the new program and one of the old are the same but for such calls
+--     IsCalling change      the programs are the same but for such calls and the added function
+use Rattle.std.specs.Prelude.{◌≡◌, ◌⊎◌, ℕ, Bool, true, false, List, [], ◌∷◌, map, option_map}
+use Rattle.dm_type.specs.CTypes.{CType}
+use Rattle.dm_tree.specs.Trees.{Label, number, enumerator, object, function, read, decay, convert, address, unary, binary, both, either, store, update, count, call, sizeof_tree, sizeof_kind, case, return, Spans, Tree, Trees, node, no_trees, more_trees, label_of, kind_of, trees_of, parts_of}
+use Rattle.dm_tree.specs.Units.{Declaration}
+use Rattle.dm_meaning.specs.Programs.{Definition, Static, Program, declaration_of, constant_of}
+use Rattle.dm_meaning.specs.Steps.{is_main}
+use Rattle.dm_meaning.specs.Replaced.{Replaced, relabelled, Zipped, facts_of, StaticAgrees}
+
+-- The old program; the declarations, functions and static objects of the new one, whose types are the same; the number that each of the old
+-- declarations has among the new ones; and the added function, with the expression that its `return` has.
+pub record Called : Type 0 where
+  pub old : Program
+  pub declared : List Declaration
+  pub functions : List Definition
+  pub statics : List Static
+  pub rename : ℕ → ℕ
+  pub added : Definition
+  pub body : Tree
+
+abbrev pub new_of : Called → Program
+new_of change = record { declared = change.declared; functions = change.functions; statics = change.statics; table = change.old.table }
+
+-- ---- the expression
+
+-- the forms whose own step gives a value and no lvalue
+abbrev pub gives_value : Label → Bool
+gives_value (number z) = true
+gives_value (enumerator d) = true
+gives_value read = true
+gives_value decay = true
+gives_value convert = true
+gives_value address = true
+gives_value (unary sign) = true
+gives_value (binary op) = true
+gives_value both = true
+gives_value either = true
+gives_value store = true
+gives_value (update op works) = true
+gives_value (count plus before) = true
+gives_value call = true
+gives_value sizeof_tree = true
+gives_value (sizeof_kind type) = true
+gives_value label = false
+
+-- the name of an object, which may mean another one in another function
+abbrev pub is_object : Label → Bool
+is_object (object d) = true
+is_object label = false
+
+abbrev mutual
+  -- the expression of the added function is one of the old program, and names no object
+  pub IsSame : (ℕ → ℕ) → Tree → Tree → Type 0
+  IsSame rename (node label kind spans parts) other =
+      (label ≡ relabelled rename (label_of other)) × (kind ≡ kind_of other) × (is_object (label_of other) ≡ false) × AreSame rename parts (trees_of other)
+
+  pub AreSame : (ℕ → ℕ) → Trees → Trees → Type 0
+  AreSame rename no_trees no_trees = Unit {0}
+  AreSame rename (more_trees first rest) (more_trees other others) = IsSame rename first other × AreSame rename rest others
+  AreSame rename parts others = ⊥
+
+-- ---- trees
+
+-- a call of the added function stands where its expression was, of the same type
+pub record IsCall (change : Called) (label : Label) (kind : CType) (parts : Trees) (other : Tree) : Type 0 where
+  pub named_kind : CType
+  pub named_spans : Spans
+  pub is : label ≡ call
+  pub alone : parts ≡ more_trees (node (function change.added.function) named_kind named_spans no_trees) no_trees
+  pub typed : kind ≡ kind_of other
+  pub same : IsSame change.rename change.body other
+
+-- the labels `case` of a switch have the same values
+abbrev pub SameCase : Called → Label → Trees → Trees → Type 0
+SameCase change case (more_trees value rest) (more_trees other others) = constant_of (new_of change) value ≡ constant_of change.old other
+SameCase change label parts others = Unit {0}
+
+abbrev mutual
+  -- a tree is another one but for places at which the added function is called
+  pub Agrees : Called → Tree → Tree → Type 0
+  Agrees change (node label kind spans parts) other =
+      ((label ≡ relabelled change.rename (label_of other)) × (kind ≡ kind_of other) × SameCase change (label_of other) parts (trees_of other) × AllAgree change parts (trees_of other))
+      ⊎ IsCall change label kind parts other
+
+  pub AllAgree : Called → Trees → Trees → Type 0
+  AllAgree change no_trees no_trees = Unit {0}
+  AllAgree change (more_trees first rest) (more_trees other others) = Agrees change first other × AllAgree change rest others
+  AllAgree change parts others = ⊥
+
+-- ---- programs
+
+abbrev pub DefinitionAgrees : Called → Definition → Definition → Type 0
+DefinitionAgrees change definition other =
+    (definition.function ≡ change.rename other.function) × (definition.parameters ≡ map change.rename other.parameters)
+    × AllAgree change (trees_of definition.body) (trees_of other.body)
+
+-- the functions agree one by one, but for the added one, which stands somewhere among them
+abbrev pub FunctionsAgree : Called → List Definition → List Definition → Type 0
+FunctionsAgree change [] others = ⊥
+FunctionsAgree change (definition ∷ definitions) [] = (definition ≡ change.added) × (definitions ≡ [])
+FunctionsAgree change (definition ∷ definitions) (other ∷ others) =
+    ((definition ≡ change.added) × Zipped (DefinitionAgrees change) definitions (other ∷ others))
+    ⊎ (DefinitionAgrees change definition other × FunctionsAgree change definitions others)
+
+-- the change without functions: of static objects the programs have the same
+abbrev pub statics_of : Called → Replaced
+statics_of change = record { old = record change.old { functions = [] }; declared = change.declared; functions = []; statics = change.statics; rename = change.rename }
+
+-- The programs differ in such calls and in the added function alone: each old declaration has one number among the new ones, with its name,
+-- sort and type, and the added function has another; the functions and the static objects agree. The added function has no parameters, isn't
+-- `main`, and its body is one `return` of an expression that gives a value.
+pub record IsCalling (change : Called) : Type 0 where
+  pub injective : (c d : ℕ) → change.rename c ≡ change.rename d → c ≡ d
+  pub apart : (d : ℕ) → change.rename d ≡ change.added.function → ⊥
+  pub told : (d : ℕ) → option_map facts_of (declaration_of (new_of change) (change.rename d)) ≡ option_map facts_of (declaration_of change.old d)
+  pub functions : FunctionsAgree change change.functions change.old.functions
+  pub statics : Zipped (StaticAgrees (statics_of change)) change.statics change.old.statics
+  pub not_main : is_main (declaration_of (new_of change) change.added.function) ≡ false
+  pub parameters : change.added.parameters ≡ []
+  pub return_kind : CType
+  pub return_spans : Spans
+  pub returns : parts_of change.added.body ≡ node return return_kind return_spans (more_trees change.body no_trees) ∷ []
+  pub value : gives_value (label_of change.body) ≡ true
