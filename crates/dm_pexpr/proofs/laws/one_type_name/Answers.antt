@@ -1,0 +1,8 @@
+use Rattle.std.proofs.Common.{sym, ◌∙◌}
+use Rattle.dm_pexpr.proofs.Closings.{closed-name-read}
+use Rattle.dm_pexpr.proofs.Soundness.{inside}
+use Rattle.dm_pexpr.proofs.laws.one_type_name.Goals as goal
+
+-- both are what is read there
+pub returns : goal.returns
+returns c source names at a b first second = inside a b (sym (closed-name-read source names at a first) ∙ closed-name-read source names at b second)

@@ -1,0 +1,7 @@
+use Rattle.dm_pexpr.proofs.NodeLemmas.{member-made}
+use Rattle.dm_pexpr.proofs.reader.Reader.member.Goals as goal
+
+pub returns : goal.returns
+returns c before read left =
+    member-made _ before _ c.args.left read left c.args.name c.in-Some.after c.over-height.result c.in_ok-left.left c.node.result
+    c.in-Some.ensures c.in_ok-left.ensures c.over-height.ensures c.node.ensures

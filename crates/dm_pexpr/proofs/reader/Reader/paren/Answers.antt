@@ -1,0 +1,7 @@
+use Rattle.dm_pexpr.proofs.NodeLemmas.{paren-made}
+use Rattle.dm_pexpr.proofs.reader.Reader.paren.Goals as goal
+
+pub returns : goal.returns
+returns c before wanted given =
+    paren-made _ before _ c.args.inner c.in-Some.inner wanted c.in-Some.is given c.args.first c.in-Some-behind.after c.over.result c.in_ok-new.field-0 c.node.result
+    c.in-Some-behind.ensures c.in_ok-new.ensures c.over.ensures c.node.ensures

@@ -1,0 +1,6 @@
+pub mod NameMaps
+pub mod Parsing
+pub mod Readings
+pub mod Scoping
+pub mod Parts
+pub mod Shapes

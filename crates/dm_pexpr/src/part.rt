@@ -1,0 +1,71 @@
+//! Trees that are read.
+
+ghost use Rattle.std.specs.Prelude.{◌≡◌, ◌+◌, ◌<◌, ◌∷◌, ◌++◌, [], IfOk, max, nat_le, if◌then◌else◌};
+ghost use Rattle.dm_syn.specs.Heights as height;
+ghost use Rattle.dm_pexpr.specs.Parsing.{limit};
+
+use dm_token::{List, Memory};
+use std::alloc::Global;
+
+/// A tree or a list of trees that is read, with its height and where it ends.
+#[derive(Drop)]
+pub struct Part<T> {
+    pub tree: T,
+    pub height: u32,
+    pub after: u32,
+}
+
+// A tree with its height and where it ends, unless it is too high.
+pub(crate) fn checked<T: Drop>(tree: T, height: u32, after: u32) -> Option<Part<T>>
+    ensures { result ≡ (if nat_le height limit then Some (record { tree = tree; height = height; after = after }) else None) }
+{
+    if height <= 512 {
+        Some(Part {
+            tree,
+            height,
+            after,
+        })
+    } else {
+        None
+    }
+}
+
+// One more than the height of a part.
+pub(crate) fn over(part: u32) -> u32
+    ensures { part < 1000 → result ≡ part + 1 }
+{
+    part.saturating_add(1)
+}
+
+// One more than the height of the highest of two parts.
+pub(crate) fn above(left: u32, right: u32) -> u32
+    ensures { left < 1000 → right < 1000 → result ≡ height.above left right }
+{
+    over(left.max(right))
+}
+
+// A list of one part.
+pub(crate) fn begun<T: Drop>(alloc: Global, part: Part<T>) -> Result<Part<List<T>>, Memory>
+    ensures { IfOk result (λ list. list ≡ record { tree = part.tree ∷ []; height = part.height; after = part.after }) }
+{
+    let mut tree = List::new(alloc);
+    tree.push(part.tree)?;
+    Ok(Part {
+        tree,
+        height: part.height,
+        after: part.after,
+    })
+}
+
+// A list with one more part.
+pub(crate) fn joined<T: Drop>(list: Part<List<T>>, part: Part<T>) -> Result<Part<List<T>>, Memory>
+    ensures { IfOk result (λ all. all ≡ record { tree = list.tree ++ part.tree ∷ []; height = max list.height part.height; after = part.after }) }
+{
+    let mut tree = list.tree;
+    tree.push(part.tree)?;
+    Ok(Part {
+        tree,
+        height: list.height.max(part.height),
+        after: part.after,
+    })
+}
