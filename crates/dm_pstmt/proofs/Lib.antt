@@ -1,0 +1,11 @@
+pub mod Beginnings
+pub mod Blocks
+pub mod CompleteDeclarations
+pub mod CompleteExternals
+pub mod CompleteStatements
+pub mod Inside
+pub mod Positions
+pub mod Results
+pub mod SoundDeclarations
+pub mod SoundExternals
+pub mod SoundStatements

@@ -1,0 +1,6 @@
+//! Reading C declarations, statements and external declarations (ISO/IEC 9899:2011, 6.7 to 6.9).
+#![tactic(auto)]
+
+mod laws;
+
+pub use laws::{externals_are_inside, one_external, reads_externals};
