@@ -1,0 +1,11 @@
+pub mod CallLemmas
+pub mod ChoiceLemmas
+pub mod ConversionLemmas
+pub mod KindLemmas
+pub mod MemberLemmas
+pub mod NameLemmas
+pub mod OperandLemmas
+pub mod RuleLemmas
+pub mod TableLemmas
+pub mod TypeLemmas
+pub mod WriteLemmas

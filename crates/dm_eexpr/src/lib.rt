@@ -1,0 +1,10 @@
+//! The types of C expressions and type names (ISO/IEC 9899:2011, 6.3, 6.5, 6.6, 6.7.6): the definition of the typing,
+//! and what holds of it.
+#![tactic(auto)]
+
+mod laws;
+
+pub use laws::{
+    assignments_give_well_typed_values, leaves_are_well_typed, lvalues_are_well_typed,
+    operators_give_well_typed_values,
+};
