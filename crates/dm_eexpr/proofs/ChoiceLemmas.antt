@@ -118,6 +118,12 @@ plain-back (const a) b h p = absurd (cc)
 plain-back (array a m) b h p = absurd (cc)
 plain-back a b h p = refl
 
+const-plain : (type : CType) → not (is_const type || is_array type) ≡ true → with_const type ≡ const type
+const-plain (const type) h = absurd (cc)
+const-plain (array type n) h = absurd (cc)
+const-plain void h = refl
+const-plain type h = refl
+
 const-back : (type : CType) → not (is_const type || is_array type) ≡ true → bare (with_const type) ≡ type
 const-back (const type) h = absurd (cc)
 const-back (array type n) h = absurd (cc)
@@ -146,7 +152,8 @@ mutual
       let parts = both-hold (are_compatible a b) (match_as_parameters parameters others) h in
       both-true (are_compatible a (composite a b)) (match_as_parameters parameters (composite_parameters parameters others)) (composite-left a b p.0 parts.0)
       (parameters-left parameters others p.1 parts.1)
-  composite-left (const a) (const b) p h = composite-left a b p.1 h
+  composite-left (const a) (const b) p h =
+      subst (λ it. are_compatible (const a) it ≡ true) (sym (const-plain (composite a b) (composite-plain a b p.0))) (composite-left a b p.1 h)
   composite-left a b p h = absurd (cc)
 
   parameters-left : (types others : CTypes) → AreProper types → match_as_parameters types others ≡ true
@@ -176,7 +183,8 @@ mutual
       let parts = both-hold (are_compatible a b) (match_as_parameters parameters others) h in
       both-true (are_compatible b (composite a b)) (match_as_parameters others (composite_parameters parameters others)) (composite-right a b p.0 q.0 parts.0)
       (parameters-right parameters others p.1 q.1 parts.1)
-  composite-right (const a) (const b) p q h = composite-right a b p.1 q.1 h
+  composite-right (const a) (const b) p q h =
+      subst (λ it. are_compatible (const b) it ≡ true) (sym (const-plain (composite a b) (composite-plain a b p.0))) (composite-right a b p.1 q.1 h)
   composite-right a b p q h = absurd (cc)
 
   parameters-right : (types others : CTypes) → AreProper types → AreProper others → match_as_parameters types others ≡ true
@@ -201,7 +209,7 @@ mutual
   composite-proper (pointer a) (pointer b) p q = composite-proper a b p q
   composite-proper (array a m) (array b n) p q = composite-proper a b p q
   composite-proper (function_type a parameters) (function_type b others) p q = (composite-proper a b p.0 q.0, composites-proper parameters others p.1 q.1)
-  composite-proper (const a) (const b) p q = (composite-plain a b p.0, composite-proper a b p.1 q.1)
+  composite-proper (const a) (const b) p q = with-const-proper (composite a b) (composite-proper a b p.1 q.1)
   composite-proper a b p q = p
 
   composites-proper : (types others : CTypes) → AreProper types → AreProper others → AreProper (composite_parameters types others)
