@@ -10,7 +10,7 @@ use Rattle.dm_token.specs.declared.unit.UnitTokens.{UnitTokens}
 use Rattle.dm_io.specs.Files.{Files, file_at}
 use Rattle.dm_io.specs.Output.{appended, MayHaveAppended}
 use Rattle.dm_io.specs.Faults.{Rose}
-use Rattle.dm_search.specs.Loaded.{Loaded}
+use Rattle.dm_search.specs.Loaded.{Loaded, name_of}
 use Rattle.dm_search.specs.Fresh.{fresh}
 use Rattle.dm_unit.specs.Units.{IsReadAs, setting_of, first_files, state_with}
 use Rattle.dm_unit.specs.Loaders.{is_known}
@@ -224,9 +224,9 @@ reads-no-stop : (files : Files) (unit : Source) (tokens : UnitTokens) (one other
     → IsReadAs (setting_of fresh other files unit) unit fresh (Err why) other → IsFree why
 reads-no-stop files unit tokens one other stop.Memory reads stops = tt
 reads-no-stop files unit tokens one other (stop.Refused refusal) reads stops =
-    absurd (one-outcome (setting_of fresh one files unit) (is_known other) unit.file unit.define (state_with (first_files fresh unit)) (Ok reads.0) (Err (stop.Refused refusal)) reads.1 stops tt tt)
+    absurd (one-outcome (setting_of fresh one files unit) (is_known other) (name_of other) unit.file unit.define (state_with (first_files fresh unit)) (Ok reads.0) (Err (stop.Refused refusal)) reads.1.1 stops.1 tt tt)
 reads-no-stop files unit tokens one other (stop.Limit limit) reads stops =
-    absurd (one-outcome (setting_of fresh one files unit) (is_known other) unit.file unit.define (state_with (first_files fresh unit)) (Ok reads.0) (Err (stop.Limit limit)) reads.1 stops tt tt)
+    absurd (one-outcome (setting_of fresh one files unit) (is_known other) (name_of other) unit.file unit.define (state_with (first_files fresh unit)) (Ok reads.0) (Err (stop.Limit limit)) reads.1.1 stops.1 tt tt)
 reads-no-stop files unit tokens one other (stop.ReadFault file) reads stops = tt
 
 -- a unit that is read stops only by a fault or for want of memory

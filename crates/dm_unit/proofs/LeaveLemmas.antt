@@ -152,7 +152,7 @@ pub search-leads : (told : Option Files) (unit : Source) (main : ℕ) (header : 
     → HasSlots old → Found told header names old result new → Serves told unit main old new setting → SearchLeads setting header names (shown old) result (shown new)
 search-leads told unit main header names old result new setting slots (inl memory) serves = subst (λ r. SearchLeads setting header names (shown old) r (shown new)) (sym memory.0) tt
 search-leads told unit main header names old result new setting slots (inr finds) serves =
-    finds-leads setting serves.files.0 header names old result new slots serves.files.2 serves.looked (subst (λ t. Finds t header names old result new) serves.files.1 finds)
+    finds-leads setting serves.files.0 header names old result new slots serves.files.2 serves.looked serves.named (subst (λ t. Finds t header names old result new) serves.files.1 finds)
 
 pub search-held : (told : Option Files) (name : List ℕ) (names : List (List ℕ)) (old : Loaded) (result : Result (Option ℕ) Stop) (new : Loaded)
     → HasSlots old → StartsWithHeaders old → Found told (header_number name) names old result new → FindsHeld result new

@@ -266,14 +266,14 @@ once-text : (main : ℕ) (define : List ℕ) (r : Result (List PpToken) Refusal)
 once-text main define (Ok tokens) s u p = once-line main (define_line main define tokens) Manifest true s u p
 once-text main define (Err refused) s u p = once-is IsLike (Err (Refused refused)) (Err (Refused refused)) refl
 
-once-manifests : (setting : Setting) (looked : List ℕ → Bool) (defines : List (List ℕ)) (s : State) (u : List Use) → IsPermutation s.uses u
-    → Once IsLike (DoesManifests setting defines s) (DoesManifests (seeing looked setting) defines (using u s))
+once-manifests : (setting : Setting) (looked : List ℕ → Bool) (named : ℕ → List ℕ) (defines : List (List ℕ)) (s : State) (u : List Use) → IsPermutation s.uses u
+    → Once IsLike (DoesManifests setting defines s) (DoesManifests (seeing looked named setting) defines (using u s))
 unfolding DoesManifests
-once-manifests setting looked [] s u p = once-is IsLike (Ok s) (Ok (using u s)) (u, p, refl)
-once-manifests setting looked (define ∷ defines) s u p =
-    once-then IsLike IsLike (DoesManifest setting.main define s) (DoesManifest setting.main define (using u s)) (DoesManifests setting defines) (DoesManifests (seeing looked setting) defines)
+once-manifests setting looked named [] s u p = once-is IsLike (Ok s) (Ok (using u s)) (u, p, refl)
+once-manifests setting looked named (define ∷ defines) s u p =
+    once-then IsLike IsLike (DoesManifest setting.main define s) (DoesManifest setting.main define (using u s)) (DoesManifests setting defines) (DoesManifests (seeing looked named setting) defines)
     (once-text setting.main define (reading_of setting.main (define_text define)) s u p)
-    (on-like IsLike (DoesManifests setting defines) (DoesManifests (seeing looked setting) defines) (once-manifests setting looked defines))
+    (on-like IsLike (DoesManifests setting defines) (DoesManifests (seeing looked named setting) defines) (once-manifests setting looked named defines))
 
 -- INCLUSION
 
@@ -284,173 +284,173 @@ agree-itself : (r : Result Sought Stop) → Agree IsSame r r
 agree-itself (Ok value) = refl
 agree-itself (Err stop) = refl
 
-once-looks : (o : Option (List ℕ)) (name : List ℕ) (may may' : Bool) (files : Catalogue) (P P' : Result Sought Stop → Type 0) → Once IsSame P P'
-    → Once IsSame (λ r. LooksAt o name may files P r) (λ r. LooksAt o name may' files P' r)
-once-looks None name may may' files P P' once a b x y ca cb = once a b x.1 y.1 ca cb
-once-looks (Some bytes) name may may' files P P' once a b x y ca cb =
+once-looks : (one other : Setting) (o : Option (List ℕ)) (name : List ℕ) (files : Catalogue) (P P' : Result Sought Stop → Type 0) → Once IsSame P P'
+    → Once IsSame (λ r. LooksAt one o name files P r) (λ r. LooksAt other o name files P' r)
+once-looks one other None name files P P' once a b x y ca cb = once a b x.1 y.1 ca cb
+once-looks one other (Some bytes) name files P P' once a b x y ca cb =
     let found = found_as (number_in files name) bytes (numbered name files) in
-    agree-at IsSame a b found found x.1 y.1 (agree-itself found)
+    agree-at IsSame a b found found x.2 y.2 (agree-itself found)
 
-once-searches : (setting : Setting) (looked : List ℕ → Bool) (header : Option ℕ) (names : List (List ℕ)) (files : Catalogue)
-    → Once IsSame (Searches setting header names files) (Searches (seeing looked setting) header names files)
+once-searches : (setting : Setting) (looked : List ℕ → Bool) (named : ℕ → List ℕ) (header : Option ℕ) (names : List (List ℕ)) (files : Catalogue)
+    → Once IsSame (Searches setting header names files) (Searches (seeing looked named setting) header names files)
 unfolding Searches
-once-searches setting looked header [] files a b x y ca cb = agree-at IsSame a b (Ok (sought header files)) (Ok (sought header files)) x y refl
-once-searches setting looked header (name ∷ names) files a b (inl x) y ca cb = absurd (subst (λ (r : Result Sought Stop). IfErr r IsFaultless) x.1 ca)
-once-searches setting looked header (name ∷ names) files a b (inr x) (inl y) ca cb = absurd (subst (λ (r : Result Sought Stop). IfErr r IsFaultless) y.1 cb)
-once-searches setting looked header (name ∷ names) files a b (inr x) (inr y) ca cb =
-    once-looks (setting.source name) name (setting.looked name) (looked name) files (Searches setting header names files) (Searches (seeing looked setting) header names files)
-    (once-searches setting looked header names files) a b x y ca cb
+once-searches setting looked named header [] files a b x y ca cb = agree-at IsSame a b (Ok (sought header files)) (Ok (sought header files)) x y refl
+once-searches setting looked named header (name ∷ names) files a b (inl x) y ca cb = absurd (subst (λ (r : Result Sought Stop). IfErr r IsFaultless) x.2 ca)
+once-searches setting looked named header (name ∷ names) files a b (inr x) (inl y) ca cb = absurd (subst (λ (r : Result Sought Stop). IfErr r IsFaultless) y.2 cb)
+once-searches setting looked named header (name ∷ names) files a b (inr x) (inr y) ca cb =
+    once-looks setting (seeing looked named setting) (setting.source name) name files (Searches setting header names files) (Searches (seeing looked named setting) header names files)
+    (once-searches setting looked named header names files) a b x y ca cb
 
-once-searches-for : (setting : Setting) (looked : List ℕ → Bool) (file : ℕ) (spelling : List ℕ) (files : Catalogue)
-    → Once IsSame (SearchesFor setting file spelling files) (SearchesFor (seeing looked setting) file spelling files)
-once-searches-for setting looked file spelling files =
-    once-searches setting looked (header_number (header_name spelling))
+once-searches-for : (setting : Setting) (looked : List ℕ → Bool) (named : ℕ → List ℕ) (file : ℕ) (spelling : List ℕ) (files : Catalogue)
+    → Once IsSame (SearchesFor setting file spelling files) (SearchesFor (seeing looked named setting) file spelling files)
+once-searches-for setting looked named file spelling files =
+    once-searches setting looked named (header_number (header_name spelling))
     (candidates (header_name spelling) (places (slice_index_or files.names file []) (is_quoted spelling) setting.include)) files
 
 -- entering a file agrees
 abbrev EntersOnce : (ℕ → State → Outcome → Type 0) → (ℕ → State → Outcome → Type 0) → Type 0
 EntersOnce E E' = (file : ℕ) (s : State) (u : List Use) → IsPermutation s.uses u → Once IsLike (E file s) (E' file (using u s))
 
-once-includes : (setting : Setting) (looked : List ℕ → Bool) (E E' : ℕ → State → Outcome → Type 0) → EntersOnce E E'
+once-includes : (setting : Setting) (looked : List ℕ → Bool) (named : ℕ → List ℕ) (E E' : ℕ → State → Outcome → Type 0) → EntersOnce E E'
     → (start : PpToken) (number : Option ℕ) (files : Catalogue) (s : State) (u : List Use) → IsPermutation s.uses u
-    → Once IsLike (Includes setting E start number files s) (Includes (seeing looked setting) E' start number files (using u s))
-once-includes setting looked E E' enters start None files s u p = once-is IsLike (Err (refusal 7 start.place)) (Err (refusal 7 start.place)) refl
-once-includes setting looked E E' enters start (Some number) files s u p =
+    → Once IsLike (Includes setting E start number files s) (Includes (seeing looked named setting) E' start number files (using u s))
+once-includes setting looked named E E' enters start None files s u p = once-is IsLike (Err (refusal 7 start.place)) (Err (refusal 7 start.place)) refl
+once-includes setting looked named E E' enters start (Some number) files s u p =
     once-match IsLike (nat_lt s.inclusions most_inclusions) (E number (counted files s)) (E' number (counted files (using u s)))
     (λ r. r ≡ Err (limit 9 setting.main)) (λ r. r ≡ Err (limit 9 setting.main))
     (enters number (counted files s) u p) (once-is IsLike (Err (limit 9 setting.main)) (Err (limit 9 setting.main)) refl)
 
-once-include : (setting : Setting) (looked : List ℕ → Bool) (E E' : ℕ → State → Outcome → Type 0) → EntersOnce E E'
+once-include : (setting : Setting) (looked : List ℕ → Bool) (named : ℕ → List ℕ) (E E' : ℕ → State → Outcome → Type 0) → EntersOnce E E'
     → (file : ℕ) (start : PpToken) (operands : List PpToken) (s : State) (u : List Use) → IsPermutation s.uses u
-    → Once IsLike (DoesInclude setting E file start operands s) (DoesInclude (seeing looked setting) E' file start operands (using u s))
-once-include setting looked E E' enters file start [] s u p = once-is IsLike (Err (refusal 4 start.place)) (Err (refusal 4 start.place)) refl
-once-include setting looked E E' enters file start (header ∷ others) s u p =
+    → Once IsLike (DoesInclude setting E file start operands s) (DoesInclude (seeing looked named setting) E' file start operands (using u s))
+once-include setting looked named E E' enters file start [] s u p = once-is IsLike (Err (refusal 4 start.place)) (Err (refusal 4 start.place)) refl
+once-include setting looked named E E' enters file start (header ∷ others) s u p =
     let goes = λ (sought : Sought) (outcome : Outcome). Includes setting E start sought.number sought.files s outcome in
-    let goes' = λ (sought : Sought) (outcome : Outcome). Includes (seeing looked setting) E' start sought.number sought.files (using u s) outcome in
+    let goes' = λ (sought : Sought) (outcome : Outcome). Includes (seeing looked named setting) E' start sought.number sought.files (using u s) outcome in
     once-match IsLike (is_header_kind header.kind)
-    (Then (SearchesFor setting file header.spelling s.files) goes) (Then (SearchesFor (seeing looked setting) file header.spelling s.files) goes')
+    (Then (SearchesFor setting file header.spelling s.files) goes) (Then (SearchesFor (seeing looked named setting) file header.spelling s.files) goes')
     (λ r. r ≡ Err (refusal 18 start.place)) (λ r. r ≡ Err (refusal 18 start.place))
-    (once-then IsSame IsLike (SearchesFor setting file header.spelling s.files) (SearchesFor (seeing looked setting) file header.spelling s.files) goes goes'
-    (once-searches-for setting looked file header.spelling s.files)
-    (λ m n same. subst (λ n. Once IsLike (goes m) (goes' n)) same (once-includes setting looked E E' enters start m.number m.files s u p)))
+    (once-then IsSame IsLike (SearchesFor setting file header.spelling s.files) (SearchesFor (seeing looked named setting) file header.spelling s.files) goes goes'
+    (once-searches-for setting looked named file header.spelling s.files)
+    (λ m n same. subst (λ n. Once IsLike (goes m) (goes' n)) same (once-includes setting looked named E E' enters start m.number m.files s u p)))
     (once-is IsLike (Err (refusal 18 start.place)) (Err (refusal 18 start.place)) refl)
 
 -- DIRECTIVES
 
-once-read : (setting : Setting) (looked : List ℕ → Bool) (E E' : ℕ → State → Outcome → Type 0) → EntersOnce E E'
+once-read : (setting : Setting) (looked : List ℕ → Bool) (named : ℕ → List ℕ) (E E' : ℕ → State → Outcome → Type 0) → EntersOnce E E'
     → (file : ℕ) (kind : Directive) (start : PpToken) (behind : List PpToken) (s : State) (u : List Use) → IsPermutation s.uses u
-    → Once IsLike (DoesRead setting E file kind start behind s) (DoesRead (seeing looked setting) E' file kind start behind (using u s))
-once-read setting looked E E' enters file Include start behind s u p = once-include setting looked E E' enters file start (drop 1 behind) s u p
-once-read setting looked E E' enters file Define start behind s u p = once-define setting.main file (bytes_in setting s.files file) start behind s u p
-once-read setting looked E E' enters file Undef start behind s u p =
+    → Once IsLike (DoesRead setting E file kind start behind s) (DoesRead (seeing looked named setting) E' file kind start behind (using u s))
+once-read setting looked named E E' enters file Include start behind s u p = once-include setting looked named E E' enters file start (drop 1 behind) s u p
+once-read setting looked named E E' enters file Define start behind s u p = once-define setting.main file (bytes_in setting s.files file) start behind s u p
+once-read setting looked named E E' enters file Undef start behind s u p =
     once-is IsLike (after_undef start (drop 1 behind) s) (after_undef start (drop 1 behind) (using u s)) (agree-undef start (drop 1 behind) s u p)
-once-read setting looked E E' enters file Line start behind s u p = once-is IsLike (Err (refusal 18 start.place)) (Err (refusal 18 start.place)) refl
-once-read setting looked E E' enters file Error start behind s u p = once-is IsLike (Err (refusal 14 start.place)) (Err (refusal 14 start.place)) refl
-once-read setting looked E E' enters file Pragma start behind s u p =
+once-read setting looked named E E' enters file Line start behind s u p = once-is IsLike (Err (refusal 18 start.place)) (Err (refusal 18 start.place)) refl
+once-read setting looked named E E' enters file Error start behind s u p = once-is IsLike (Err (refusal 14 start.place)) (Err (refusal 14 start.place)) refl
+once-read setting looked named E E' enters file Pragma start behind s u p =
     once-is IsLike (after_pragma file start (drop 1 behind) s) (after_pragma file start (drop 1 behind) (using u s))
     (agree-if IsLike (is_once (drop 1 behind)) (Ok (record s { once = with_number s.once file })) (Ok (record (using u s) { once = with_number s.once file }))
     (Err (refusal 18 start.place)) (Err (refusal 18 start.place)) (u, p, refl) refl)
-once-read setting looked E E' enters file Null start behind s u p = once-is IsLike (Ok s) (Ok (using u s)) (u, p, refl)
-once-read setting looked E E' enters file Unknown start behind s u p = once-is IsLike (Err (refusal 4 start.place)) (Err (refusal 4 start.place)) refl
-once-read setting looked E E' enters file other start behind s u p = λ a b x y ca cb. absurd x
+once-read setting looked named E E' enters file Null start behind s u p = once-is IsLike (Ok s) (Ok (using u s)) (u, p, refl)
+once-read setting looked named E E' enters file Unknown start behind s u p = once-is IsLike (Err (refusal 4 start.place)) (Err (refusal 4 start.place)) refl
+once-read setting looked named E E' enters file other start behind s u p = λ a b x y ca cb. absurd x
 
 -- a directive that is done only where the group is read
-once-other : (setting : Setting) (looked : List ℕ → Bool) (E E' : ℕ → State → Outcome → Type 0) → EntersOnce E E'
+once-other : (setting : Setting) (looked : List ℕ → Bool) (named : ℕ → List ℕ) (E E' : ℕ → State → Outcome → Type 0) → EntersOnce E E'
     → (file : ℕ) (kind : Directive) (start : PpToken) (behind : List PpToken) (s : State) (u : List Use) → IsPermutation s.uses u
     → Once IsLike (λ (r : Outcome). MatchBool (is_read s.sections) (DoesRead setting E file kind start behind s r) (r ≡ Ok s))
-    (λ (r : Outcome). MatchBool (is_read s.sections) (DoesRead (seeing looked setting) E' file kind start behind (using u s) r) (r ≡ Ok (using u s)))
-once-other setting looked E E' enters file kind start behind s u p =
-    once-match IsLike (is_read s.sections) (DoesRead setting E file kind start behind s) (DoesRead (seeing looked setting) E' file kind start behind (using u s))
+    (λ (r : Outcome). MatchBool (is_read s.sections) (DoesRead (seeing looked named setting) E' file kind start behind (using u s) r) (r ≡ Ok (using u s)))
+once-other setting looked named E E' enters file kind start behind s u p =
+    once-match IsLike (is_read s.sections) (DoesRead setting E file kind start behind s) (DoesRead (seeing looked named setting) E' file kind start behind (using u s))
     (λ r. r ≡ Ok s) (λ r. r ≡ Ok (using u s))
-    (once-read setting looked E E' enters file kind start behind s u p) (once-is IsLike (Ok s) (Ok (using u s)) (u, p, refl))
+    (once-read setting looked named E E' enters file kind start behind s u p) (once-is IsLike (Ok s) (Ok (using u s)) (u, p, refl))
 
-once-directive : (setting : Setting) (looked : List ℕ → Bool) (E E' : ℕ → State → Outcome → Type 0) → EntersOnce E E'
+once-directive : (setting : Setting) (looked : List ℕ → Bool) (named : ℕ → List ℕ) (E E' : ℕ → State → Outcome → Type 0) → EntersOnce E E'
     → (file : ℕ) (kind : Directive) (start : PpToken) (behind : List PpToken) (s : State) (u : List Use) → IsPermutation s.uses u
-    → Once IsLike (DoesDirective setting E file kind start behind s) (DoesDirective (seeing looked setting) E' file kind start behind (using u s))
-once-directive setting looked E E' enters file If start behind s u p =
+    → Once IsLike (DoesDirective setting E file kind start behind s) (DoesDirective (seeing looked named setting) E' file kind start behind (using u s))
+once-directive setting looked named E E' enters file If start behind s u p =
     once-opens start (Evaluates setting.main start (drop 1 behind) s) (Evaluates setting.main start (drop 1 behind) (using u s)) s u p
     (once-evaluates setting.main start (drop 1 behind) s u p)
-once-directive setting looked E E' enters file Ifdef start behind s u p =
+once-directive setting looked named E E' enters file Ifdef start behind s u p =
     once-opens start (λ (r : Result Tested Stop). r ≡ defined_test true start (drop 1 behind) s) (λ (r : Result Tested Stop). r ≡ defined_test true start (drop 1 behind) (using u s)) s u p
     (once-is IsTestedLike (defined_test true start (drop 1 behind) s) (defined_test true start (drop 1 behind) (using u s)) (agree-defined true start (drop 1 behind) s u p))
-once-directive setting looked E E' enters file Ifndef start behind s u p =
+once-directive setting looked named E E' enters file Ifndef start behind s u p =
     once-opens start (λ (r : Result Tested Stop). r ≡ defined_test false start (drop 1 behind) s) (λ (r : Result Tested Stop). r ≡ defined_test false start (drop 1 behind) (using u s)) s u p
     (once-is IsTestedLike (defined_test false start (drop 1 behind) s) (defined_test false start (drop 1 behind) (using u s)) (agree-defined false start (drop 1 behind) s u p))
-once-directive setting looked E E' enters file Elif start behind s u p =
+once-directive setting looked named E E' enters file Elif start behind s u p =
     once-elif start s.sections (Evaluates setting.main start (drop 1 behind) s) (Evaluates setting.main start (drop 1 behind) (using u s)) s u p
     (once-evaluates setting.main start (drop 1 behind) s u p)
-once-directive setting looked E E' enters file Else start behind s u p =
+once-directive setting looked named E E' enters file Else start behind s u p =
     once-is IsLike (else_in start s.sections s) (else_in start s.sections (using u s)) (agree-else start s.sections s u p)
-once-directive setting looked E E' enters file Endif start behind s u p =
+once-directive setting looked named E E' enters file Endif start behind s u p =
     once-is IsLike (endif_in start s.sections s) (endif_in start s.sections (using u s)) (agree-endif start s.sections s u p)
-once-directive setting looked E E' enters file other start behind s u p = once-other setting looked E E' enters file other start behind s u p
+once-directive setting looked named E E' enters file other start behind s u p = once-other setting looked named E E' enters file other start behind s u p
 
 -- THE PARTS OF A FILE
 
-once-part : (setting : Setting) (looked : List ℕ → Bool) (E E' : ℕ → State → Outcome → Type 0) → EntersOnce E E'
+once-part : (setting : Setting) (looked : List ℕ → Bool) (named : ℕ → List ℕ) (E E' : ℕ → State → Outcome → Type 0) → EntersOnce E E'
     → (file : ℕ) (part : Part) (s : State) (u : List Use) → IsPermutation s.uses u
-    → Once IsLike (ReadsPart setting E file part s) (ReadsPart (seeing looked setting) E' file part (using u s))
-once-part setting looked E E' enters file (directive start behind) s u p = once-directive setting looked E E' enters file (directive_of behind) start behind s u p
-once-part setting looked E E' enters file (text tokens) s u p =
+    → Once IsLike (ReadsPart setting E file part s) (ReadsPart (seeing looked named setting) E' file part (using u s))
+once-part setting looked named E E' enters file (directive start behind) s u p = once-directive setting looked named E E' enters file (directive_of behind) start behind s u p
+once-part setting looked named E E' enters file (text tokens) s u p =
     let after = after_text setting.main tokens s in
     let after' = after_text setting.main tokens (using u s) in
     once-is IsLike (if is_read s.sections then after else Ok s) (if is_read s.sections then after' else Ok (using u s))
     (agree-if IsLike (is_read s.sections) after after' (Ok s) (Ok (using u s)) (agree-expansion setting.main s u (expansion_in setting.main s tokens) p) (u, p, refl))
 
-once-parts : (setting : Setting) (looked : List ℕ → Bool) (E E' : ℕ → State → Outcome → Type 0) → EntersOnce E E'
+once-parts : (setting : Setting) (looked : List ℕ → Bool) (named : ℕ → List ℕ) (E E' : ℕ → State → Outcome → Type 0) → EntersOnce E E'
     → (file : ℕ) (parts : List Part) (s : State) (u : List Use) → IsPermutation s.uses u
-    → Once IsLike (ReadsParts setting E file parts s) (ReadsParts (seeing looked setting) E' file parts (using u s))
+    → Once IsLike (ReadsParts setting E file parts s) (ReadsParts (seeing looked named setting) E' file parts (using u s))
 unfolding ReadsParts
-once-parts setting looked E E' enters file [] s u p = once-is IsLike (end_in s.sections s) (end_in s.sections (using u s)) (agree-end s.sections s u p)
-once-parts setting looked E E' enters file (part ∷ parts) s u p =
-    once-then IsLike IsLike (ReadsPart setting E file part s) (ReadsPart (seeing looked setting) E' file part (using u s))
-    (ReadsParts setting E file parts) (ReadsParts (seeing looked setting) E' file parts)
-    (once-part setting looked E E' enters file part s u p)
-    (on-like IsLike (ReadsParts setting E file parts) (ReadsParts (seeing looked setting) E' file parts) (once-parts setting looked E E' enters file parts))
+once-parts setting looked named E E' enters file [] s u p = once-is IsLike (end_in s.sections s) (end_in s.sections (using u s)) (agree-end s.sections s u p)
+once-parts setting looked named E E' enters file (part ∷ parts) s u p =
+    once-then IsLike IsLike (ReadsPart setting E file part s) (ReadsPart (seeing looked named setting) E' file part (using u s))
+    (ReadsParts setting E file parts) (ReadsParts (seeing looked named setting) E' file parts)
+    (once-part setting looked named E E' enters file part s u p)
+    (on-like IsLike (ReadsParts setting E file parts) (ReadsParts (seeing looked named setting) E' file parts) (once-parts setting looked named E E' enters file parts))
 
-once-file : (setting : Setting) (looked : List ℕ → Bool) (E E' : ℕ → State → Outcome → Type 0) → EntersOnce E E'
+once-file : (setting : Setting) (looked : List ℕ → Bool) (named : ℕ → List ℕ) (E E' : ℕ → State → Outcome → Type 0) → EntersOnce E E'
     → (file : ℕ) (s : State) (u : List Use) → IsPermutation s.uses u
-    → Once IsLike (ReadsFile setting E file s) (ReadsFile (seeing looked setting) E' file (using u s))
-once-file setting looked E E' enters file s u p =
+    → Once IsLike (ReadsFile setting E file s) (ReadsFile (seeing looked named setting) E' file (using u s))
+once-file setting looked named E E' enters file s u p =
     let parts = parts_of (tokens_in setting s.files file) in
     let ends = λ (read : State) (result : Outcome). result ≡ Ok (within s.sections read) in
-    once-then IsLike IsLike (ReadsParts setting E file parts (begun file s)) (ReadsParts (seeing looked setting) E' file parts (begun file (using u s))) ends ends
-    (once-parts setting looked E E' enters file parts (begun file s) u p)
+    once-then IsLike IsLike (ReadsParts setting E file parts (begun file s)) (ReadsParts (seeing looked named setting) E' file parts (begun file (using u s))) ends ends
+    (once-parts setting looked named E E' enters file parts (begun file s) u p)
     (on-like IsLike ends ends (λ t v q. once-is IsLike (Ok (within s.sections t)) (Ok (within s.sections (using v t))) (v, q, refl)))
 
-once-enters : (setting : Setting) (looked : List ℕ → Bool) (more : ℕ) → EntersOnce (Enters setting more) (Enters (seeing looked setting) more)
+once-enters : (setting : Setting) (looked : List ℕ → Bool) (named : ℕ → List ℕ) (more : ℕ) → EntersOnce (Enters setting more) (Enters (seeing looked named setting) more)
 unfolding Enters
-once-enters setting looked zero file s u p = once-is IsLike (Err (limit 4 setting.main)) (Err (limit 4 setting.main)) refl
-once-enters setting looked (suc more) file s u p =
+once-enters setting looked named zero file s u p = once-is IsLike (Err (limit 4 setting.main)) (Err (limit 4 setting.main)) refl
+once-enters setting looked named (suc more) file s u p =
     once-match IsLike (is_passed file s) (λ r. r ≡ Ok s) (λ r. r ≡ Ok (using u s))
-    (ReadsFile setting (Enters setting more) file s) (ReadsFile (seeing looked setting) (Enters (seeing looked setting) more) file (using u s))
+    (ReadsFile setting (Enters setting more) file s) (ReadsFile (seeing looked named setting) (Enters (seeing looked named setting) more) file (using u s))
     (once-is IsLike (Ok s) (Ok (using u s)) (u, p, refl))
-    (once-file setting looked (Enters setting more) (Enters (seeing looked setting) more) (once-enters setting looked more) file s u p)
+    (once-file setting looked named (Enters setting more) (Enters (seeing looked named setting) more) (once-enters setting looked named more) file s u p)
 
 -- THE UNIT
 
-once-found : (setting : Setting) (looked : List ℕ → Bool) (number : Option ℕ) (files : Catalogue) (s : State) (u : List Use) → IsPermutation s.uses u
-    → Once IsLike (ReadsFound setting number files s) (ReadsFound (seeing looked setting) number files (using u s))
-once-found setting looked None files s u p = once-is IsLike (Err (refusal 7 (absent_place setting.main))) (Err (refusal 7 (absent_place setting.main))) refl
-once-found setting looked (Some number) files s u p =
-    once-file setting looked (Enters setting most_nested) (Enters (seeing looked setting) most_nested) (once-enters setting looked most_nested) number (record s { files = files }) u p
+once-found : (setting : Setting) (looked : List ℕ → Bool) (named : ℕ → List ℕ) (number : Option ℕ) (files : Catalogue) (s : State) (u : List Use) → IsPermutation s.uses u
+    → Once IsLike (ReadsFound setting number files s) (ReadsFound (seeing looked named setting) number files (using u s))
+once-found setting looked named None files s u p = once-is IsLike (Err (refusal 7 (absent_place setting.main))) (Err (refusal 7 (absent_place setting.main))) refl
+once-found setting looked named (Some number) files s u p =
+    once-file setting looked named (Enters setting most_nested) (Enters (seeing looked named setting) most_nested) (once-enters setting looked named most_nested) number (record s { files = files }) u p
 
-once-main : (setting : Setting) (looked : List ℕ → Bool) (name : List ℕ) (s : State) (u : List Use) → IsPermutation s.uses u
-    → Once IsLike (ReadsMain setting name s) (ReadsMain (seeing looked setting) name (using u s))
-once-main setting looked name s u p =
+once-main : (setting : Setting) (looked : List ℕ → Bool) (named : ℕ → List ℕ) (name : List ℕ) (s : State) (u : List Use) → IsPermutation s.uses u
+    → Once IsLike (ReadsMain setting name s) (ReadsMain (seeing looked named setting) name (using u s))
+once-main setting looked named name s u p =
     let goes = λ (sought : Sought) (outcome : Outcome). ReadsFound setting sought.number sought.files s outcome in
-    let goes' = λ (sought : Sought) (outcome : Outcome). ReadsFound (seeing looked setting) sought.number sought.files (using u s) outcome in
-    once-then IsSame IsLike (Searches setting None (name ∷ []) s.files) (Searches (seeing looked setting) None (name ∷ []) s.files) goes goes'
-    (once-searches setting looked None (name ∷ []) s.files)
-    (λ m n same. subst (λ n. Once IsLike (goes m) (goes' n)) same (once-found setting looked m.number m.files s u p))
+    let goes' = λ (sought : Sought) (outcome : Outcome). ReadsFound (seeing looked named setting) sought.number sought.files (using u s) outcome in
+    once-then IsSame IsLike (Searches setting None (name ∷ []) s.files) (Searches (seeing looked named setting) None (name ∷ []) s.files) goes goes'
+    (once-searches setting looked named None (name ∷ []) s.files)
+    (λ m n same. subst (λ n. Once IsLike (goes m) (goes' n)) same (once-found setting looked named m.number m.files s u p))
 
 -- A unit has one outcome, faults apart.
-pub one-outcome : (setting : Setting) (looked : List ℕ → Bool) (name : List ℕ) (defines : List (List ℕ)) (state : State) (one other : Outcome)
-    → ReadsUnit setting name defines state one → ReadsUnit (seeing looked setting) name defines state other
+pub one-outcome : (setting : Setting) (looked : List ℕ → Bool) (named : ℕ → List ℕ) (name : List ℕ) (defines : List (List ℕ)) (state : State) (one other : Outcome)
+    → ReadsUnit setting name defines state one → ReadsUnit (seeing looked named setting) name defines state other
     → IfErr one IsFaultless → IfErr other IsFaultless → Agree IsLike one other
 unfolding ReadsUnit
-one-outcome setting looked name defines state =
-    once-then IsLike IsLike (DoesManifests setting defines state) (DoesManifests (seeing looked setting) defines state)
-    (ReadsMain setting name) (ReadsMain (seeing looked setting) name)
-    (once-manifests setting looked defines state state.uses (IsPermutation-refl state.uses))
-    (on-like IsLike (ReadsMain setting name) (ReadsMain (seeing looked setting) name) (once-main setting looked name))
+one-outcome setting looked named name defines state =
+    once-then IsLike IsLike (DoesManifests setting defines state) (DoesManifests (seeing looked named setting) defines state)
+    (ReadsMain setting name) (ReadsMain (seeing looked named setting) name)
+    (once-manifests setting looked named defines state state.uses (IsPermutation-refl state.uses))
+    (on-like IsLike (ReadsMain setting name) (ReadsMain (seeing looked named setting) name) (once-main setting looked named name))

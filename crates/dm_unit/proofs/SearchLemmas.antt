@@ -1,5 +1,5 @@
 -- A search by a loader is the search of the definition.
-use Rattle.std.proofs.Common.{◌≡◌, ◌≢◌, ℕ, ◌<◌, ◌≤◌, Bool, true, false, cond, ◌||◌, ◌⊎◌, inl, inr, List, [], ◌∷◌, length, drop, map, count_by, Option, None, Some, Result, Ok, Err, is_some, nat_lt, nat_le, refl, sym, ap, ◌∙◌, subst, arith, bytes_eq, true≢false}
+use Rattle.std.proofs.Common.{◌≡◌, ◌≢◌, ℕ, ◌<◌, ◌≤◌, Bool, true, false, cond, ◌||◌, ◌⊎◌, inl, inr, List, [], ◌∷◌, length, drop, map, count_by, Option, None, Some, Result, Ok, Err, is_some, get_or, nat_lt, nat_le, refl, sym, ap, ◌∙◌, subst, arith, bytes_eq, true≢false}
 use Rattle.std.proofs.lemmas.Bool.{lt-leb, le-leb}
 use Rattle.std.proofs.lemmas.List.{drop-map}
 use Rattle.std.proofs.lemmas.List.Sums.{sum_by-append}
@@ -20,10 +20,10 @@ use Rattle.dm_search.specs.Searching.{IsUnknown, PassesOver, EndsAt, Finds}
 use Rattle.dm_unit.specs.States.{Setting, Catalogue, limit}
 use Rattle.dm_unit.specs.Sources.{reading_of}
 use Rattle.dm_unit.specs.Loaders.{Grows, IsOf, is_known, shown, file_of, stopped_at}
-use Rattle.dm_unit.specs.Includes.{Sought, sought, LooksAt, Searches, MayFind, found_as, found_files, first_found, if_readable, number_in, numbered}
+use Rattle.dm_unit.specs.Includes.{Sought, sought, HasNumber, LooksAt, Searches, MayFind, found_as, found_files, first_found, if_readable, number_in, numbered}
 use Rattle.dm_unit.specs.Views.{Stops, SearchLeads}
 use Rattle.dm_unit.proofs.SourceLemmas.{reading-tokens, reading-refused}
-use Rattle.dm_unit.proofs.NameLemmas.{HasSlots, held-among, with_name-known, with_name-slots, shown-with_name, number-with_name, number-inside, held-with_name, found-is}
+use Rattle.dm_unit.proofs.NameLemmas.{HasSlots, held-among, with_name-known, with_name-slots, shown-with_name, number-with_name, name-with_name, number-inside, held-with_name, found-is}
 use Rattle.dm_unit.proofs.GrowLemmas.{some-of, grows-refl, grows-trans, grows-absent, grows-name, grows-loaded, held-now, shown-with_bytes, known-held, known-absent, refused-file}
 
 -- WHAT IS KNOWN OF A FILE
@@ -123,36 +123,44 @@ many-found l many = let count = found-count l in le-leb most_files (found_files 
 
 -- the file of a name that ends the search, as the definition has it
 ends-with : (setting : Setting) (header : Option ℕ) (name : List ℕ) (names : List (List ℕ)) (bytes : List ℕ) (files : Catalogue) (result : Result Sought Stop)
-    → setting.source name ≡ Some bytes → MayFind (setting.looked name) result → result ≡ found_as (number_in files name) bytes (numbered name files) → Searches setting header (name ∷ names) files result
+    → setting.source name ≡ Some bytes → MayFind (setting.looked name) result → HasNumber setting name files → result ≡ found_as (number_in files name) bytes (numbered name files)
+    → Searches setting header (name ∷ names) files result
 unfolding Searches
-ends-with setting header name names bytes files result source may is =
-    inr (subst (λ s. LooksAt s name (setting.looked name) files (Searches setting header names files) result) (sym source) (may, is))
+ends-with setting header name names bytes files result source may numbers is =
+    inr (subst (λ s. LooksAt setting s name files (Searches setting header names files) result) (sym source) (may, numbers, is))
+
+-- the number of a name at which a search ends has that name then
+ends-named : (setting : Setting) (name : List ℕ) (old new : Loaded) → new.names ≡ (with_name old name).names
+    → ((number : ℕ) → number < length new.names → setting.named number ≡ name_of new number) → setting.named (number_of old name) ≡ name
+ends-named setting name old new same named =
+    named (number_of old name) (subst (λ (ns : List (List ℕ)). number_of old name < length ns) (sym same) (number-inside old name))
+    ∙ ap (λ (ns : List (List ℕ)). get_or ns (number_of old name) []) same ∙ name-with_name old name
 
 unknown-held : (old : Loaded) (name : List ℕ) → IsUnknown old name → is_held (with_name old name) (number_of old name) ≡ false
 unknown-held old name unknown = ap is_some (held-with_name old name (number_of old name)) ∙ unknown.0
 
 -- a file that was held
 pub leads-held : (setting : Setting) (files : Files) (header : Option ℕ) (name : List ℕ) (names : List (List ℕ)) (old : Loaded) → HasSlots old
-    → file_for old files name ≡ setting.source name → setting.looked name ≡ true → is_held old (number_of old name) ≡ true
+    → file_for old files name ≡ setting.source name → setting.looked name ≡ true → setting.named (number_of old name) ≡ name → is_held old (number_of old name) ≡ true
     → Searches setting header (name ∷ names) (shown old) (Ok (sought (Some (number_of old name)) (shown old)))
-leads-held setting files header name names old slots served looked held =
+leads-held setting files header name names old slots served looked named held =
     let bytes = some-of (held_at old (number_of old name)) held in
     let among = held-among old name slots held in
     let same : numbered name (shown old) ≡ shown old = sym (shown-with_name old name) ∙ ap shown (with_name-known old name among) in
-    ends-with setting header name names bytes.0 (shown old) _ (sym served ∙ held-file files old name bytes.0 bytes.1) looked
+    ends-with setting header name names bytes.0 (shown old) _ (sym served ∙ held-file files old name bytes.0 bytes.1) looked named
     (sym (ap (found_as (number_of old name) bytes.0) same
     ∙ ap (λ b. cond b (Ok (sought (Some (number_of old name)) (shown old))) (first_found (number_of old name) bytes.0 (shown old))) (found-is old (number_of old name) ∙ held)))
 
 -- a file that is loaded
 pub leads-loaded : (setting : Setting) (files : Files) (header : Option ℕ) (name : List ℕ) (names : List (List ℕ)) (old : Loaded) (bytes : List ℕ)
-    → file_for old files name ≡ setting.source name → setting.looked name ≡ true → IsUnknown old name → HasBytes (Some files) name bytes → loaded.found_files (with_name old name) < most_files
+    → file_for old files name ≡ setting.source name → setting.looked name ≡ true → setting.named (number_of old name) ≡ name → IsUnknown old name → HasBytes (Some files) name bytes → loaded.found_files (with_name old name) < most_files
     → IsReadable (number_of old name) bytes
     → Searches setting header (name ∷ names) (shown old) (Ok (sought (Some (number_of old name)) (shown (with_bytes (with_name old name) (number_of old name) bytes))))
-leads-loaded setting files header name names old bytes served looked unknown has few readable =
+leads-loaded setting files header name names old bytes served looked named unknown has few readable =
     let number = number_of old name in
     let now = with_name old name in
     let read = read-bytes (file_at files name) bytes has in
-    ends-with setting header name names bytes (shown old) _ (sym served ∙ unknown-file files old name unknown ∙ read.0) looked
+    ends-with setting header name names bytes (shown old) _ (sym served ∙ unknown-file files old name unknown ∙ read.0) looked named
     (sym (ap (found_as number bytes) (sym (shown-with_name old name))
     ∙ found-new now number bytes (unknown-held old name unknown)
     ∙ first-read (shown now) number bytes read.1 (few-found now few)
@@ -161,29 +169,29 @@ leads-loaded setting files header name names old bytes served looked unknown has
 
 -- a file that stops the search
 pub leads-stopped : (setting : Setting) (files : Files) (header : Option ℕ) (name : List ℕ) (names : List (List ℕ)) (old : Loaded) (stop : Stop)
-    → file_for old files name ≡ setting.source name → IsUnknown old name → StopsLoading (Some files) name (with_name old name) (number_of old name) stop
+    → file_for old files name ≡ setting.source name → setting.named (number_of old name) ≡ name → IsUnknown old name → StopsLoading (Some files) name (with_name old name) (number_of old name) stop
     → Stops (Searches setting header (name ∷ names) (shown old)) stop
 unfolding Searches
-leads-stopped setting files header name names old Memory served unknown stops = tt
-leads-stopped setting files header name names old (ReadFault number) served unknown stops =
-    inl (found-is old (number_of old name) ∙ unknown.0, ap (λ n. Err (ReadFault n)) stops)
-leads-stopped setting files header name names old (Limit passed) served unknown (inl long) =
+leads-stopped setting files header name names old Memory served named unknown stops = tt
+leads-stopped setting files header name names old (ReadFault number) served named unknown stops =
+    inl (found-is old (number_of old name) ∙ unknown.0, named, ap (λ n. Err (ReadFault n)) stops)
+leads-stopped setting files header name names old (Limit passed) served named unknown (inl long) =
     let read = read-long (file_at files name) long.1 in
-    ends-with setting header name names read.0 (shown old) _ (sym served ∙ unknown-file files old name unknown ∙ read.1) tt
+    ends-with setting header name names read.0 (shown old) _ (sym served ∙ unknown-file files old name unknown ∙ read.1) tt named
     (ap (λ l. Err (Limit l)) long.0
     ∙ sym (ap (found_as (number_of old name) read.0) (sym (shown-with_name old name))
     ∙ found-new (with_name old name) (number_of old name) read.0 (unknown-held old name unknown)
     ∙ first-long (shown (with_name old name)) (number_of old name) read.0 read.2))
-leads-stopped setting files header name names old (Limit passed) served unknown (inr many) =
+leads-stopped setting files header name names old (Limit passed) served named unknown (inr many) =
     let read = read-bytes (file_at files name) many.1 many.2 in
-    ends-with setting header name names many.1 (shown old) _ (sym served ∙ unknown-file files old name unknown ∙ read.0) tt
+    ends-with setting header name names many.1 (shown old) _ (sym served ∙ unknown-file files old name unknown ∙ read.0) tt named
     (ap (λ l. Err (Limit l)) many.0
     ∙ sym (ap (found_as (number_of old name) many.1) (sym (shown-with_name old name))
     ∙ found-new (with_name old name) (number_of old name) many.1 (unknown-held old name unknown)
     ∙ first-many (shown (with_name old name)) (number_of old name) many.1 read.1 (many-found (with_name old name) many.3)))
-leads-stopped setting files header name names old (Refused refusal) served unknown stops =
+leads-stopped setting files header name names old (Refused refusal) served named unknown stops =
     let read = read-bytes (file_at files name) stops.0 stops.1 in
-    ends-with setting header name names stops.0 (shown old) _ (sym served ∙ unknown-file files old name unknown ∙ read.0) tt
+    ends-with setting header name names stops.0 (shown old) _ (sym served ∙ unknown-file files old name unknown ∙ read.0) tt named
     (sym (ap (found_as (number_of old name) stops.0) (sym (shown-with_name old name))
     ∙ found-new (with_name old name) (number_of old name) stops.0 (unknown-held old name unknown)
     ∙ first-read (shown (with_name old name)) (number_of old name) stops.0 read.1 (few-found (with_name old name) stops.2)
@@ -269,10 +277,11 @@ finds-grows told header (name ∷ names) old result new slots not (inr passes) =
 -- THE SEARCH
 
 ends-leads : (setting : Setting) (files : Files) (header : Option ℕ) (name : List ℕ) (names : List (List ℕ)) (old : Loaded) (result : Result (Option ℕ) Stop) (new : Loaded) → HasSlots old
-    → file_for old files name ≡ setting.source name → (is_known new name ≡ true → setting.looked name ≡ true) → EndsAt (Some files) name old result new
+    → file_for old files name ≡ setting.source name → (is_known new name ≡ true → setting.looked name ≡ true)
+    → ((number : ℕ) → number < length new.names → setting.named number ≡ name_of new number) → EndsAt (Some files) name old result new
     → SearchLeads setting header (name ∷ names) (shown old) result (shown new)
-ends-leads setting files header name names old (Ok None) new slots served looked ends = absurd ends
-ends-leads setting files header name names old (Ok (Some number)) new slots served looked ends =
+ends-leads setting files header name names old (Ok None) new slots served looked named ends = absurd ends
+ends-leads setting files header name names old (Ok (Some number)) new slots served looked named ends =
     subst (λ n. Searches setting header (name ∷ names) (shown old) (Ok (sought (Some n) (shown new)))) (sym ends.0) (by ends.1)
   where
     by : ((is_held old number ≡ true) × (new ≡ old)) ⊎ (IsUnknown old name × Loads (Some files) name (with_name old name) number (Ok true) new)
@@ -281,7 +290,8 @@ ends-leads setting files header name names old (Ok (Some number)) new slots serv
         let here : is_held old (number_of old name) ≡ true = ap (is_held old) (sym ends.0) ∙ held.0 in
         let known : is_known new name ≡ true = ap (λ (l : Loaded). is_known l name) held.1 ∙ known-held old name here in
         subst (λ (l : Loaded). Searches setting header (name ∷ names) (shown old) (Ok (sought (Some (number_of old name)) (shown l)))) (sym held.1)
-        (leads-held setting files header name names old slots served (looked known) here)
+        (leads-held setting files header name names old slots served (looked known)
+        (ends-named setting name old new (ap (λ (l : Loaded). l.names) (held.1 ∙ sym (with_name-known old name (held-among old name slots here)))) named) here)
     by (inr loads) =
         let now = with_bytes (with_name old name) (number_of old name) loads.1.0 in
         let is : new ≡ now = loads.1.4 ∙ ap (λ n. with_bytes (with_name old name) n loads.1.0) ends.0 in
@@ -289,16 +299,17 @@ ends-leads setting files header name names old (Ok (Some number)) new slots serv
         let held : is_held now (number_of now name) ≡ true = ap (is_held now) (number-with_name old name) ∙ ap is_some (held-now (with_name old name) (number_of old name) loads.1.0 inside) in
         let known : is_known new name ≡ true = ap (λ (l : Loaded). is_known l name) is ∙ known-held now name held in
         subst (λ (l : Loaded). Searches setting header (name ∷ names) (shown old) (Ok (sought (Some (number_of old name)) (shown l)))) (sym is)
-        (leads-loaded setting files header name names old loads.1.0 served (looked known) loads.0 loads.1.1 loads.1.2 (subst (λ n. IsReadable n loads.1.0) ends.0 loads.1.3))
-ends-leads setting files header name names old (Err stop) new slots served looked (inl memory) = subst (Stops (Searches setting header (name ∷ names) (shown old))) (sym memory.0) tt
-ends-leads setting files header name names old (Err stop) new slots served looked (inr stops) = leads-stopped setting files header name names old stop served stops.0 stops.1
+        (leads-loaded setting files header name names old loads.1.0 served (looked known) (ends-named setting name old new (ap (λ (l : Loaded). l.names) is) named) loads.0 loads.1.1 loads.1.2 (subst (λ n. IsReadable n loads.1.0) ends.0 loads.1.3))
+ends-leads setting files header name names old (Err stop) new slots served looked named (inl memory) = subst (Stops (Searches setting header (name ∷ names) (shown old))) (sym memory.0) tt
+ends-leads setting files header name names old (Err stop) new slots served looked named (inr stops) =
+    leads-stopped setting files header name names old stop served (ends-named setting name old new (ap (λ (l : Loaded). l.names) stops.2) named) stops.0 stops.1
 
 -- behind a name that is passed over
 over-search : (setting : Setting) (header : Option ℕ) (name : List ℕ) (names : List (List ℕ)) (files : Catalogue) (result : Result Sought Stop) → setting.source name ≡ None → setting.looked name ≡ true
     → Searches setting header names files result → Searches setting header (name ∷ names) files result
 unfolding Searches
 over-search setting header name names files result none looked rest =
-    inr (subst (λ s. LooksAt s name (setting.looked name) files (Searches setting header names files) result) (sym none) (looked, rest))
+    inr (subst (λ s. LooksAt setting s name files (Searches setting header names files) result) (sym none) (looked, rest))
 
 over-leads : (setting : Setting) (header : Option ℕ) (name : List ℕ) (names : List (List ℕ)) (before : Catalogue) (result : Result (Option ℕ) Stop) (after : Catalogue) → setting.source name ≡ None
     → (result ≢ Err Memory → setting.looked name ≡ true) → SearchLeads setting header names before result after → SearchLeads setting header (name ∷ names) before result after
@@ -314,17 +325,17 @@ none-search setting header files = refl
 
 pub finds-leads : (setting : Setting) (files : Files) (header : Option ℕ) (names : List (List ℕ)) (old : Loaded) (result : Result (Option ℕ) Stop) (new : Loaded) → HasSlots old
     → ((name : List ℕ) → file_for old files name ≡ setting.source name) → ((name : List ℕ) → is_known new name ≡ true → setting.looked name ≡ true)
-    → Finds (Some files) header names old result new → SearchLeads setting header names (shown old) result (shown new)
+    → ((number : ℕ) → number < length new.names → setting.named number ≡ name_of new number) → Finds (Some files) header names old result new → SearchLeads setting header names (shown old) result (shown new)
 unfolding Finds
-finds-leads setting files header [] old result new slots served looked finds =
+finds-leads setting files header [] old result new slots served looked named finds =
     subst (λ r. SearchLeads setting header [] (shown old) r (shown new)) (sym finds.0)
     (subst (λ (l : Loaded). Searches setting header [] (shown old) (Ok (sought header (shown l)))) (sym finds.1) (none-search setting header (shown old)))
-finds-leads setting files header (name ∷ names) old result new slots served looked (inl ends) =
-    ends-leads setting files header name names old result new slots (served name) (looked name) ends
-finds-leads setting files header (name ∷ names) old result new slots served looked (inr passes) =
+finds-leads setting files header (name ∷ names) old result new slots served looked named (inl ends) =
+    ends-leads setting files header name names old result new slots (served name) (looked name) named ends
+finds-leads setting files header (name ∷ names) old result new slots served looked named (inr passes) =
     let next = passes.0 in
     let next_slots = passes-slots (Some files) name old next passes.1 slots in
-    let rest = finds-leads setting files header names next result new next_slots (λ other. passes-same files name old next passes.1 other ∙ served other) looked passes.2 in
+    let rest = finds-leads setting files header names next result new next_slots (λ other. passes-same files name old next passes.1 other ∙ served other) looked named passes.2 in
     let known : result ≢ Err Memory → setting.looked name ≡ true = λ not.
     looked name (known-absent new name ((finds-grows (Some files) header names next result new next_slots not passes.2).absent_too name (passes-absent (Some files) name old next passes.1))) in
     over-leads setting header name names (shown old) result (shown new) (sym (served name) ∙ passes-none files name old next passes.1) known

@@ -1,5 +1,5 @@
 -- What the call for a unit gives and leaves, beside the reading behind the main file's number.
-use Rattle.std.proofs.Common.{◌≡◌, ◌≢◌, ℕ, ◌<◌, ◌≤◌, Bool, true, false, ◌⊎◌, inl, inr, List, ◌++◌, length, Option, None, Some, Result, Ok, Err, IfOk, IfErr, is_some, nat_lt, refl, sym, ap, ◌∙◌, subst, append_assoc, bytes_eq}
+use Rattle.std.proofs.Common.{◌≡◌, ◌≢◌, ℕ, ◌<◌, ◌≤◌, Bool, true, false, ◌⊎◌, inl, inr, List, [], ◌++◌, length, Option, None, Some, Result, Ok, Err, IfOk, IfErr, is_some, get_or, nat_lt, refl, sym, ap, ◌∙◌, subst, append_assoc, bytes_eq}
 use Rattle.std.specs.List.{list_any}
 use Rattle.std.proofs.lemmas.Bool.{ltb-true, ltb-false}
 use Rattle.dm_token.specs.declared.stop.Stop.{Stop}
@@ -9,16 +9,16 @@ use Rattle.dm_token.specs.declared.unit.UnitTokens.{UnitTokens}
 use Rattle.dm_io.specs.Files.{Files}
 use Rattle.dm_search.specs.Loaded.{Loaded, number_of, name_of, held_at, is_held, is_absent, with_name}
 use Rattle.dm_search.specs.CallFiles.{file_for}
-use Rattle.dm_unit.specs.States.{Setting, State}
+use Rattle.dm_unit.specs.States.{Setting, Catalogue, State}
 use Rattle.dm_unit.specs.Readings.{ReadsMain, ReadsUnit, DoesManifests}
-use Rattle.dm_unit.specs.Units.{IsReadAs, setting_of, first_files, state_with, finished}
+use Rattle.dm_unit.specs.Units.{IsReadAs, AreNumbered, setting_of, first_files, state_with, finished}
 use Rattle.dm_unit.specs.Loaders.{Grows, IsOf, file_of, shown}
 use Rattle.dm_unit.specs.Views.{Stops, Does, Serves, Leaves, HoldsMain, stop_of, named_by}
 use Rattle.dm_unit.proofs.NameLemmas.{HasSlots, shown-with_name, held-with_name, absent-with_name}
 use Rattle.dm_unit.proofs.GrowLemmas.{some-of, grows-name, known-grows}
 use Rattle.dm_unit.proofs.FileLemmas.{named-same}
 use Rattle.dm_unit.proofs.ReadingLemmas.{unit-reads, unit-stops, stops-map}
-use Rattle.dm_unit.proofs.UnitLemmas.{does-map}
+use Rattle.dm_unit.proofs.UnitLemmas.{does-map, name-early}
 
 -- THE DEFINES AND THE MAIN FILE
 
@@ -93,27 +93,38 @@ pub unit-serves : (told : Option Files) (files : Files) (unit : Source) (l0 l1 l
 unit-serves told files unit l0 l1 l2 main slots is number are = record {
   files = (files, are, λ name. ap (λ (l : Loaded). file_for l files name) is ∙ named-same files l0 unit.file name slots);
   looked = λ name known. known;
+  named = λ number inside. refl;
   include = refl;
   main_is = sym number;
 }
+
+-- the numbers of the files at its beginning
+pub unit-numbered : (files : Files) (unit : Source) (apart : Option ℕ) (l0 l1 l2 : Loaded) → l1 ≡ with_name l0 unit.file → Grows apart l1 l2 → AreNumbered (setting_of l0 l2 files unit) (first_files l0 unit)
+unit-numbered files unit apart l0 l1 l2 is grows =
+    subst (λ (first : Catalogue). (number : ℕ) → number < length first.names → name_of l2 number ≡ get_or first.names number []) (shown-with_name l0 unit.file)
+    (subst (λ (l : Loaded). (number : ℕ) → number < length l.names → name_of l2 number ≡ get_or l.names number []) is
+    (λ number inside. ap (λ (ns : List (List ℕ)). get_or ns number []) grows.begins.1 ∙ name-early l1.names grows.begins.0 number inside))
 
 -- the state at its beginning
 pub unit-start : (unit : Source) (l0 l1 : Loaded) (start : State) → l1 ≡ with_name l0 unit.file → start ≡ state_with (shown l1) → start ≡ state_with (first_files l0 unit)
 unit-start unit l0 l1 start is begun = begun ∙ ap state_with (ap shown is ∙ shown-with_name l0 unit.file)
 
 -- its answer
-pub unit-answer : (setting : Setting) (unit : Source) (l0 new : Loaded) (start final : State) (tokens : UnitTokens) → start ≡ state_with (first_files l0 unit) → ReadsUnit setting unit.file unit.define start (Ok final)
-    → tokens ≡ finished final → final.files ≡ shown new → IsReadAs setting unit l0 (Ok tokens) new
-unit-answer setting unit l0 new start final tokens begun reads is files =
-    (final, subst (λ (s : State). ReadsUnit setting unit.file unit.define s (Ok final)) begun reads, is, files)
+pub unit-answer : (setting : Setting) (unit : Source) (l0 new : Loaded) (start final : State) (tokens : UnitTokens) → AreNumbered setting (first_files l0 unit) → start ≡ state_with (first_files l0 unit)
+    → ReadsUnit setting unit.file unit.define start (Ok final) → tokens ≡ finished final → final.files ≡ shown new → IsReadAs setting unit l0 (Ok tokens) new
+unit-answer setting unit l0 new start final tokens numbered begun reads is files =
+    (final, (numbered, subst (λ (s : State). ReadsUnit setting unit.file unit.define s (Ok final)) begun reads), is, files)
 
 -- or its stop
-pub unit-stop : (setting : Setting) (unit : Source) (l0 new : Loaded) (start : State) (stop : Stop) → start ≡ state_with (first_files l0 unit) → Stops (ReadsUnit setting unit.file unit.define start) stop
-    → IsReadAs setting unit l0 (Err stop) new
-unit-stop setting unit l0 new start Memory begun stops = tt
-unit-stop setting unit l0 new start (Refused refusal) begun stops = subst (λ (s : State). ReadsUnit setting unit.file unit.define s (Err (Refused refusal))) begun stops
-unit-stop setting unit l0 new start (Limit passed) begun stops = subst (λ (s : State). ReadsUnit setting unit.file unit.define s (Err (Limit passed))) begun stops
-unit-stop setting unit l0 new start (ReadFault file) begun stops = subst (λ (s : State). ReadsUnit setting unit.file unit.define s (Err (ReadFault file))) begun stops
+pub unit-stop : (setting : Setting) (unit : Source) (l0 new : Loaded) (start : State) (stop : Stop) → (◌≢◌ {A = Option Stop} (Some stop) (Some Memory) → AreNumbered setting (first_files l0 unit))
+    → start ≡ state_with (first_files l0 unit) → Stops (ReadsUnit setting unit.file unit.define start) stop → IsReadAs setting unit l0 (Err stop) new
+unit-stop setting unit l0 new start Memory numbered begun stops = tt
+unit-stop setting unit l0 new start (Refused refusal) numbered begun stops =
+    (numbered (λ e. cc), subst (λ (s : State). ReadsUnit setting unit.file unit.define s (Err (Refused refusal))) begun stops)
+unit-stop setting unit l0 new start (Limit passed) numbered begun stops =
+    (numbered (λ e. cc), subst (λ (s : State). ReadsUnit setting unit.file unit.define s (Err (Limit passed))) begun stops)
+unit-stop setting unit l0 new start (ReadFault file) numbered begun stops =
+    (numbered (λ e. cc), subst (λ (s : State). ReadsUnit setting unit.file unit.define s (Err (ReadFault file))) begun stops)
 
 -- the main file is held, or named by the stop
 pub held-main : {A : Type 0} (main n : ℕ) (result : Result A Stop) (new : Loaded) → main ≡ n → HoldsMain main result new → stop_of result ≢ Some Memory → (is_held new n ≡ true) ⊎ IsOf (named_by (stop_of result)) n
@@ -121,10 +132,11 @@ held-main main n (Ok answer) new is holds not = inl (ap (is_held new) (sym is) �
 held-main main n (Err stop) new is holds not = subst (λ number. (is_held new number ≡ true) ⊎ IsOf (file_of stop) number) is (holds (λ e. not (ap Some e)))
 
 -- the answer once the unit is read, unless memory is wanting
-pub unit-answers : (setting : Setting) (unit : Source) (l0 new : Loaded) (start final : State) (result : Result UnitTokens Stop) → start ≡ state_with (first_files l0 unit) → ReadsUnit setting unit.file unit.define start (Ok final)
+pub unit-answers : (setting : Setting) (unit : Source) (l0 new : Loaded) (start final : State) (result : Result UnitTokens Stop) → AreNumbered setting (first_files l0 unit) → start ≡ state_with (first_files l0 unit)
+    → ReadsUnit setting unit.file unit.define start (Ok final)
     → IfOk result (λ tokens. tokens ≡ finished final) → IfErr result (λ stop. stop ≡ Memory) → final.files ≡ shown new → IsReadAs setting unit l0 result new
-unit-answers setting unit l0 new start final (Ok tokens) begun reads is memory files = unit-answer setting unit l0 new start final tokens begun reads is files
-unit-answers setting unit l0 new start final (Err stop) begun reads is memory files = subst (λ s. IsReadAs setting unit l0 (Err s) new) (sym memory) tt
+unit-answers setting unit l0 new start final (Ok tokens) numbered begun reads is memory files = unit-answer setting unit l0 new start final tokens numbered begun reads is files
+unit-answers setting unit l0 new start final (Err stop) numbered begun reads is memory files = subst (λ s. IsReadAs setting unit l0 (Err s) new) (sym memory) tt
 
 pub finish-leaves : {A : Type 0} (t0 t1 : Option Files) (r0 r1 : List ℕ → ℕ) (f0 f1 : ℕ) (l0 l2 : Loaded) (result : Result A Stop) → IfErr result (λ stop. stop ≡ Memory) → Leaves t0 t1 r0 r1 f0 f1 l0 l2 None
     → Leaves t0 t1 r0 r1 f0 f1 l0 l2 (stop_of result)

@@ -1,7 +1,7 @@
 -- How the reading of one part of a file follows that of another.
-use Rattle.std.proofs.Common.{◌≡◌, ◌≢◌, ℕ, zero, suc, ◌+◌, ◌-◌, ◌<◌, ◌≤◌, true, List, [], ◌∷◌, length, take, drop, unwrap_or, Option, None, Some, Result, Ok, Err, slice_range, refl, sym, ap, ◌∙◌, subst, arith}
+use Rattle.std.proofs.Common.{◌≡◌, ◌≢◌, ℕ, zero, suc, ◌+◌, ◌-◌, ◌<◌, ◌≤◌, true, List, [], ◌∷◌, ◌++◌, length, get_or, take, drop, unwrap_or, Option, None, Some, Result, Ok, Err, slice_range, refl, sym, ap, ◌∙◌, subst, arith}
 use Rattle.std.specs.Result.{result_unwrap_or}
-use Rattle.std.proofs.lemmas.List.{length-drop}
+use Rattle.std.proofs.lemmas.List.{length-drop, length-append}
 use Rattle.std.proofs.Math.ListN.{drop_of_length-le}
 use Rattle.dm_token.specs.declared.token.PpToken.{PpToken}
 use Rattle.dm_token.specs.declared.unit.Unit.{Unit as Source}
@@ -21,12 +21,27 @@ use Rattle.dm_unit.proofs.ReadingLemmas.{stops-map, file-stops, file-ends, parts
 
 -- THE SETTING
 
+-- a number has the same name among names with more behind them
+pub name-early : (names more : List (List ℕ)) (number : ℕ) → number < length names → get_or (names ++ more) number [] ≡ get_or names number []
+name-early [] more number inside = absurd (omega (arith, inside))
+name-early (name ∷ names) more zero inside = refl
+name-early (name ∷ names) more (suc number) inside = name-early names more number (omega (arith, inside))
+
+-- so what it is called then it was called before
+named-early : {called : List ℕ} (names more all : List (List ℕ)) (number : ℕ) → all ≡ names ++ more → number < length names → (number < length all → called ≡ get_or all number [])
+    → called ≡ get_or names number []
+named-early names more all number is inside named =
+    let longer = ap length is in
+    let joined = length-append names more in
+    named (omega (arith, longer, joined, inside)) ∙ ap (λ (ns : List (List ℕ)). get_or ns number []) is ∙ name-early names more number inside
+
 -- the names that are known in between are known at the end
-pub serves-early : (told : Option Files) (unit : Source) (main : ℕ) (l0 l1 l2 : Loaded) (setting : Setting) → ((name : List ℕ) → is_known l1 name ≡ true → is_known l2 name ≡ true) → Serves told unit main l0 l2 setting
-    → Serves told unit main l0 l1 setting
-serves-early told unit main l0 l1 l2 setting knows serves = record {
+pub serves-early : (told : Option Files) (unit : Source) (main : ℕ) (l0 l1 l2 : Loaded) (setting : Setting) → ((name : List ℕ) → is_known l1 name ≡ true → is_known l2 name ≡ true)
+    → ((more : List (List ℕ)) × (l2.names ≡ l1.names ++ more)) → Serves told unit main l0 l2 setting → Serves told unit main l0 l1 setting
+serves-early told unit main l0 l1 l2 setting knows begins serves = record {
   files = serves.files;
   looked = λ name known. serves.looked name (knows name known);
+  named = λ number inside. named-early l1.names begins.0 l2.names number begins.1 inside (serves.named number);
   include = serves.include;
   main_is = serves.main_is;
 }
@@ -35,6 +50,7 @@ pub serves-late : (t0 t1 : Option Files) (unit : Source) (main next : ℕ) (l0 l
 serves-late t0 t1 unit main next l0 l1 l2 setting stay served mains serves = record {
   files = (serves.files.0, stay ∙ serves.files.1, λ name. served serves.files.0 serves.files.1 name ∙ serves.files.2 name);
   looked = serves.looked;
+  named = serves.named;
   include = serves.include;
   main_is = serves.main_is ∙ sym mains;
 }

@@ -67,9 +67,14 @@ first_found number bytes files =
 abbrev pub found_as : ℕ → List ℕ → Catalogue → Result Sought Stop
 found_as number bytes files = if is_found files number then Ok (sought (Some number) files) else first_found number bytes files
 
+-- the number that a name has among the files, or is to have, is one of that name
+abbrev pub HasNumber : Setting → List ℕ → Catalogue → Type 0
+HasNumber setting name files = setting.named (number_in files name) ≡ name
+
 -- The reading of a file that wasn't found before fails.
-abbrev pub Fails : List ℕ → Catalogue → Result Sought Stop → Type 0
-Fails name files result = (is_found files (number_in files name) ≡ false) × (result ≡ Err (ReadFault (number_in files name)))
+abbrev pub Fails : Setting → List ℕ → Catalogue → Result Sought Stop → Type 0
+Fails setting name files result =
+    (is_found files (number_in files name) ≡ false) × HasNumber setting name files × (result ≡ Err (ReadFault (number_in files name)))
 
 -- a search that finds a file may look for it
 abbrev pub MayFind : Bool → Result Sought Stop → Type 0
@@ -77,15 +82,16 @@ MayFind may (Ok sought) = may ≡ true
 MayFind may (Err stop) = Unit {0}
 
 -- The name has such a file, which is found, or none, and then the search goes on. Only a name that may be looked for is.
-abbrev pub LooksAt : Option (List ℕ) → List ℕ → Bool → Catalogue → (Result Sought Stop → Type 0) → Result Sought Stop → Type 0
-LooksAt None name may files Others result = (may ≡ true) × Others result
-LooksAt (Some bytes) name may files Others result = MayFind may result × (result ≡ found_as (number_in files name) bytes (numbered name files))
+abbrev pub LooksAt : Setting → Option (List ℕ) → List ℕ → Catalogue → (Result Sought Stop → Type 0) → Result Sought Stop → Type 0
+LooksAt setting None name files Others result = (setting.looked name ≡ true) × Others result
+LooksAt setting (Some bytes) name files Others result =
+    MayFind (setting.looked name) result × HasNumber setting name files × (result ≡ found_as (number_in files name) bytes (numbered name files))
 
 -- The first of these names that has a file is found, and else the built-in header of this number, if there is one.
 unfoldable pub Searches : Setting → Option ℕ → List (List ℕ) → Catalogue → Result Sought Stop → Type 0
 Searches setting header [] files result = result ≡ Ok (sought header files)
 Searches setting header (name ∷ names) files result =
-    Fails name files result ⊎ LooksAt (setting.source name) name (setting.looked name) files (Searches setting header names files) result
+    Fails setting name files result ⊎ LooksAt setting (setting.source name) name files (Searches setting header names files) result
 
 -- THE HEADER NAME
 

@@ -16,11 +16,12 @@ use Rattle.dm_expand.specs.AnswerViews.{looked_up}
 use Rattle.dm_unit.specs.declared.section.Section.{Section}
 
 -- what the reading of a unit is given: the bytes of each file by its name, if there is one (a built-in header has a name
--- such as `<stdio.h>`), the names that may be looked for in the folder, the include folders in order, and the number of the
--- main file
+-- such as `<stdio.h>`), the names that may be looked for in the folder, the name of each number, the include folders in order,
+-- and the number of the main file
 pub record Setting : Type 0 where
   pub source : List ℕ → Option (List ℕ)
   pub looked : List ℕ → Bool
+  pub named : ℕ → List ℕ
   pub include : List (List ℕ)
   pub main : ℕ
 

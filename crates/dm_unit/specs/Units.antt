@@ -2,7 +2,7 @@
 --     setting_of, start_of      what a unit is read with, and the state before it is read
 --     finished state      the unit's tokens, as they are given
 --     IsReadAs      the answer is that of the reading, or its stop
-use Rattle.std.specs.Prelude.{◌≡◌, ℕ, List, [], ◌∷◌, Result, Ok, Err}
+use Rattle.std.specs.Prelude.{◌≡◌, ℕ, ◌<◌, List, [], ◌∷◌, length, slice_index_or, Result, Ok, Err}
 use Rattle.std.specs.FinMap as finite
 use Rattle.dm_token.specs.declared.stop.Stop.{Stop}
 use Rattle.dm_token.specs.declared.stop.Stop.TheVariants.{Memory, Refused, Limit, ReadFault}
@@ -12,7 +12,7 @@ use Rattle.dm_token.specs.declared.unit.Read.{Read}
 use Rattle.dm_token.specs.declared.unit.UnitTokens.{UnitTokens}
 use Rattle.dm_io.specs.Files.{Files}
 use Rattle.dm_macro.specs.Tables.{table_of}
-use Rattle.dm_search.specs.Loaded.{Loaded, number_of}
+use Rattle.dm_search.specs.Loaded.{Loaded, number_of, name_of}
 use Rattle.dm_search.specs.CallFiles.{file_for}
 use Rattle.dm_unit.specs.States.{Setting, Catalogue, State, Outcome}
 use Rattle.dm_unit.specs.Includes.{numbered}
@@ -20,10 +20,10 @@ use Rattle.dm_unit.specs.Readings.{ReadsUnit}
 use Rattle.dm_unit.specs.Loaders.{shown, is_known}
 
 -- What a unit is read with, where these are the folder's files: those that the loader knows are as it knows them. Each name
--- that is looked for is known afterwards.
+-- that is looked for is known afterwards, and each number has the name that it has afterwards.
 abbrev pub setting_of : Loaded → Loaded → Files → Source → Setting
 setting_of old new files unit =
-    record { source = file_for old files; looked = is_known new; include = unit.include; main = number_of old unit.file }
+    record { source = file_for old files; looked = is_known new; named = name_of new; include = unit.include; main = number_of old unit.file }
 
 -- the files before anything is looked for; the main file's name has a number
 abbrev pub first_files : Loaded → Source → Catalogue
@@ -68,9 +68,14 @@ finished state =
       files = state.files_read;
     }
 
--- a unit's reading has this outcome
+-- each of these files has its number
+abbrev pub AreNumbered : Setting → Catalogue → Type 0
+AreNumbered setting files = (number : ℕ) → number < length files.names → setting.named number ≡ slice_index_or files.names number []
+
+-- a unit's reading has this outcome, by the numbers that the files known before, the built-in headers and the main file have
 abbrev pub HasOutcome : Setting → Loaded → Source → Outcome → Type 0
-HasOutcome setting loaded unit outcome = ReadsUnit setting unit.file unit.define (state_with (first_files loaded unit)) outcome
+HasOutcome setting loaded unit outcome =
+    AreNumbered setting (first_files loaded unit) × ReadsUnit setting unit.file unit.define (state_with (first_files loaded unit)) outcome
 
 -- The answer is what the reading of the unit gives, or its first stop, and the loader holds then the files that were found.
 -- Only want of memory has no cause.

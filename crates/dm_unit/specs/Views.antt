@@ -125,10 +125,12 @@ IsHeader start [] found = ⊥
 IsHeader start (header ∷ others) found =
     (is_header_kind header.kind ≡ true) × (found.start ≡ start.place) × (found.quoted ≡ is_quoted header.spelling) × (found.name ≡ header_name header.spelling)
 
--- The folder's files are told, and the setting has those of the call. It lets the names be looked for that are known then.
+-- The folder's files are told, and the setting has those of the call. It lets the names be looked for that are known then, and has the
+-- names that numbers have then.
 pub record Serves (told : Option Files) (unit : Source) (main : ℕ) (old new : Loaded) (setting : Setting) : Type 0 where
   pub files : (files : Files) × (told ≡ Some files) × ((name : List ℕ) → file_for old files name ≡ setting.source name)
   pub looked : (name : List ℕ) → is_known new name ≡ true → setting.looked name ≡ true
+  pub named : (number : ℕ) → number < length new.names → setting.named number ≡ name_of new number
   pub include : setting.include ≡ unit.include
   pub main_is : setting.main ≡ main
 

@@ -81,11 +81,12 @@ pub fn unit_tokens<F: Folder>(
     read_unit(alloc, folder, loader, unit)
 }
 
-/// A unit has at most one outcome, failed readings apart and whatever names may be looked for: one state, up to the order
-/// of the names used in conditions (those that stand at one place have none), or one refusal or limit.
+/// A unit has at most one outcome, failed readings apart, whatever names may be looked for and whatever numbers are called:
+/// one state, up to the order of the names used in conditions (those that stand at one place have none), or one refusal or
+/// limit.
 pub fn one_outcome()
-    ensures { (setting : Setting) (looked : List ℕ → Bool) (name : List ℕ) (defines : List (List ℕ)) (state : State) (one other : Outcome) →
-        ReadsUnit setting name defines state one → ReadsUnit (seeing looked setting) name defines state other →
+    ensures { (setting : Setting) (looked : List ℕ → Bool) (named : ℕ → List ℕ) (name : List ℕ) (defines : List (List ℕ)) (state : State) (one other : Outcome) →
+        ReadsUnit setting name defines state one → ReadsUnit (seeing looked named setting) name defines state other →
         IfErr one IsFaultless → IfErr other IsFaultless → Agree IsLike one other }
 {}
 

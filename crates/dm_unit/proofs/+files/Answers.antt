@@ -55,7 +55,7 @@ read_and_enter-returns-in-Ok-Some-clause-leads g t c = λ setting serves.
     unless-memory (ReadsPart setting (Enters setting c.args.more) c.args.file part state) c.enter.result after (λ not.
     part-some setting c.args.file c.args.more c.in-Ok-Some.included part state middle after c.in-Ok-Some.field-0 c.enter.result c.in-Ok-Some.field-0-is
     (c.in-Ok-Some.ensures.leads setting
-    (serves-early told c.args.unit.now c.args.reader.now.main c.args.loader.now c.read_part.new.loader c.enter.new.loader setting (c.enter.ensures.leaves.knows not) serves))
+    (serves-early told c.args.unit.now c.args.reader.now.main c.args.loader.now c.read_part.new.loader c.enter.new.loader setting (c.enter.ensures.leaves.knows not) (c.enter.ensures.leaves.grows not).begins serves))
     (c.enter.ensures.leads setting
     (serves-late told (g.F.Folder.files c.read_part.new.folder) c.args.unit.now c.args.reader.now.main c.read_part.new.reader.main c.args.loader.now c.read_part.new.loader c.enter.new.loader setting
     c.in-Ok-Some.ensures.leaves.files_stay c.in-Ok-Some.ensures.leaves.served c.in-Ok-Some.ensures.follows.main serves)))
@@ -92,7 +92,7 @@ read_file-loop-at-preserved g t c =
       same = tokens-grow None c.loop-at.loader c.read_and_enter.new.loader c.args.file (done.leaves.grows none-memory) inv.held ∙ inv.same;
       inside = part-inside t0 t1 tokens at n inv.same c.tokens_of-in-loop-at.ensures (subst (λ (ts : List PpToken). at < length ts) (c.tokens_of.ensures ∙ sym c.tokens_of-in-loop-at.ensures) c.loop-at-test.true) (subst (λ (ts : List PpToken). n ≤ length ts) (slice-left at tokens) c.part_length.ensures.inside);
       leads = λ setting outcome serves rest.
-          let early = serves-early told c.args.unit.now c.args.reader.now.main c.args.loader.now c.loop-at.loader c.read_and_enter.new.loader setting (done.leaves.knows none-memory) serves in
+          let early = serves-early told c.args.unit.now c.args.reader.now.main c.args.loader.now c.loop-at.loader c.read_and_enter.new.loader setting (done.leaves.knows none-memory) (done.leaves.grows none-memory).begins serves in
           let late = serves-late told (g.F.Folder.files c.loop-at.folder) c.args.unit.now c.args.reader.now.main c.loop-at.reader.main c.args.loader.now c.loop-at.loader c.read_and_enter.new.loader setting
           inv.leaves.files_stay inv.leaves.served inv.main serves in
           loop-goes setting c.args.more c.args.file t0 t1 tokens at n (begun c.args.file (state_of c.args.reader.now (shown c.args.loader.now))) (state_of c.loop-at.reader (shown c.loop-at.loader))
@@ -110,7 +110,7 @@ read_file-returns-in-Err-clause-leads g t c = λ setting serves.
     let state = state_of c.args.reader.now (shown c.args.loader.now) in
     let told = g.F.Folder.files c.args.folder.now in
     stops-unless (ReadsFile setting (Enters setting c.args.more) c.args.file state) c.in-Err.stop (λ not.
-    let early = serves-early told c.args.unit.now c.args.reader.now.main c.args.loader.now c.loop-at.loader c.read_and_enter.new.loader setting (c.in-Err.ensures.leaves.knows not) serves in
+    let early = serves-early told c.args.unit.now c.args.reader.now.main c.args.loader.now c.loop-at.loader c.read_and_enter.new.loader setting (c.in-Err.ensures.leaves.knows not) (c.in-Err.ensures.leaves.grows not).begins serves in
     let late = serves-late told (g.F.Folder.files c.loop-at.folder) c.args.unit.now c.args.reader.now.main c.loop-at.reader.main c.args.loader.now c.loop-at.loader c.read_and_enter.new.loader setting
     inv.leaves.files_stay inv.leaves.served inv.main serves in
     whole-stops setting c.args.more c.args.loader.now c.args.file state c.in-Err.stop refl (held-file setting told c.args.unit.now c.args.reader.now.main c.args.loader.now c.read_and_enter.new.loader c.args.file serves c.requires.held)

@@ -17,7 +17,7 @@ returns-in-Ok-true-clause-leads g c = λ setting serves.
     let after = state_of c.read_file.new.reader (shown c.read_file.new.loader) in
     let told = g.F.Folder.files c.args.folder.now in
     unless-memory (ReadsMain setting name state) c.read_file.result after (λ not.
-    let early = serves-early told c.args.unit.now c.args.main c.args.loader.now c.load_main.new.loader c.read_file.new.loader setting (c.read_file.ensures.leaves.knows not) serves in
+    let early = serves-early told c.args.unit.now c.args.main c.args.loader.now c.load_main.new.loader c.read_file.new.loader setting (c.read_file.ensures.leaves.knows not) (c.read_file.ensures.leaves.grows not).begins serves in
     let late = serves-late told (g.F.Folder.files c.load_main.new.folder) c.args.unit.now c.args.main c.args.reader.now.main c.args.loader.now c.load_main.new.loader c.read_file.new.loader setting
     c.in-Ok-true.ensures.leaves.files_stay c.in-Ok-true.ensures.leaves.served c.requires.main serves in
     does-map (ReadsFile setting (Enters setting most_nested) c.args.main begun) (ReadsMain setting name state) c.read_file.result after

@@ -2,9 +2,9 @@ use Rattle.std.proofs.Common.{◌<◌, ℕ, None, Some, Ok, Err, length, sym, ap
 use Rattle.dm_search.specs.Loaded.{Loaded, number_of, with_name}
 use Rattle.dm_unit.specs.Loaders.{shown}
 use Rattle.dm_unit.specs.Units.{setting_of}
-use Rattle.dm_unit.specs.Views.{state_of}
+use Rattle.dm_unit.specs.Views.{state_of, named_by}
 use Rattle.dm_unit.proofs.NameLemmas.{number-inside, number-with_name}
-use Rattle.dm_unit.proofs.TopLemmas.{unit-leaves, finish-leaves, unit-serves, unit-start, unit-answers, unit-stop, held-main}
+use Rattle.dm_unit.proofs.TopLemmas.{unit-leaves, finish-leaves, unit-serves, unit-numbered, unit-start, unit-answers, unit-stop, held-main}
 use Rattle.dm_unit.proofs.read_unit.Goals as goal
 
 pub read_all-requires-clause-numbered : goal.read_all-requires-clause-numbered
@@ -22,6 +22,7 @@ returns-in-Ok-clause-reading g c = λ files told.
     let start = state_of c.in_ok-reader.reader (shown c.number.new.self) in
     let final = state_of c.read_all.new.reader (shown c.read_all.new.loader) in
     unit-answers setting c.args.unit.now c.args.loader.now c.read_all.new.loader start final c.finish.result
+    (unit-numbered files c.args.unit.now None c.args.loader.now c.number.new.self c.read_all.new.loader c.in_ok-main.ensures.added (c.in-Ok.ensures.leaves.grows (λ e. cc)))
     (unit-start c.args.unit.now c.args.loader.now c.number.new.self start c.in_ok-main.ensures.added (c.in_ok-reader.ensures.state (shown c.number.new.self)))
     (c.in-Ok.ensures.leads setting (unit-serves (g.F.Folder.files c.args.folder.now) files c.args.unit.now c.args.loader.now c.number.new.self c.read_all.new.loader c.in_ok-main.main
     c.names.ensures.slots c.in_ok-main.ensures.added c.in_ok-main.ensures.number told))
@@ -42,6 +43,7 @@ returns-in-Err-clause-reading g c = λ files told.
     let setting = setting_of c.args.loader.now c.read_all.new.loader files c.args.unit.now in
     let start = state_of c.in_ok-reader.reader (shown c.number.new.self) in
     unit-stop setting c.args.unit.now c.args.loader.now c.read_all.new.loader start c.in-Err.stop
+    (λ not. unit-numbered files c.args.unit.now (named_by (Some c.in-Err.stop)) c.args.loader.now c.number.new.self c.read_all.new.loader c.in_ok-main.ensures.added (c.in-Err.ensures.leaves.grows not))
     (unit-start c.args.unit.now c.args.loader.now c.number.new.self start c.in_ok-main.ensures.added (c.in_ok-reader.ensures.state (shown c.number.new.self)))
     (c.in-Err.ensures.leads setting (unit-serves (g.F.Folder.files c.args.folder.now) files c.args.unit.now c.args.loader.now c.number.new.self c.read_all.new.loader c.in_ok-main.main
     c.names.ensures.slots c.in_ok-main.ensures.added c.in_ok-main.ensures.number told))
