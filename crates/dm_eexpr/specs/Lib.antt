@@ -5,3 +5,4 @@ pub mod Rules
 pub mod Specifiers
 pub mod Typing
 pub mod Sound
+pub mod Examples

@@ -8,3 +8,6 @@ pub use laws::{
     assignments_give_well_typed_values, leaves_are_well_typed, lvalues_are_well_typed,
     operators_give_well_typed_values,
 };
+
+#[cfg(test)]
+mod tests;
