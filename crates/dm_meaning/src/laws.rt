@@ -111,8 +111,9 @@ pub fn extended_answers()
         → SameOptionalAnswer (Prim name kind layout memory arguments input output) (Prim name kind layout more arguments input output) }
 {}
 
-/// A program in which calls of an added function without parameters, whose body is one `return` of an expression that
-/// names no object, stand in place of the expression, at any places in any trees, refines the program with the expression.
+/// A program in which calls of an added function without parameters, whose body is one `return` of an expression, stand in
+/// place of the expression, at any places in any functions, refines the program with the expression. The expression names
+/// no object, its outermost operator is neither `?:` nor a comma, and the values of `case` labels stay the same.
 pub fn called_refines()
     ensures { (change : Called) → IsCalling change → Refines (machine_of (called.new_of change)) (machine_of change.old) }
 {}
