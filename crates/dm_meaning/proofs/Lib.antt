@@ -19,3 +19,4 @@ mod YieldLemmas
 mod CallStateLemmas
 mod StaticLemmas
 mod CallStartLemmas
+mod CallExample

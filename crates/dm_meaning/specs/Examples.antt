@@ -1,6 +1,6 @@
 -- Small programs as typed trees: the examples that tests run.
 --     by_choice choice steps input program      how the program stands after so many steps that take the same choice, and what it has written
-use Rattle.std.specs.Prelude.{ℕ, true, false, List, [], ◌∷◌, replicate, Option, Some, None, option_map, pos, codes}
+use Rattle.std.specs.Prelude.{ℕ, zero, suc, true, false, List, [], ◌∷◌, ◌++◌, replicate, Option, Some, None, option_map, pos, codes}
 use Rattle.dm_token.specs.declared.place.Place.{Place}
 use Rattle.dm_token.specs.declared.place.Span.{Span}
 use Rattle.dm_int.specs.declared.Kind.TheVariants.{Char, Int}
@@ -15,7 +15,8 @@ use Rattle.dm_tree.specs.declared.unit.Linkage.TheVariants.{External as External
 use Rattle.dm_tree.specs.Trees.{Label, number, literal, object, function, read, decay, convert, address, follow, member, binary, both, choose, comma, store, update, count, call, block, declare, full, if_statement, switch, case, default, while_loop, do_loop, for_loop, break, continue, return, Tree, node, trees, Initialiser, one_expression, in_braces, no_items, more_items}
 use Rattle.dm_tree.specs.Units.{Declaration, External, declares, defines_function}
 use Rattle.dm_meaning.specs.Machines.{Standing}
-use Rattle.dm_meaning.specs.Programs.{Program}
+use Rattle.dm_meaning.specs.Called.{Called}
+use Rattle.dm_meaning.specs.Programs.{Definition, Program}
 use Rattle.dm_meaning.specs.Units.{program_of}
 use Rattle.dm_meaning.specs.Choices.{run_by}
 use Rattle.dm_meaning.specs.States.{State}
@@ -359,3 +360,49 @@ exiting = program (of_function (codes "exit") (function_type void (more_types in
 -- int x; return x;
 abbrev pub unset_read : Program
 unset_read = alone (local (codes "x") int ∷ []) (declared_only 1 ∷ returned (value_at 7 int (named int 1)) ∷ [])
+
+-- int n = 0; int *place(void) { return &n; } int main(void) { *place() += 3; return *place() += 3; }
+abbrev stored_there : ℕ → Tree
+stored_there place = tree 7 (update Add int) int (tree 0 follow int (called 0 place (pointer int) [] ∷ []) ∷ constant 3 ∷ [])
+
+abbrev there : List External → List Tree → List External
+there others items =
+    external 1 (Some one_expression) (constant 0 ∷ []) ∷ defined 2 [] (returned (tree 0 address (pointer int) (named int 1 ∷ [])) ∷ [])
+    ∷ others ++ defined 0 [] items ∷ []
+
+abbrev pointer_of_nothing : CType
+pointer_of_nothing = function_type (pointer int) no_types
+
+abbrev pub stored_twice : Program
+stored_twice = program (fixed (codes "n") int ∷ of_function (codes "place") pointer_of_nothing ∷ [])
+    (there [] (statement (stored_there 2) ∷ returned (stored_there 2) ∷ []))
+
+-- .. int add(void) { return *place() += 3; } int main(void) { add(); return add(); }
+abbrev adding : Tree
+adding = tree 9 block void (returned (stored_there 2) ∷ [])
+
+abbrev pub called_add : Tree
+called_add = called 0 3 int []
+
+abbrev pub called_twice : Program
+called_twice = program (fixed (codes "n") int ∷ of_function (codes "place") pointer_of_nothing ∷ of_function (codes "add") int_of_nothing ∷ [])
+    (there (defined 3 [] (returned (stored_there 2) ∷ []) ∷ []) (statement called_add ∷ returned called_add ∷ []))
+
+-- the numbers of the declarations where a fourth one is added
+abbrev pub beyond_third : ℕ → ℕ
+beyond_third zero = 0
+beyond_third (suc zero) = 1
+beyond_third (suc (suc zero)) = 2
+beyond_third (suc (suc (suc d))) = suc (suc (suc (suc d)))
+
+-- the change between the two
+abbrev pub calling_twice : Called
+calling_twice = record {
+  old = stored_twice;
+  declared = called_twice.declared;
+  functions = called_twice.functions;
+  statics = called_twice.statics;
+  rename = beyond_third;
+  added = record { function = 3; parameters = []; body = adding };
+  body = stored_there 2;
+}

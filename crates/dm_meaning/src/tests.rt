@@ -7,6 +7,9 @@ ghost use Rattle.dm_int.specs.declared.Op.TheVariants.{Sub, Less, Equal};
 ghost use Rattle.dm_type.specs.CTypes.{integer};
 ghost use Rattle.dm_meaning.specs.declared.cause.Cause.TheVariants.{Overflow, Division, Conflict, Null, Bounds, Pointer, Life, Unset, Const, NoValue, External};
 ghost use Rattle.dm_meaning.specs.Machines.{going, exited, undefined};
+ghost use Rattle.dm_meaning.specs.Called.{new_of, IsCalling};
+ghost use Rattle.dm_meaning.specs.Refinement.{Refines};
+ghost use Rattle.dm_meaning.specs.Units.{machine_of};
 ghost use Rattle.dm_meaning.specs.Examples as examples;
 ghost use Rattle.dm_meaning.specs.Examples.{at, by_choice};
 
@@ -99,6 +102,14 @@ fn values_fit_their_types()
     ensures unset { by_choice 0 60 [] examples.unset_read ≡ Some (undefined Unset (at 7), []) }
 {}
 
+fn calls_of_an_added_function_refine()
+    ensures stored { by_choice 0 60 [] examples.stored_twice ≡ Some (exited 6, []) }
+    ensures called { by_choice 0 60 [] examples.called_twice ≡ Some (exited 6, []) }
+    ensures new { new_of examples.calling_twice ≡ examples.called_twice }
+    ensures premises { IsCalling examples.calling_twice }
+    ensures refines { Refines (machine_of examples.called_twice) (machine_of examples.stored_twice) }
+{}
+
 #[test]
 fn examples_come_to_what_c_says() {
     functions_have_frames_of_their_own();
@@ -112,4 +123,5 @@ fn examples_come_to_what_c_says() {
     unset_and_dead_are_carried_and_not_used();
     objects_have_first_values();
     other_causes_are_met_at_their_nodes();
+    calls_of_an_added_function_refine();
 }
