@@ -222,7 +222,9 @@ module _ (change : Called) (calling : IsCalling change) where
       → given_from (new_of change) names i (map change.rename ds) values memory ≡ given_from change.old names i ds values memory
   given_agrees names i [] [] memory = refl
   given_agrees names i [] (value ∷ values) memory = refl
-  given_agrees names i (d ∷ ds) [] memory = refl
+  given_agrees names i (d ∷ ds) [] memory =
+      ap (λ kind. given_from (new_of change) names (suc i) (map change.rename ds) [] ((names i, new_block (layout change.old) kind) ∷ memory)) (same_type change calling d)
+      ∙ given_agrees names (suc i) ds [] ((names i, new_block (layout change.old) (type_declared change.old d)) ∷ memory)
   given_agrees names i (d ∷ ds) (value ∷ values) memory =
       ap (λ kind. given_from (new_of change) names (suc i) (map change.rename ds) values ((names i, record (new_block (layout change.old) kind) { contents = value }) ∷ memory)) (same_type change calling d)
       ∙ given_agrees names (suc i) ds values ((names i, record (new_block (layout change.old) (type_declared change.old d)) { contents = value }) ∷ memory)

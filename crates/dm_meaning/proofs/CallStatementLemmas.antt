@@ -603,7 +603,7 @@ module _ (change : Called) (calling : IsCalling change) where
   conclusion_agrees objects rest others memory r place at (continues loop) (continues other) h result = (refl, ((refl, h), r), refl)
   conclusion_agrees objects rest others memory r place at returns returns h result = (refl, (refl, tt), refl)
   conclusion_agrees objects rest others memory r place at (initialises target kind) (initialises other other_kind) h result =
-      (refl, r, ap (λ t. written memory t (initial_value memory kind result)) h.0 ∙ ap (λ k. written memory other (initial_value memory k result)) h.1)
+      (refl, r, ap (λ t. written memory t (initial_value kind result)) h.0 ∙ ap (λ k. written memory other (initial_value k result)) h.1)
   conclusion_agrees objects rest others memory r place at use_of other_use h result = absurd h
 
   -- ---- loops and ends

@@ -25,15 +25,15 @@ use Rattle.dm_meaning.specs.Extending.{HasAll, Extends, AreAmong, SameUnlessUnde
 
 -- ---- causes that aren't there
 
-nil_left : {A : Type 0} (xs ys : List A) → xs ++ ys ≡ [] → xs ≡ []
+pub nil_left : {A : Type 0} (xs ys : List A) → xs ++ ys ≡ [] → xs ≡ []
 nil_left [] ys e = refl
 nil_left (x ∷ xs) ys e = absurd (cc)
 
-nil_right : {A : Type 0} (xs ys : List A) → xs ++ ys ≡ [] → ys ≡ []
+pub nil_right : {A : Type 0} (xs ys : List A) → xs ++ ys ≡ [] → ys ≡ []
 nil_right [] ys e = e
 nil_right (x ∷ xs) ys e = absurd (cc)
 
-when_false : (cause : Cause) (b : Bool) → when cause b ≡ [] → b ≡ false
+pub when_false : (cause : Cause) (b : Bool) → when cause b ≡ [] → b ≡ false
 when_false cause true e = absurd (cc)
 when_false cause false e = refl
 
@@ -108,7 +108,7 @@ abbrev asks : Layout → List At → CType → At → Option Block → List Caus
 asks layout locks kind at block absent =
     when Conflict (overlaps_any at locks) ++ when Bounds (is_outside (reached_in layout at.path block)) ++ absent ++ when OtherType (is_other kind (reached_in layout at.path block))
 
-access_absence : (layout : Layout) (memory : Memory) (locks : List At) (kind : CType) (at : At) → access_causes layout memory locks kind at ≡ [] → absence_causes memory at.name ≡ []
+pub access_absence : (layout : Layout) (memory : Memory) (locks : List At) (kind : CType) (at : At) → access_causes layout memory locks kind at ≡ [] → absence_causes memory at.name ≡ []
 access_absence layout memory locks kind at e =
     let reached = reached_in layout at.path (look memory at.name) in
     let first = when Conflict (overlaps_any at locks) ++ when Bounds (is_outside reached) in
@@ -181,7 +181,7 @@ look_changed n change (entry ∷ entries) m = by_case (entry.0 == m) refl (look_
         ∙ rest
         ∙ sym (ap (λ b. option_map (λ block. if m == n then change block else block) (if b then Some entry.1 else look_up entries m)) e)
 
-has_changed : (n : ℕ) (change : Block → Block) (memory more : Memory) → HasAll more memory → HasAll (changed_block n change more) (changed_block n change memory)
+pub has_changed : (n : ℕ) (change : Block → Block) (memory more : Memory) → HasAll more memory → HasAll (changed_block n change more) (changed_block n change memory)
 has_changed n change memory more has m block e =
     let found = mapped_some (λ b. if m == n then change b else b) (look_up memory m) block (sym (look_changed n change memory m) ∙ e) in
     look_changed n change more m ∙ ap (option_map (λ b. if m == n then change b else b)) (has m found.0 found.1) ∙ ap Some found.2

@@ -20,3 +20,5 @@ mod CallStateLemmas
 mod StaticLemmas
 mod CallStartLemmas
 mod CallExample
+mod GrowLemmas
+mod ChangeLemmas

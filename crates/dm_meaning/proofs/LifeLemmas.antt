@@ -77,7 +77,7 @@ alive_made program names n new i (d ∷ ds) memory a = alive_made program names 
 alive_given : (program : Program) (names : ℕ → ℕ) (n : ℕ) → ((i : ℕ) → names i ≡ n → ⊥) → (i : ℕ) (ds : List ℕ) (values : List Value) (memory : Memory) → IsAlive memory n → IsAlive (given_from program names i ds values memory) n
 alive_given program names n new i [] [] memory a = a
 alive_given program names n new i [] (value ∷ values) memory a = a
-alive_given program names n new i (d ∷ ds) [] memory a = a
+alive_given program names n new i (d ∷ ds) [] memory a = alive_given program names n new (suc i) ds [] _ (alive_added (names i) _ memory n (new i) a)
 alive_given program names n new i (d ∷ ds) (value ∷ values) memory a = alive_given program names n new (suc i) ds values _ (alive_added (names i) _ memory n (new i) a)
 
 -- names that were never used are those of no object

@@ -74,12 +74,12 @@ none_with : (operand : Operand) (rest : Option (List Operand)) → rest ≡ None
 none_with operand (Some operands) e = absurd (some_is_none _ e)
 none_with operand None e = refl
 
-none_first : (opened : Bool) (first : Run) (rest : Option (List Operand)) → IsTrue opened → IsToDo first → first_result opened first rest ≡ None
+pub none_first : (opened : Bool) (first : Run) (rest : Option (List Operand)) → IsTrue opened → IsToDo first → first_result opened first rest ≡ None
 none_first true (done kind result locks) rest o h = absurd h
 none_first true (to_do doing kind place parts) rest o h = refl
 none_first false first rest o h = absurd (cc)
 
-none_later : (opened : Bool) (first : Run) (rest : Option (List Operand)) → rest ≡ None → first_result opened first rest ≡ None
+pub none_later : (opened : Bool) (first : Run) (rest : Option (List Operand)) → rest ≡ None → first_result opened first rest ≡ None
 none_later true (done kind result locks) rest e = none_with _ rest e
 none_later true (to_do doing kind place parts) rest e = refl
 none_later false first rest e = e

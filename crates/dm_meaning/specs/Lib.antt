@@ -19,6 +19,7 @@ pub mod Extending
 pub mod Lifetimes
 pub mod Replaced
 pub mod ReplacedUnits
+pub mod MoreObjects
 pub mod Called
 pub mod Choices
 pub mod Examples

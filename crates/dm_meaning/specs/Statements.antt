@@ -13,9 +13,9 @@ use Rattle.dm_tree.specs.declared.unit.Sort.TheVariants.{Object}
 use Rattle.dm_tree.specs.Trees.{Label, block, declare, full, if_statement, switch, case, default, while_loop, do_loop, for_loop, break, continue, return, Tree, node, more_trees, listed, spans_of, Declarator, Initialiser, Initialisers, one_expression, in_braces, no_items, more_items, expressions_in}
 use Rattle.dm_tree.specs.Units.{Declaration}
 use Rattle.dm_meaning.specs.declared.cause.Cause.{Cause}
-use Rattle.dm_meaning.specs.Values.{numbered, At, Value, integer_value, parts, unset, values, parts_in}
+use Rattle.dm_meaning.specs.Values.{Name, numbered, literal_of, At, Value, integer_value, parts, unset, values, parts_in}
 use Rattle.dm_meaning.specs.Objects.{Layout, inner_type, all_unset, all_zero, zero_of}
-use Rattle.dm_meaning.specs.Memory.{Memory, new_block, contents_at, written, killed}
+use Rattle.dm_meaning.specs.Memory.{Memory, new_block, literal_block, written, killed}
 use Rattle.dm_meaning.specs.Programs.{Program, layout, declaration_of, constant_of}
 use Rattle.dm_meaning.specs.Operations.{Result, of_value, designates, Objects, object_named, whole, part_of, Truth, holds, untold, truth_of}
 use Rattle.dm_meaning.specs.Running.{begun}
@@ -267,10 +267,15 @@ abbrev pub array_of : CType → List Value → Value
 array_of (array element (Some count)) characters = text_of (bare element) count characters
 array_of kind characters = unset
 
+-- the characters of a string literal; no typed initialiser designates another object
+abbrev pub characters_at : Name → List Value
+characters_at (literal_of bytes unit) = parts_in (literal_block bytes).contents
+characters_at name = []
+
 -- the value that an initialiser's result gives: that of the expression, or the array of a string literal
-abbrev pub initial_value : Memory → CType → Result → Value
-initial_value memory kind (of_value value) = value
-initial_value memory kind (designates at) = array_of kind (parts_in (contents_at memory at))
+abbrev pub initial_value : CType → Result → Value
+initial_value kind (of_value value) = value
+initial_value kind (designates at) = array_of kind (characters_at at.name)
 
 -- ---- switch (6.8.4.2)
 
@@ -327,7 +332,7 @@ concluded program objects rest memory place (repeats loop) result =
     by_test place (truth_of memory (value_of result)) (λ truth. onward objects (if truth then begins loop.body ∷ again objects loop ∷ rest else rest) memory)
 concluded program objects rest memory place (continues loop) result = onward objects (tests objects loop ∷ rest) memory
 concluded program objects rest memory place returns result = onward objects (hands_back (value_of result) ∷ []) memory
-concluded program objects rest memory place (initialises at kind) result = onward objects rest (written memory at (initial_value memory kind result))
+concluded program objects rest memory place (initialises at kind) result = onward objects rest (written memory at (initial_value kind result))
 
 -- ---- what takes no step
 

@@ -22,11 +22,13 @@ use Rattle.dm_meaning.specs.Statements.{Turned, onward, refused, place_of, decla
 
 -- ---- the frame of a call (6.5.2.2, 6.9.1)
 
--- new objects for the parameters, with the values of the arguments
+-- new objects for the parameters, with the values of the arguments; where there are fewer of these, as in no typed call, the others are unset
 abbrev pub given_from : Program → (ℕ → ℕ) → ℕ → List ℕ → List Value → Memory → Memory
+given_from program names i [] values memory = memory
+given_from program names i (d ∷ ds) [] memory =
+    given_from program names (suc i) ds [] ((names i, new_block (layout program) (type_declared program d)) ∷ memory)
 given_from program names i (d ∷ ds) (value ∷ values) memory =
     given_from program names (suc i) ds values ((names i, record (new_block (layout program) (type_declared program d)) { contents = value }) ∷ memory)
-given_from program names i ds values memory = memory
 
 -- the frame of a function: its parameters, and the objects of its body
 abbrev pub opened_frame : Program → (ℕ → ℕ) → Definition → Frame
