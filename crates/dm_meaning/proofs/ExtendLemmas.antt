@@ -89,7 +89,7 @@ place_same (designates at) next other h = h at
 
 -- ---- memory
 
-same_object : (memory more : Memory) → HasAll more memory → (name : Name) → absence_causes memory name ≡ [] → look more name ≡ look memory name
+pub same_object : (memory more : Memory) → HasAll more memory → (name : Name) → absence_causes memory name ≡ [] → look more name ≡ look memory name
 same_object memory more has (numbered n) e = present (look_up memory n) refl (when_false Life (not (lives (look_up memory n))) e)
   where
     present : (o : Option Block) → look_up memory n ≡ o → not (lives (look_up memory n)) ≡ false → look_up more n ≡ look_up memory n
@@ -98,7 +98,7 @@ same_object memory more has (numbered n) e = present (look_up memory n) refl (wh
 same_object memory more has (literal_of bytes unit) e = refl
 same_object memory more has (elsewhere identifier) e = absurd (cc)
 
-same_absence : (memory more : Memory) (name : Name) → look more name ≡ look memory name → absence_causes more name ≡ absence_causes memory name
+pub same_absence : (memory more : Memory) (name : Name) → look more name ≡ look memory name → absence_causes more name ≡ absence_causes memory name
 same_absence memory more (numbered n) e = ap (λ o. when Life (not (lives o))) e
 same_absence memory more (literal_of bytes unit) e = refl
 same_absence memory more (elsewhere identifier) e = refl

@@ -22,3 +22,5 @@ mod CallStartLemmas
 mod CallExample
 mod GrowLemmas
 mod ChangeLemmas
+mod SpareRunLemmas
+mod SpareStateLemmas

@@ -1,11 +1,12 @@
 ghost use Rattle.std.specs.Prelude.{◌≡◌, ◌⊎◌, ℕ, List};
 ghost use Rattle.dm_meaning.specs.Among.{IsAmong};
 ghost use Rattle.dm_meaning.specs.Machines.{going};
+ghost use Rattle.dm_meaning.specs.MoreObjects.{IsSettled, Spared, with_memory};
 ghost use Rattle.dm_meaning.specs.Refinement.{Refines};
 ghost use Rattle.dm_meaning.specs.Replaced.{Replaced, new_of, IsReplacement};
 ghost use Rattle.dm_meaning.specs.Called as called;
 ghost use Rattle.dm_meaning.specs.Called.{Called, IsCalling};
-ghost use Rattle.dm_meaning.specs.Simulation.{IsSimulation};
+ghost use Rattle.dm_meaning.specs.Simulation.{IsSimulation, GoesWrong};
 ghost use Rattle.dm_meaning.specs.Values.{At, Value};
 ghost use Rattle.dm_meaning.specs.Programs.{Program};
 ghost use Rattle.dm_tree.specs.Trees.{Label};
@@ -20,7 +21,7 @@ ghost use Rattle.dm_meaning.specs.Primitives.{Prim};
 ghost use Rattle.dm_meaning.specs.Lifetimes.{IsAlive, numbers_of};
 ghost use Rattle.dm_meaning.specs.States.{State};
 ghost use Rattle.dm_meaning.specs.Steps.{Step};
-ghost use Rattle.dm_meaning.specs.Units.{machine_of, program_of};
+ghost use Rattle.dm_meaning.specs.Units.{Begins, machine_of, program_of};
 ghost use Rattle.dm_meaning.specs.ReplacedUnits.{IsUnitReplacement};
 ghost use Rattle.dm_tree.specs.Units.{TypedUnit};
 ghost use Rattle.dm_type.specs.Tables.{Table};
@@ -116,4 +117,16 @@ pub fn extended_answers()
 /// no object, its outermost operator is neither `?:` nor a comma, and the values of `case` labels stay the same.
 pub fn called_refines()
     ensures { (change : Called) → IsCalling change → Refines (machine_of (called.new_of change)) (machine_of change.old) }
+{}
+
+/// A step from a state with more objects in memory, which the state doesn't name, is a step from the state without them, and
+/// leaves them as they were, unless the program can go wrong without them.
+pub fn spared_steps()
+    ensures { (program : Program) (state later : State) (more : Memory) → IsSettled state → HasAll more state.world.memory
+        → Step program (with_memory state more) later → GoesWrong (machine_of program) state ⊎ Spared program state later more }
+{}
+
+/// Whatever a state names at the beginning of a run has been made.
+pub fn settled_beginnings()
+    ensures { (program : Program) (input : List ℕ) (state : State) → Begins program input state → IsSettled state }
 {}
