@@ -150,45 +150,44 @@ objects_made program names i (d ∷ ds) memory objects h =
 
 -- ---- parameters
 
+-- the objects that parameters name have been made
+pub given_made : (program : Program) (names : ℕ → ℕ) (i : ℕ) (ds : List ℕ) (values : List Value) (memory : Memory) (objects : Objects) → ObjectsMade memory objects
+    → ObjectsMade (given_from program names i ds values memory) (named_from names i ds objects)
+given_made program names i [] values memory objects h = h
+given_made program names i (d ∷ ds) [] memory objects h =
+    let block = new_block (layout program) (type_declared program d) in
+    given_made program names (suc i) ds [] ((names i, block) ∷ memory) ((d, names i) ∷ objects) (one_made d (names i) block memory objects h)
+given_made program names i (d ∷ ds) (value ∷ values) memory objects h =
+    let block = record (new_block (layout program) (type_declared program d)) { contents = value } in
+    given_made program names (suc i) ds values ((names i, block) ∷ memory) ((d, names i) ∷ objects) (one_made d (names i) block memory objects h)
+
 -- two memories after the parameters were made, with names to spare behind them
-pub record Given (program : Program) (names : ℕ → ℕ) (i : ℕ) (ds : List ℕ) (values : List Value) (more memory : Memory) (objects : Objects) : Type 0 where
+pub record Given (program : Program) (names : ℕ → ℕ) (i : ℕ) (ds : List ℕ) (values : List Value) (more memory : Memory) : Type 0 where
   pub grown : Grown more memory (given_from program names i ds values more) (given_from program names i ds values memory)
   pub fresh : FreshFrom names (i + length ds) (given_from program names i ds values more)
-  pub made : ObjectsMade (given_from program names i ds values memory) (named_from names i ds objects)
 
-given_one : (program : Program) (names : ℕ → ℕ) (i d : ℕ) (block : Block) (ds : List ℕ) (values : List Value) (more memory : Memory) (objects : Objects)
-    → Grown more memory ((names i, block) ∷ more) ((names i, block) ∷ memory)
-    → Given program names (suc i) ds values ((names i, block) ∷ more) ((names i, block) ∷ memory) ((d, names i) ∷ objects)
-    → (Grown more memory (given_from program names (suc i) ds values ((names i, block) ∷ more)) (given_from program names (suc i) ds values ((names i, block) ∷ memory)))
-    × FreshFrom names (i + length (d ∷ ds)) (given_from program names (suc i) ds values ((names i, block) ∷ more))
-    × ObjectsMade (given_from program names (suc i) ds values ((names i, block) ∷ memory)) (named_from names (suc i) ds ((d, names i) ∷ objects))
-given_one program names i d block ds values more memory objects first rest = (
-  grown_join more memory ((names i, block) ∷ more) ((names i, block) ∷ memory) _ _ first rest.grown,
-  λ k later. rest.fresh k (omega (arith, later)),
-  rest.made,
-)
-
-pub given_all : (program : Program) (names : ℕ → ℕ) (i : ℕ) (ds : List ℕ) (values : List Value) (more memory : Memory) (objects : Objects)
-    → AreApart names → FreshFrom names i more → HasAll more memory → ObjectsMade memory objects → Given program names i ds values more memory objects
-given_all program names i [] values more memory objects apart fresh has made = record {
+pub given_all : (program : Program) (names : ℕ → ℕ) (i : ℕ) (ds : List ℕ) (values : List Value) (more memory : Memory)
+    → AreApart names → FreshFrom names i more → HasAll more memory → Given program names i ds values more memory
+given_all program names i [] values more memory apart fresh has = record {
   grown = grown_same more memory has;
   fresh = λ k later. fresh k (omega (arith, later));
-  made = made;
 }
-given_all program names i (d ∷ ds) [] more memory objects apart fresh has made =
+given_all program names i (d ∷ ds) [] more memory apart fresh has =
     let block = new_block (layout program) (type_declared program d) in
     let first = grown_added (names i) block more memory has (fresh i (omega arith)) in
-    let all = given_one program names i d block ds [] more memory objects first
-    (given_all program names (suc i) ds [] ((names i, block) ∷ more) ((names i, block) ∷ memory) ((d, names i) ∷ objects) apart (fresh_added names i block more apart fresh) first.has
-    (one_made d (names i) block memory objects made)) in
-    record { grown = all.0; fresh = all.1; made = all.2 }
-given_all program names i (d ∷ ds) (value ∷ values) more memory objects apart fresh has made =
+    let rest = given_all program names (suc i) ds [] ((names i, block) ∷ more) ((names i, block) ∷ memory) apart (fresh_added names i block more apart fresh) first.has in
+    record {
+      grown = grown_join more memory ((names i, block) ∷ more) ((names i, block) ∷ memory) _ _ first rest.grown;
+      fresh = λ k later. rest.fresh k (omega (arith, later));
+    }
+given_all program names i (d ∷ ds) (value ∷ values) more memory apart fresh has =
     let block = record (new_block (layout program) (type_declared program d)) { contents = value } in
     let first = grown_added (names i) block more memory has (fresh i (omega arith)) in
-    let all = given_one program names i d block ds values more memory objects first
-    (given_all program names (suc i) ds values ((names i, block) ∷ more) ((names i, block) ∷ memory) ((d, names i) ∷ objects) apart (fresh_added names i block more apart fresh) first.has
-    (one_made d (names i) block memory objects made)) in
-    record { grown = all.0; fresh = all.1; made = all.2 }
+    let rest = given_all program names (suc i) ds values ((names i, block) ∷ more) ((names i, block) ∷ memory) apart (fresh_added names i block more apart fresh) first.has in
+    record {
+      grown = grown_join more memory ((names i, block) ∷ more) ((names i, block) ∷ memory) _ _ first rest.grown;
+      fresh = λ k later. rest.fresh k (omega (arith, later));
+    }
 
 -- fresh names are apart, and fresh from the first on
 pub fresh_from : (names : ℕ → ℕ) (memory : Memory) → IsFresh names memory → FreshFrom names 0 memory

@@ -43,7 +43,7 @@ locks_made_joined memory a b h k lock l = by_either (among_either lock a b l)
     by_either (inl x) = h lock x
     by_either (inr y) = k lock y
 
-no_locks_made : (memory : Memory) → LocksMade memory []
+pub no_locks_made : (memory : Memory) → LocksMade memory []
 no_locks_made memory lock l = absurd l
 
 -- ---- truth

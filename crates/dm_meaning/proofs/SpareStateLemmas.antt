@@ -26,7 +26,7 @@ use Rattle.dm_meaning.specs.Lifetimes.{numbers_of}
 use Rattle.dm_meaning.specs.Replaced.{Zipped}
 use Rattle.dm_meaning.specs.MoreObjects.{IsMade, IsMadeName, ObjectsMade, LocksMade, UseSettled, TaskSettled, TasksSettled, FrameSettled, unfilled, CallerSettled, CallersSettled, IsSettled, IsSpare, Grown, with_memory, Spared}
 use Rattle.dm_meaning.proofs.OptionLemmas.{none_is_some, some_is_some}
-use Rattle.dm_meaning.proofs.GrowLemmas.{equal_of, grown_same, grown_join, grown_written, grown_killed, FreshFrom, AreApart, grown_made, objects_made, Given, given_all, fresh_from, since_made}
+use Rattle.dm_meaning.proofs.GrowLemmas.{equal_of, grown_same, grown_join, grown_written, grown_killed, FreshFrom, AreApart, grown_made, objects_made, given_made, given_all, fresh_from, since_made}
 use Rattle.dm_meaning.proofs.SpareRunLemmas.{name_made_later, locks_made_later, locks_made_joined, no_locks_made, TruthSpared, truth_spared, RunSpared, hole_locks, moves_spared}
 use Rattle.dm_meaning.proofs.StateLemmas.{from_steps}
 
@@ -113,7 +113,7 @@ start_settled memory None = tt
 start_settled memory (Some (node label kind spans trees)) = start_by_label memory (node label kind spans trees) label
 
 tested_settled : (memory : Memory) (objects : Objects) (loop : Loop) (rest : List Task) (condition : Option Tree) → ObjectsMade memory objects → TasksSettled memory rest → TasksSettled memory (tested objects loop rest condition)
-tested_settled memory objects loop rest None h k = (tt, h, k)
+tested_settled memory objects loop rest None h k = (tt, (h, k))
 tested_settled memory objects loop rest (Some tree) h k = ((begun_locks memory tree, tt), k)
 
 continued_settled : (memory : Memory) (objects : Objects) (loop : Loop) (rest : List Task) (after : Option Tree) → ObjectsMade memory objects → TasksSettled memory rest → TasksSettled memory (continued objects loop rest after)
@@ -140,11 +140,11 @@ part_tasks_settled layout memory at kind n (more_items item items) expressions h
 
 named_among : (objects : Objects) (d n : ℕ) → object_named objects d ≡ Some n → IsAmong n (numbers_of objects)
 named_among [] d n e = absurd (none_is_some n e)
-named_among (entry ∷ entries) d n e = by_case (entry.0 == d) e
+named_among (entry ∷ entries) d n e = by_case (entry.0 == d) e (named_among entries d n)
   where
-    by_case : (b : Bool) → (if b then Some entry.1 else object_named entries d) ≡ Some n → IsAmong n (numbers_of (entry ∷ entries))
-    by_case true f = inl (sym (some_is_some entry.1 n f))
-    by_case false f = inr (named_among entries d n f)
+    by_case : (b : Bool) → (if b then Some entry.1 else object_named entries d) ≡ Some n → (object_named entries d ≡ Some n → IsAmong n (numbers_of entries)) → IsAmong n (numbers_of (entry ∷ entries))
+    by_case true f later = inl (sym (some_is_some entry.1 n f))
+    by_case false f later = inr (later f)
 
 mutual
   -- the locks of a tree don't depend on a value without locks in it
@@ -248,7 +248,7 @@ module _ (program : Program) (names : ℕ → ℕ) (objects : Objects) (memory m
     begin_spared while_loop trees =
         first_tree_spared trees _ _ _ _ (λ x xs. one_tree_spared xs _ _ _ _ (λ y. stays (tests objects (loop_with (Some x) None y) ∷ ends objects ∷ rest) (made, ends_here)) otherwise) otherwise
     begin_spared do_loop trees =
-        first_tree_spared trees _ _ _ _ (λ x xs. one_tree_spared xs _ _ _ _ (λ y. stays (begins x ∷ again objects (loop_with (Some y) None x) ∷ ends objects ∷ rest) (tt, made, ends_here)) otherwise) otherwise
+        first_tree_spared trees _ _ _ _ (λ x xs. one_tree_spared xs _ _ _ _ (λ y. stays (begins x ∷ again objects (loop_with (Some y) None x) ∷ ends objects ∷ rest) (tt, (made, ends_here))) otherwise) otherwise
     begin_spared (for_loop first second third) trees =
         if_tree_spared first trees _ _ _ _
         (λ x xs. if_tree_spared second xs _ _ _ _
@@ -309,7 +309,7 @@ module _ (program : Program) (names : ℕ → ℕ) (objects : Objects) (memory m
     begins_settled false first (Some tree) = (tt, settled)
 
     repeats_settled : (b : Bool) (loop : Loop) → TasksSettled memory (if b then begins loop.body ∷ again objects loop ∷ rest else rest)
-    repeats_settled true loop = (tt, made, settled)
+    repeats_settled true loop = (tt, (made, settled))
     repeats_settled false loop = settled
 
     conclusion_spared : (place : Place) (use_of : Use) (result : Result) → UseSettled memory use_of → Same (concluded program objects rest more place use_of result) (concluded program objects rest memory place use_of result)
@@ -382,6 +382,17 @@ fresh_below names more memory has fresh = (fresh.0, λ i. absent i (look_up memo
     absent i None e = e
     absent i (Some block) e = absurd (none_is_some block (sym (fresh.1 i) ∙ has (names i) block e))
 
+-- whatever a frame names when it is opened has been made
+pub opened_settled : (program : Program) (names : ℕ → ℕ) (definition : Definition) (arguments : List Value) (memory : Memory)
+    → FrameSettled (opened_memory program names definition arguments memory) (opened_frame program names definition)
+opened_settled program names definition arguments memory =
+    let ps = definition.parameters in
+    let items = parts_of definition.body in (
+      objects_made program names (length ps) (declared_in program items) (given_from program names 0 ps arguments memory) (named_from names 0 ps [])
+          (given_made program names 0 ps arguments memory [] (λ n k. absurd k)),
+      items_settled (opened_memory program names definition arguments memory) items,
+    )
+
 module _ (program : Program) (names : ℕ → ℕ) (state : State) (more : Memory) (settled : IsSettled state) (has : HasAll more state.world.memory) (fresh : IsFresh names more) where
   abbrev wide : State
   wide = with_memory state more
@@ -413,7 +424,7 @@ module _ (program : Program) (names : ℕ → ℕ) (state : State) (more : Memor
   unchanged other e h = inr (more, refl, h, subst (λ (w : World). Grown more memory more w.memory) (sym e) (grown_same more memory has))
 
   handing : (value : Value) → IsSettled (record state { frame = record state.frame { tasks = hands_back value ∷ [] } })
-  handing value = record { frame = (settled.frame.0, tt, tt); callers = settled.callers }
+  handing value = record { frame = (settled.frame.0, (tt, tt)); callers = settled.callers }
 
   closed_spared : (a b : Bool) → StateSpared
       (if a then record wide { frame = record state.frame { tasks = hands_back (integer_value Int (pos 0)) ∷ [] } }
@@ -439,11 +450,13 @@ module _ (program : Program) (names : ℕ → ℕ) (state : State) (more : Memor
           frame = (
             objects_later memory later grown.made caller.frame.objects h.0.0.0,
             (
-              locks_made_later memory later grown.made (locks_in (filled_in caller.hole (done caller.kind (of_value value) [])))
-                  (subst (LocksMade memory) (sym (filled_locks caller.hole caller.kind (of_value value))) h.0.1),
-              use_later memory later grown.made caller.use_of h.0.2,
+              (
+                locks_made_later memory later grown.made (locks_in (filled_in caller.hole (done caller.kind (of_value value) [])))
+                    (subst (LocksMade memory) (sym (filled_locks caller.hole caller.kind (of_value value))) h.0.1),
+                use_later memory later grown.made caller.use_of h.0.2,
+              ),
+              tasks_later memory later grown.made caller.frame.tasks h.0.0.1,
             ),
-            tasks_later memory later grown.made caller.frame.tasks h.0.0.1,
           );
           callers = callers_later memory later grown.made callers h.1;
         },
@@ -457,7 +470,7 @@ module _ (program : Program) (names : ℕ → ℕ) (state : State) (more : Memor
     opened_spared kind hole arguments h (Some definition) =
         let ps = definition.parameters in
         let items = parts_of definition.body in
-        let given = given_all program names 0 ps arguments more memory [] fresh.0 (fresh_from names more fresh) has (λ n k. absurd k) in
+        let given = given_all program names 0 ps arguments more memory fresh.0 (fresh_from names more fresh) has in
         let wide_given = given_from program names 0 ps arguments more in
         let narrow_given = given_from program names 0 ps arguments memory in
         let made = grown_made program names (length ps) (declared_in program items) wide_given narrow_given fresh.0 (λ k l. given.fresh k (omega (arith, l))) given.grown.has in
@@ -467,10 +480,7 @@ module _ (program : Program) (names : ℕ → ℕ) (state : State) (more : Memor
           opened_memory program names definition arguments more,
           refl,
           record {
-            frame = (
-              objects_made program names (length ps) (declared_in program items) narrow_given (named_from names 0 ps []) given.made,
-              items_settled later items,
-            );
+            frame = opened_settled program names definition arguments memory;
             callers = (
               (
                 (objects_later memory later grown.made state.frame.objects settled.frame.0, tasks_later memory later grown.made rest rest_settled),
@@ -495,8 +505,7 @@ module _ (program : Program) (names : ℕ → ℕ) (state : State) (more : Memor
           record {
             frame = (
               objects_later memory later.memory h.0.0.made state.frame.objects settled.frame.0,
-              (h.2, use_later memory later.memory h.0.0.made use_of use_settled),
-              tasks_later memory later.memory h.0.0.made rest rest_settled,
+              ((h.2, use_later memory later.memory h.0.0.made use_of use_settled), tasks_later memory later.memory h.0.0.made rest rest_settled),
             );
             callers = callers_later memory later.memory h.0.0.made state.callers settled.callers;
           },
@@ -532,18 +541,29 @@ module _ (program : Program) (names : ℕ → ℕ) (state : State) (more : Memor
   tasks_spared : (tasks : List Task) → TasksSettled memory tasks → Zipped StateSpared (task_steps program names wide tasks) (task_steps program names state tasks)
   tasks_spared [] h = (closed_spared (is_main (declaration_of program state.frame.function)) (gives_nothing (type_declared program state.frame.function)), tt)
   tasks_spared (begins tree ∷ rest) h =
-      one_spared _ _ (statement_spared program names state.frame.objects memory more has fresh.0 (fresh_from names more fresh) settled.frame.0 rest h.1 (unlabelled tree))
+      one_spared (begin_statement program names state.frame.objects rest more tree) (begin_statement program names state.frame.objects rest memory tree)
+      (statement_spared program names state.frame.objects memory more has fresh.0 (fresh_from names more fresh) settled.frame.0 rest h.1 (unlabelled tree))
   tasks_spared (declares declarator trees ∷ rest) h =
-      one_spared _ _ (declarator_spared program names state.frame.objects memory more has fresh.0 (fresh_from names more fresh) settled.frame.0 rest h.1 declarator trees)
+      one_spared (begin_declarator program state.frame.objects rest more declarator trees) (begin_declarator program state.frame.objects rest memory declarator trees)
+      (declarator_spared program names state.frame.objects memory more has fresh.0 (fresh_from names more fresh) settled.frame.0 rest h.1 declarator trees)
   tasks_spared (initials at kind initialiser trees ∷ rest) h =
-      one_spared _ _ (initialiser_spared program names state.frame.objects memory more has fresh.0 (fresh_from names more fresh) settled.frame.0 rest h.1 at kind initialiser trees h.0)
+      one_spared (begin_initialiser program state.frame.objects rest more at kind initialiser trees) (begin_initialiser program state.frame.objects rest memory at kind initialiser trees)
+      (initialiser_spared program names state.frame.objects memory more has fresh.0 (fresh_from names more fresh) settled.frame.0 rest h.1 at kind initialiser trees h.0)
   tasks_spared (evaluates place run use_of ∷ rest) h = expression_spared rest h.1 place use_of h.0.1 run h.0.0
   tasks_spared (again saved loop ∷ rest) h = tt
   tasks_spared (tests saved loop ∷ rest) h = tt
-  tasks_spared (ends saved ∷ rest) h = one_spared _ _ (ended_spared program names state.frame.objects memory more has fresh.0 (fresh_from names more fresh) settled.frame.0 saved rest h.0 h.1)
-  tasks_spared (ends_switch saved ∷ rest) h = one_spared _ _ (ended_spared program names state.frame.objects memory more has fresh.0 (fresh_from names more fresh) settled.frame.0 saved rest h.0 h.1)
-  tasks_spared (leaves ∷ rest) h = one_spared _ _ (break_spared program names state.frame.objects memory more has fresh.0 (fresh_from names more fresh) settled.frame.0 rest h.1)
-  tasks_spared (skips ∷ rest) h = one_spared _ _ (continue_spared program names state.frame.objects memory more has fresh.0 (fresh_from names more fresh) settled.frame.0 rest h.1)
+  tasks_spared (ends saved ∷ rest) h =
+      one_spared (ended saved state.frame.objects rest more) (ended saved state.frame.objects rest memory)
+      (ended_spared program names state.frame.objects memory more has fresh.0 (fresh_from names more fresh) settled.frame.0 saved rest h.0 h.1)
+  tasks_spared (ends_switch saved ∷ rest) h =
+      one_spared (ended saved state.frame.objects rest more) (ended saved state.frame.objects rest memory)
+      (ended_spared program names state.frame.objects memory more has fresh.0 (fresh_from names more fresh) settled.frame.0 saved rest h.0 h.1)
+  tasks_spared (leaves ∷ rest) h =
+      one_spared (after_break state.frame.objects more rest) (after_break state.frame.objects memory rest)
+      (break_spared program names state.frame.objects memory more has fresh.0 (fresh_from names more fresh) settled.frame.0 rest h.1)
+  tasks_spared (skips ∷ rest) h =
+      one_spared (after_continue state.frame.objects more rest) (after_continue state.frame.objects memory rest)
+      (continue_spared program names state.frame.objects memory more has fresh.0 (fresh_from names more fresh) settled.frame.0 rest h.1)
   tasks_spared (hands_back value ∷ rest) h = (back_spared value state.callers settled.callers, tt)
 
   steps_again : (standing : Standing) (states : List State) (x : State) → standing ≡ going → IsAmong x states → IsAmong x (steps_from standing states)
@@ -571,14 +591,16 @@ spared_steps program state later more settled has step = next_spared program ste
 
 -- ---- beginnings
 
--- Whatever a frame names when it is opened has been made.
-pub opened_settled : (program : Program) (names : ℕ → ℕ) (definition : Definition) (arguments : List Value) (memory : Memory) → AreApart names → FreshFrom names 0 memory
-    → FrameSettled (opened_memory program names definition arguments memory) (opened_frame program names definition)
-opened_settled program names definition arguments memory apart fresh =
-    let ps = definition.parameters in
-    let items = parts_of definition.body in
-    let given = given_all program names 0 ps arguments memory memory [] apart fresh (λ n block e. e) (λ n k. absurd k) in (
-      objects_made program names (length ps) (declared_in program items) (given_from program names 0 ps arguments memory) (named_from names 0 ps []) given.made,
-      items_settled (opened_memory program names definition arguments memory) items,
-    )
-
+-- Whatever a state names at the beginning of a run has been made.
+pub settled_beginnings : (program : Program) (input : List ℕ) (state : State) → Begins program input state → IsSettled state
+settled_beginnings program input state (names, fresh, main, is_main, e) = subst IsSettled (sym e) (start_settled_here names main)
+  where
+    start_settled_here : (names : ℕ → ℕ) (main : Definition) → IsSettled (start names program main input)
+    start_settled_here names main =
+        let argv = length program.statics in
+        let statics = named_from names 0 (static_numbers program.statics) [] in
+        record {
+          frame = opened_settled program (λ i. names (suc argv + i)) main (arguments_for (names argv) main.parameters)
+              ((names argv, record (new_block (layout program) argv_kind) { contents = all_zero (layout program) argv_kind }) ∷ statics_memory program names statics);
+          callers = tt;
+        }

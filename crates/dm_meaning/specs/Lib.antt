@@ -21,5 +21,6 @@ pub mod Replaced
 pub mod ReplacedUnits
 pub mod MoreObjects
 pub mod Called
+pub mod CalledWith
 pub mod Choices
 pub mod Examples
