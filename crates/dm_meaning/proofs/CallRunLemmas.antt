@@ -104,16 +104,16 @@ lifted_agrees rename R S R' S' f g f' g' p q (exits status) (exits other) h = h
 
 -- ---- what renaming keeps
 
-open_of_relabelled : (rename : ℕ → ℕ) (label : Label) → open_of (relabelled rename label) ≡ open_of label
+pub open_of_relabelled : (rename : ℕ → ℕ) (label : Label) → open_of (relabelled rename label) ≡ open_of label
 open_of_relabelled rename (enumerator d) = refl
 open_of_relabelled rename label = refl
 
-open_parts_redone : (rename : ℕ → ℕ) (doing : Doing) → open_parts (redone rename doing) ≡ open_parts doing
+pub open_parts_redone : (rename : ℕ → ℕ) (doing : Doing) → open_parts (redone rename doing) ≡ open_parts doing
 open_parts_redone rename (evaluates label) = open_of_relabelled rename label
 open_parts_redone rename gives_truth = refl
 open_parts_redone rename gives_value = refl
 
-function_in_redone : (rename : ℕ → ℕ) (doing : Doing) → function_in (redone rename doing) ≡ option_map rename (function_in doing)
+pub function_in_redone : (rename : ℕ → ℕ) (doing : Doing) → function_in (redone rename doing) ≡ option_map rename (function_in doing)
 function_in_redone rename (evaluates (function d)) = refl
 function_in_redone rename (evaluates label) = refl
 function_in_redone rename gives_truth = refl
@@ -132,7 +132,7 @@ differ_is m n e = by_bool (m == n) refl
     by_bool true f = absurd (e (equal_of true f refl))
     by_bool false f = refl
 
-if_agrees : {X Y : Type 0} (R : X → Y → Type 0) (b : Bool) (x x' : Option X) (y y' : Option Y) → OptionAgrees R x y → OptionAgrees R x' y' → OptionAgrees R (if b then x else x') (if b then y else y')
+pub if_agrees : {X Y : Type 0} (R : X → Y → Type 0) (b : Bool) (x x' : Option X) (y y' : Option Y) → OptionAgrees R x y → OptionAgrees R x' y' → OptionAgrees R (if b then x else x') (if b then y else y')
 if_agrees R true x x' y y' h k = h
 if_agrees R false x x' y y' h k = k
 
@@ -205,7 +205,7 @@ mutual
   all_begun_agree change no_trees (more_trees other others) h = absurd h
   all_begun_agree change (more_trees first rest) no_trees h = absurd h
 
-stands_inside : (label : Label) → is_object label ≡ false → may_stand true (evaluates label) ≡ true
+pub stands_inside : (label : Label) → is_object label ≡ false → may_stand true (evaluates label) ≡ true
 stands_inside (object d) e = absurd (cc)
 stands_inside label e = refl
 
@@ -285,7 +285,7 @@ tree_not_function : (tree : Tree) → root_gives_value (label_of tree) ≡ true 
 tree_not_function (node (function d) kind spans parts) h = absurd (cc)
 tree_not_function (node label kind spans parts) h = refl
 
-relabelled_gives : (rename : ℕ → ℕ) (label : Label) → root_gives_value (relabelled rename label) ≡ root_gives_value label
+pub relabelled_gives : (rename : ℕ → ℕ) (label : Label) → root_gives_value (relabelled rename label) ≡ root_gives_value label
 relabelled_gives rename (enumerator d) = refl
 relabelled_gives rename label = refl
 
@@ -353,19 +353,19 @@ answered_agrees change inside world kind place at (Some (answers value input out
 answered_agrees change inside world kind place at (Some (stops status)) = refl
 answered_agrees change inside world kind place at (Some (refuses cause)) = tt
 
-name_fact : Option (List ℕ × Sort × CType) → List ℕ
+pub name_fact : Option (List ℕ × Sort × CType) → List ℕ
 name_fact None = []
 name_fact (Some facts) = facts.0
 
-kind_fact : Option (List ℕ × Sort × CType) → CType
+pub kind_fact : Option (List ℕ × Sort × CType) → CType
 kind_fact None = void
 kind_fact (Some facts) = facts.2
 
-stands_always : (inside : Bool) → may_stand inside gives_value ≡ true
+pub stands_always : (inside : Bool) → may_stand inside gives_value ≡ true
 stands_always true = refl
 stands_always false = refl
 
-truth_stands : (inside : Bool) → may_stand inside gives_truth ≡ true
+pub truth_stands : (inside : Bool) → may_stand inside gives_truth ≡ true
 truth_stands true = refl
 truth_stands false = refl
 

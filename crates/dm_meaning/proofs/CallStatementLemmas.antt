@@ -70,20 +70,20 @@ listed_agrees change (more_trees first rest) (more_trees other others) h = (h.0,
 
 -- ---- facts of declarations
 
-automatic_fact : Option (List ℕ × Sort × CType) → Bool
+pub automatic_fact : Option (List ℕ × Sort × CType) → Bool
 automatic_fact None = false
 automatic_fact (Some facts) = is_automatic_sort facts.1
 
-automatic_is : (o : Option Declaration) → is_automatic_declaration o ≡ automatic_fact (option_map facts_of o)
+pub automatic_is : (o : Option Declaration) → is_automatic_declaration o ≡ automatic_fact (option_map facts_of o)
 unfolding automatic_fact
 automatic_is None = refl
 automatic_is (Some declaration) = refl
 
-type_fact : Option (List ℕ × Sort × CType) → CType
+pub type_fact : Option (List ℕ × Sort × CType) → CType
 type_fact None = void
 type_fact (Some facts) = facts.2
 
-type_is : (o : Option Declaration) → kind_declared o ≡ type_fact (option_map facts_of o)
+pub type_is : (o : Option Declaration) → kind_declared o ≡ type_fact (option_map facts_of o)
 unfolding type_fact
 type_is None = refl
 type_is (Some declaration) = refl

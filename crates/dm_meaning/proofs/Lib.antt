@@ -24,3 +24,8 @@ mod GrowLemmas
 mod ChangeLemmas
 mod SpareRunLemmas
 mod SpareStateLemmas
+mod SetLemmas
+mod PassRunLemmas
+mod PassStatementLemmas
+mod ReadLemmas
+mod PassStateLemmas

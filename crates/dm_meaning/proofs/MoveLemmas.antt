@@ -99,7 +99,7 @@ open_steps true xs ys m o h = among_left m xs ys h
 open_steps false xs ys m o h = absurd (cc)
 
 -- a step of a step
-lifted_again : {T H U G V F : Type 0} (t : T → U) (h : H → G) (u : U → V) (g : G → F) (m : Move T H) → lifted (λ x. u (t x)) (λ x. g (h x)) m ≡ lifted u g (lifted t h m)
+pub lifted_again : {T H U G V F : Type 0} (t : T → U) (h : H → G) (u : U → V) (g : G → F) (m : Move T H) → lifted (λ x. u (t x)) (λ x. g (h x)) m ≡ lifted u g (lifted t h m)
 lifted_again t h u g (goes world tree) = refl
 lifted_again t h u g (calls f arguments kind hole) = refl
 lifted_again t h u g (fails cause place) = refl

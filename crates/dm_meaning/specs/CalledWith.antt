@@ -70,7 +70,6 @@ pub record IsCall (change : Called) (parameter : ℕ) (label : Label) (kind : CT
   pub is : label ≡ call
   pub typed : kind ≡ kind_of other
   pub holds : Holds change parameter change.body other argument
-  pub set : is_set (label_of argument) ≡ true
 
 abbrev mutual
   -- a tree is another one but for places at which the added function is called
@@ -84,14 +83,14 @@ abbrev mutual
   AllAgree change parameter (more_trees first rest) (more_trees other others) = Agrees change parameter first other × AllAgree change parameter rest others
   AllAgree change parameter parts others = ⊥
 
-  -- the function's name and the argument
+  -- the function's name and the argument, which comes to a value that was set
   pub Passes : Called → ℕ → Trees → Tree → Type 0
   Passes change parameter no_trees argument = ⊥
   Passes change parameter (more_trees named rest) argument = IsNamed change named × PassesAlone change parameter rest argument
 
   pub PassesAlone : Called → ℕ → Trees → Tree → Type 0
   PassesAlone change parameter no_trees argument = ⊥
-  PassesAlone change parameter (more_trees first no_trees) argument = Agrees change parameter first argument
+  PassesAlone change parameter (more_trees first no_trees) argument = (is_set (label_of first) ≡ true) × Agrees change parameter first argument
   PassesAlone change parameter (more_trees first (more_trees second rest)) argument = ⊥
 
 -- ---- programs

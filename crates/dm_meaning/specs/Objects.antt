@@ -34,14 +34,15 @@ pub data Reached : Type 0 where
   -- nothing that is known: the object isn't there
   unknown : Reached
 
+-- a member, if the struct has it
+abbrev pub reached_member : Option Field → Reached
+reached_member (Some field) = object_of field.kind false
+reached_member None = foreign
+
 -- a part of an object that isn't const itself
 abbrev pub element : Layout → CType → ℕ → Reached
 element layout (array type (Some count)) n = if nat_lt n count then object_of type false else outside
-element layout (struct number) n = member_in (slice_get (layout.fields number) n)
-  where
-    member_in : Option Field → Reached
-    member_in (Some field) = object_of field.kind false
-    member_in None = foreign
+element layout (struct number) n = reached_member (slice_get (layout.fields number) n)
 element layout type n = foreign
 
 -- go on from a part, if it is there
