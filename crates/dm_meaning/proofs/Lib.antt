@@ -29,3 +29,4 @@ mod PassRunLemmas
 mod PassStatementLemmas
 mod ReadLemmas
 mod PassStateLemmas
+mod PassRefineLemmas

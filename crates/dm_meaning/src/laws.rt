@@ -6,6 +6,7 @@ ghost use Rattle.dm_meaning.specs.Refinement.{Refines};
 ghost use Rattle.dm_meaning.specs.Replaced.{Replaced, new_of, IsReplacement};
 ghost use Rattle.dm_meaning.specs.Called as called;
 ghost use Rattle.dm_meaning.specs.Called.{Called, IsCalling};
+ghost use Rattle.dm_meaning.specs.CalledWith.{IsCallingWith};
 ghost use Rattle.dm_meaning.specs.Simulation.{IsSimulation, GoesWrong};
 ghost use Rattle.dm_meaning.specs.Values.{At, Value};
 ghost use Rattle.dm_meaning.specs.Programs.{Program};
@@ -129,4 +130,13 @@ pub fn spared_steps()
 /// Whatever a state names at the beginning of a run has been made.
 pub fn settled_beginnings()
     ensures { (program : Program) (input : List ℕ) (state : State) → Begins program input state → IsSettled state }
+{}
+
+/// A program in which calls of an added function with one parameter, whose body is one `return` of an expression, stand in
+/// place of the expression with the argument in place of the parameter, at any places in any functions, refines the program
+/// with the expression. The expression reads the parameter once, and first, below its outermost operator, and names no other
+/// object; that operator is neither `?:` nor a comma. The argument's outermost operator is such that its value was set, and the
+/// values of `case` labels stay the same.
+pub fn called_with_refines()
+    ensures { (change : Called) (parameter : ℕ) → IsCallingWith change parameter → Refines (machine_of (called.new_of change)) (machine_of change.old) }
 {}

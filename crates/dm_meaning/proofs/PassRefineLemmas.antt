@@ -1,0 +1,316 @@
+-- The beginnings of runs of two programs of which one calls the added function with an argument agree, and the old program needs none of the
+-- parameter's objects: so the new program refines the old one.
+use Rattle.std.specs.Prelude.{◌≡◌, refl, ◌⊎◌, ℕ, suc, zero, ◌+◌, ◌≤◌, ◌*◌, ◌==◌, Bool, true, false, List, [], ◌∷◌, map, length, Option, Some, None, if◌then◌else◌}
+use Rattle.std.proofs.Common.{arith, ap, sym, ◌∙◌, subst, inl, inr}
+use Rattle.dm_token.specs.declared.place.Place.{Place}
+use Rattle.dm_meaning.specs.declared.cause.Cause.{Cause}
+use Rattle.dm_meaning.specs.Machines.{Standing, undefined, Goes}
+use Rattle.dm_meaning.specs.Refinement.{Refines}
+use Rattle.dm_meaning.specs.Simulation.{GoesWrong, Meets, IsSimulation, simulated}
+use Rattle.dm_meaning.specs.Objects.{all_zero}
+use Rattle.dm_meaning.specs.Memory.{Memory, Block, look_up, new_block, changed_block, killed}
+use Rattle.dm_meaning.specs.Values.{Value}
+use Rattle.dm_meaning.specs.Programs.{Definition, Program, layout, declaration_of}
+use Rattle.dm_meaning.specs.Operations.{Objects}
+use Rattle.dm_meaning.specs.States.{State}
+use Rattle.dm_meaning.specs.Statements.{named_from}
+use Rattle.dm_meaning.specs.Steps.{opened_frame, opened_memory, is_main, Step}
+use Rattle.dm_meaning.specs.Units.{static_numbers, statics_memory, argv_kind, arguments_for, start, main_in, main_of, Begins, machine_of}
+use Rattle.dm_meaning.specs.Replaced.{Zipped, StaticAgrees, IsReplacement}
+use Rattle.dm_meaning.specs.Called.{Called, new_of, statics_of}
+use Rattle.dm_meaning.specs.CalledWith.{DefinitionAgrees, FunctionsAgree, IsCallingWith}
+use Rattle.dm_meaning.specs.Extending.{HasAll}
+use Rattle.dm_meaning.specs.MoreObjects.{IsSettled, IsSpare, Grown, with_memory, Spared}
+use Rattle.dm_meaning.proofs.OptionLemmas.{none_is_some, some_is_some}
+use Rattle.dm_meaning.proofs.RunLemmas.{OptionAgrees, renamed_objects}
+use Rattle.dm_meaning.proofs.StartLemmas as plain
+use Rattle.dm_meaning.proofs.StaticLemmas.{statics_memory_same}
+use Rattle.dm_meaning.proofs.PassStatementLemmas.{unfolded_agree}
+use Rattle.dm_meaning.proofs.GrowLemmas.{equal_is, differ_is, look_added, look_beside}
+use Rattle.dm_meaning.proofs.SpareStateLemmas.{unfolded_settled, spared_steps, settled_beginnings}
+use Rattle.dm_meaning.proofs.ReadLemmas.{parameter_block}
+use Rattle.dm_meaning.proofs.PassStateLemmas.{Spare, StateAgrees, Related, IsOther, AllSpare, Enters, Leaves, Met, same_main, frame_objects, frame_tasks, frame_memory, step_met}
+
+module _ (change : Called) (p : ℕ) (calling : IsCallingWith change p) where
+  -- ---- objects of static storage duration
+
+  same_statics : IsReplacement (statics_of change)
+  same_statics = record { injective = calling.injective; told = calling.told; functions = tt; statics = calling.statics }
+
+  same_count : length change.statics ≡ length change.old.statics
+  same_count = plain.zipped_length (statics_of change) same_statics (StaticAgrees (statics_of change)) change.statics change.old.statics calling.statics
+
+  statics_agree : (names : ℕ → ℕ) → named_from names 0 (static_numbers change.statics) [] ≡ renamed_objects change.rename (named_from names 0 (static_numbers change.old.statics) [])
+  statics_agree names = plain.statics_agree (statics_of change) same_statics names
+
+  abbrev old_statics : (ℕ → ℕ) → Objects
+  old_statics names = named_from names 0 (static_numbers change.old.statics) []
+
+  memory_agrees : (names : ℕ → ℕ) → statics_memory (new_of change) names (named_from names 0 (static_numbers change.statics) []) ≡ statics_memory change.old names (old_statics names)
+  memory_agrees names =
+      sym (statics_memory_same (new_of change) [] names (named_from names 0 (static_numbers change.statics) []))
+      ∙ plain.memory_agrees (statics_of change) same_statics names
+      ∙ statics_memory_same change.old [] names (old_statics names)
+
+  arguments_agree : (n : ℕ) (ds : List ℕ) → arguments_for n (map change.rename ds) ≡ arguments_for n ds
+  arguments_agree n [] = refl
+  arguments_agree n (d ∷ ds) = refl
+
+  -- ---- main
+
+  by_name : (f g : Definition) (one other : Option Definition) → DefinitionAgrees change p f g → OptionAgrees (DefinitionAgrees change p) one other
+      → OptionAgrees (DefinitionAgrees change p) (if is_main (declaration_of (new_of change) f.function) then Some f else one) (if is_main (declaration_of change.old g.function) then Some g else other)
+  by_name f g one other h k =
+      let same : is_main (declaration_of (new_of change) f.function) ≡ is_main (declaration_of change.old g.function) =
+      ap (λ d. is_main (declaration_of (new_of change) d)) h.0 ∙ same_main change p calling g.function in
+      subst (λ b. OptionAgrees (DefinitionAgrees change p) (if b then Some f else one) (if is_main (declaration_of change.old g.function) then Some g else other)) (sym same)
+      (by_bool (is_main (declaration_of change.old g.function)))
+    where
+      by_bool : (b : Bool) → OptionAgrees (DefinitionAgrees change p) (if b then Some f else one) (if b then Some g else other)
+      by_bool true = h
+      by_bool false = k
+
+  zipped_main : (fs gs : List Definition) → Zipped (DefinitionAgrees change p) fs gs → OptionAgrees (DefinitionAgrees change p) (main_in (new_of change) fs) (main_in change.old gs)
+  zipped_main [] [] h = tt
+  zipped_main [] (g ∷ gs) h = absurd h
+  zipped_main (f ∷ fs) [] h = absurd h
+  zipped_main (f ∷ fs) (g ∷ gs) h = by_name f g (main_in (new_of change) fs) (main_in change.old gs) h.0 (zipped_main fs gs h.1)
+
+  -- the added function isn't main
+  passed_over : (f : Definition) (fs : List Definition) → f ≡ change.added → main_in (new_of change) (f ∷ fs) ≡ main_in (new_of change) fs
+  passed_over f fs e =
+      ap (λ b. if b then Some f else main_in (new_of change) fs) (ap (λ (g : Definition). is_main (declaration_of (new_of change) g.function)) e ∙ calling.not_main)
+
+  functions_main : (fs gs : List Definition) → FunctionsAgree change p fs gs → OptionAgrees (DefinitionAgrees change p) (main_in (new_of change) fs) (main_in change.old gs)
+  functions_main [] gs h = absurd h
+  functions_main (f ∷ fs) [] h = subst (λ o. OptionAgrees (DefinitionAgrees change p) o None) (sym (passed_over f fs h.0 ∙ ap (main_in (new_of change)) h.1)) tt
+  functions_main (f ∷ fs) (g ∷ gs) (inl h) =
+      subst (λ o. OptionAgrees (DefinitionAgrees change p) o (main_in change.old (g ∷ gs))) (sym (passed_over f fs h.0)) (zipped_main fs (g ∷ gs) h.1)
+  functions_main (f ∷ fs) (g ∷ gs) (inr h) = by_name f g (main_in (new_of change) fs) (main_in change.old gs) h.0 (functions_main fs gs h.1)
+
+  other_main : (one other : Option Definition) (main : Definition) → OptionAgrees (DefinitionAgrees change p) one other → one ≡ Some main → (m : Definition) × (other ≡ Some m) × DefinitionAgrees change p main m
+  other_main None other main h e = absurd (none_is_some main e)
+  other_main (Some one) None main h e = absurd h
+  other_main (Some one) (Some other) main h e = (other, refl, subst (λ d. DefinitionAgrees change p d other) (some_is_some one main e) h)
+
+  -- ---- beginnings
+
+  start_agrees : (names : ℕ → ℕ) (main other : Definition) (input : List ℕ) → DefinitionAgrees change p main other → StateAgrees change p [] (start names (new_of change) main input) (start names change.old other input)
+  start_agrees names main other input h =
+      let count = same_count in
+      let argv_block = record (new_block (layout change.old) argv_kind) { contents = all_zero (layout change.old) argv_kind } in
+      let others : (ℕ → ℕ → ℕ) = λ n i. names (suc n + i) in
+      record {
+        standing = refl;
+        function = h.0;
+        objects =
+            ap (λ n. (opened_frame (new_of change) (λ i. names (suc n + i)) main).objects) count
+            ∙ frame_objects change p calling (λ i. names (suc (length change.old.statics) + i)) main other h;
+        tasks = unfolded_agree change p calling _ _ (frame_tasks change p calling (λ i. names (suc (length change.old.statics) + i)) main other h);
+        callers = tt;
+        statics = statics_agree names;
+        world =
+            ap (λ n. record { memory = opened_memory (new_of change) (λ i. names (suc n + i)) main (arguments_for (names n) main.parameters) ((names n, argv_block) ∷ statics_memory (new_of change) names (named_from names 0 (static_numbers change.statics) [])); input = input; output = [] }) count
+            ∙ ap (λ m. record { memory = opened_memory (new_of change) (λ i. names (suc (length change.old.statics) + i)) main (arguments_for (names (length change.old.statics)) main.parameters) ((names (length change.old.statics), argv_block) ∷ m); input = input; output = [] }) (memory_agrees names)
+            ∙ ap (λ ps. record { memory = opened_memory (new_of change) (λ i. names (suc (length change.old.statics) + i)) main (arguments_for (names (length change.old.statics)) ps) ((names (length change.old.statics), argv_block) ∷ statics_memory change.old names (old_statics names)); input = input; output = [] }) h.1
+            ∙ ap (λ vs. record { memory = opened_memory (new_of change) (λ i. names (suc (length change.old.statics) + i)) main vs ((names (length change.old.statics), argv_block) ∷ statics_memory change.old names (old_statics names)); input = input; output = [] }) (arguments_agree (names (length change.old.statics)) other.parameters)
+            ∙ ap (λ m. record { memory = m; input = input; output = [] }) (frame_memory change p calling (λ i. names (suc (length change.old.statics) + i)) main other (arguments_for (names (length change.old.statics)) other.parameters) ((names (length change.old.statics), argv_block) ∷ statics_memory change.old names (old_statics names)) h);
+      }
+
+  begins_agrees : (input : List ℕ) (state : State) → Begins (new_of change) input state → (other : State) × Begins change.old input other × StateAgrees change p [] state other
+  begins_agrees input state (names, fresh, main, is_main_here, e) =
+      let found = other_main (main_of (new_of change)) (main_of change.old) main (functions_main change.functions change.old.functions calling.functions) is_main_here in (
+        start names change.old found.0 input,
+        (names, fresh, found.0, found.1, refl),
+        subst (λ s. StateAgrees change p [] s (start names change.old found.0 input)) (sym e) (start_agrees names main found.0 input found.2),
+      )
+
+  -- ---- the objects of the parameter
+
+  -- the old program stands at a state without them
+  pub record Relation (w : ℕ) (state other : State) : Type 0 where
+    pub more : Memory
+    pub spare : Spare
+    pub related : Related change p w spare state (with_memory other more)
+    pub settled : IsSettled other
+    pub has : HasAll more other.world.memory
+    pub spares : AllSpare change p more other.world.memory spare
+
+  none_below : (more memory : Memory) (n : ℕ) → HasAll more memory → look_up more n ≡ None → look_up memory n ≡ None
+  none_below more memory n has e = by_case (look_up memory n) refl
+    where
+      by_case : (o : Option Block) → look_up memory n ≡ o → look_up memory n ≡ None
+      by_case None f = f
+      by_case (Some block) f = absurd (none_is_some block (sym e ∙ has n block f))
+
+  kept : (a b c d : Memory) → Grown a b c d → (spare : Spare) → AllSpare change p a b spare → AllSpare change p c d spare
+  kept a b c d grown [] h = tt
+  kept a b c d grown (first ∷ rest) h = (grown.spare first.0 (parameter_block change p first.1) h.0, h.1, kept a b c d grown rest h.2)
+
+  -- one more
+  others_apart : (more memory : Memory) (n : ℕ) → look_up more n ≡ None → (spare : Spare) → AllSpare change p more memory spare → IsOther n spare
+  others_apart more memory n new [] h = tt
+  others_apart more memory n new (first ∷ rest) h =
+      ((λ e. none_is_some (parameter_block change p first.1) (sym new ∙ ap (look_up more) (sym e) ∙ h.0.0)), others_apart more memory n new rest h.2)
+
+  added_apart : (more memory : Memory) (n : ℕ) (block : Block) → (spare : Spare) → IsOther n spare → AllSpare change p more memory spare → AllSpare change p ((n, block) ∷ more) memory spare
+  added_apart more memory n block [] o h = tt
+  added_apart more memory n block (first ∷ rest) o h = (
+    (look_added n block more first.0 (λ e. o.0 (sym e)) ∙ h.0.0, h.0.1),
+    h.1,
+    added_apart more memory n block rest o.1 h.2,
+  )
+
+  has_one_more : (more memory : Memory) (n : ℕ) (block : Block) → HasAll more memory → look_up more n ≡ None → HasAll ((n, block) ∷ more) memory
+  has_one_more more memory n block has new m found e = look_added n block more m (λ f. none_is_some found (sym new ∙ ap (look_up more) f ∙ has m found e)) ∙ has m found e
+
+  -- one less
+  abbrev end : Block → Block
+  end block = record block { alive = false }
+
+  has_one_less : (more memory : Memory) (n : ℕ) → HasAll more memory → look_up memory n ≡ None → HasAll (killed (n ∷ []) more) memory
+  has_one_less more memory n has absent m found e = look_beside n end more m (Some found) (λ f. none_is_some found (sym absent ∙ ap (look_up memory) (sym f) ∙ e)) (has m found e)
+
+  killed_apart : (more memory : Memory) (n : ℕ) (spare : Spare) → IsOther n spare → AllSpare change p more memory spare → AllSpare change p (killed (n ∷ []) more) memory spare
+  killed_apart more memory n [] o h = tt
+  killed_apart more memory n (first ∷ rest) o h = (
+    (look_beside n end more first.0 (Some (parameter_block change p first.1)) o.0 h.0.0, h.0.1),
+    h.1,
+    killed_apart more memory n rest o.1 h.2,
+  )
+
+  -- ---- the simulation
+
+  goes_nothing : (program : Program) (t : State) → Goes (machine_of program) 0 t t
+  unfolding Goes
+  goes_nothing program t = refl
+
+  goes_once : (program : Program) (s t : State) → Step program s t → Goes (machine_of program) 1 s t
+  unfolding Goes
+  goes_once program s t step = (t, step, refl)
+
+  wrong_later : (program : Program) (s t : State) → Step program s t → GoesWrong (machine_of program) t → GoesWrong (machine_of program) s
+  unfolding Goes
+  wrong_later program s t step (n, u, goes, cause, place, e) = (suc n, u, (t, step, goes), cause, place, e)
+
+  -- where a run goes wrong beside more objects, it goes wrong without them
+  wrong_without : (n : ℕ) (program : Program) (more : Memory) (state u : State) → IsSettled state → HasAll more state.world.memory → Goes (machine_of program) n (with_memory state more) u
+      → (cause : Cause) (place : Place) → u.standing ≡ undefined cause place → GoesWrong (machine_of program) state
+  unfolding Goes
+  wrong_without zero program more state u settled has same cause place e = (0, state, refl, cause, place, ap (λ (s : State). s.standing) same ∙ e)
+  wrong_without (suc n) program more state u settled has (v, step, goes) cause place e =
+      by_step (spared_steps program state v more settled has step) (λ next after s h f. wrong_without n program after next u s h f cause place e)
+    where
+      by_step : GoesWrong (machine_of program) state ⊎ Spared program state v more
+          → ((next : State) (after : Memory) → IsSettled next → HasAll after next.world.memory → Goes (machine_of program) n (with_memory next after) u → GoesWrong (machine_of program) next)
+          → GoesWrong (machine_of program) state
+      by_step (inl wrong) later = wrong
+      by_step (inr spared) later =
+          wrong_later program state spared.next spared.step
+          (later spared.next spared.after spared.settled spared.grown.has (subst (λ s. Goes (machine_of program) n s u) spared.is goes))
+
+  Relates : ℕ → State → State → Type 0
+  Relates w state other = Relation w state other
+
+  same_standing : (w : ℕ) (spare : Spare) (s t : State) → Related change p w spare s t → s.standing ≡ t.standing
+  same_standing w spare s t (inl h) = h.1.standing
+  same_standing w spare s t (inr (first, rest, is, h)) = h.standing
+
+  same_output : (w : ℕ) (spare : Spare) (s t : State) → Related change p w spare s t → t.world.output ≡ s.world.output
+  same_output w spare s t (inl h) = ap (λ (world : _). world.output) (sym h.1.world)
+  same_output w spare s t (inr (first, rest, is, h)) = ap (λ (world : _). world.output) (sym h.world)
+
+  Outcome : ℕ → State → State → Type 0
+  Outcome w s' t = GoesWrong (machine_of change.old) t ⊎ Meets (machine_of (new_of change)) (machine_of change.old) Relation 6 w s' t
+
+  stays_met : (w v : ℕ) (s' t : State) → v + 1 ≤ w → Relation v s' t → Outcome w s' t
+  unfolding Outcome
+  stays_met w v s' t less related = inr (0, v, t, goes_nothing change.old t, omega (arith, less), related)
+
+  met : (w : ℕ) (s' t : State) (more : Memory) (spare : Spare) → IsSettled t → HasAll more t.world.memory → AllSpare change p more t.world.memory spare → Met change p w spare (with_memory t more) s' → Outcome w s' t
+  unfolding Outcome
+  met w s' t more spare settled has spares (inl (n, u, goes, cause, place, e)) = inl (wrong_without n change.old more t u settled has goes cause place e)
+  met w s' t more spare settled has spares (inr (inl (last, step, related))) = by_step (spared_steps change.old t last more settled has step)
+    where
+      by_step : GoesWrong (machine_of change.old) t ⊎ Spared change.old t last more → Outcome w s' t
+      by_step (inl wrong) = inl wrong
+      by_step (inr spared) =
+          inr (
+            1,
+            6,
+            spared.next,
+            goes_once change.old t spared.next spared.step,
+            omega arith,
+            record {
+              more = spared.after;
+              spare = spare;
+              related = subst (Related change p 6 spare s') spared.is related;
+              settled = spared.settled;
+              has = spared.grown.has;
+              spares = kept more t.world.memory spared.after spared.next.world.memory spared.grown spare spares;
+            },
+          )
+  met w s' t more spare settled has spares (inr (inr (inl (v, less, related)))) =
+      stays_met w v s' t less (record { more = more; spare = spare; related = related; settled = settled; has = has; spares = spares })
+  met w s' t more spare settled has spares (inr (inr (inr (inl h)))) =
+      let block = parameter_block change p h.value in
+      let apart = others_apart more t.world.memory h.n h.fresh spare spares in
+      stays_met w h.left s' t h.less (record {
+        more = (h.n, block) ∷ more;
+        spare = (h.n, h.value) ∷ spare;
+        related = h.related;
+        settled = settled;
+        has = has_one_more more t.world.memory h.n block has h.fresh;
+        spares = (
+          (ap (λ b. if b then Some block else look_up more h.n) (equal_is h.n h.n refl), none_below more t.world.memory h.n has h.fresh),
+          apart,
+          added_apart more t.world.memory h.n block spare apart spares,
+        );
+      })
+  met w s' t more spare settled has spares (inr (inr (inr (inr h)))) =
+      let all = subst (AllSpare change p more t.world.memory) h.is spares in
+      stays_met w h.left s' t h.less (record {
+        more = killed (h.first.0 ∷ []) more;
+        spare = h.rest;
+        related = h.related;
+        settled = settled;
+        has = has_one_less more t.world.memory h.first.0 has all.0.1;
+        spares = killed_apart more t.world.memory h.first.0 h.rest all.1 all.2;
+      })
+
+  steps_met : (w : ℕ) (s s' t : State) → Relation w s t → Step (new_of change) s s' → Outcome w s' t
+  steps_met w s s' t h step =
+      met w s' t h.more h.spare h.settled h.has h.spares
+      (step_met change p calling w h.spare s s' (with_memory t h.more) h.related t.world.memory h.spares
+      (unfolded_settled t.world.memory t.frame.tasks h.settled.frame.1) step)
+
+  begins_related : (input : List ℕ) (s : State) → Begins (new_of change) input s → (w : ℕ) × (t : State) × (w ≤ 6) × Begins change.old input t × Relation w s t
+  begins_related input s b =
+      let t = begins_agrees input s b in (
+        6,
+        t.0,
+        omega arith,
+        t.1,
+        record {
+          more = t.0.world.memory;
+          spare = [];
+          related = inl (omega arith, t.2);
+          settled = settled_beginnings change.old input t.0 t.1;
+          has = λ n block e. e;
+          spares = tt;
+        },
+      )
+
+  simulation : IsSimulation (machine_of (new_of change)) (machine_of change.old) Relates 6 6
+  unfolding Relates Outcome
+  simulation = record {
+    begins = begins_related;
+    steps = steps_met;
+    going_on = λ w s t h e. inr (sym (same_standing w h.spare s (with_memory t h.more) h.related) ∙ e, same_output w h.spare s (with_memory t h.more) h.related);
+    ending = λ w s t status h e. inr (0, t, goes_nothing change.old t, sym (same_standing w h.spare s (with_memory t h.more) h.related) ∙ e, same_output w h.spare s (with_memory t h.more) h.related);
+    wrong = λ w s t cause place h e. (0, t, goes_nothing change.old t, cause, place, sym (same_standing w h.spare s (with_memory t h.more) h.related) ∙ e);
+  }
+
+-- A program that calls the added function with an argument refines the program that has its expression in place, with the argument in it.
+pub called_with_refines : (change : Called) (p : ℕ) → IsCallingWith change p → Refines (machine_of (new_of change)) (machine_of change.old)
+called_with_refines change p calling = simulated (machine_of (new_of change)) (machine_of change.old) (Relates change p calling) 6 6 (simulation change p calling)
