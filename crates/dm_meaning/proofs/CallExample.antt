@@ -1,8 +1,10 @@
--- Two small programs that meet each premise of the law on calls.
+-- Small programs that meet each premise of the laws on calls.
 use Rattle.std.specs.Prelude.{◌≡◌, refl, ℕ, zero, suc, option_map}
 use Rattle.std.proofs.Common.{arith, ap, sym, ◌∙◌, inl, inr}
 use Rattle.dm_meaning.specs.Called.{new_of, IsSame, Agrees, IsCalling}
-use Rattle.dm_meaning.specs.Examples.{beyond_third, called_add, calling_twice}
+use Rattle.dm_meaning.specs.CalledWith as passed
+use Rattle.dm_meaning.specs.CalledWith.{Holds, IsCallingWith}
+use Rattle.dm_meaning.specs.Examples.{beyond_third, called_add, calling_twice, stored_there, reading, summed, doubled, called_with, beyond_two, calling_with_twice}
 use Rattle.dm_meaning.specs.Programs.{declaration_of}
 use Rattle.dm_meaning.specs.Replaced.{facts_of}
 
@@ -51,6 +53,88 @@ premises = record {
   functions = inr (
     (refl, refl, (inl (refl, refl, tt, (inl (refl, refl, tt, (inl (refl, refl, tt, tt), tt)), tt)), tt)),
     inl (refl, ((refl, refl, (inl (refl, refl, tt, (called_here, tt)), (inl (refl, refl, tt, (called_here, tt)), tt))), tt)),
+  );
+  statics = ((refl, refl, (inl (refl, refl, tt), tt)), tt);
+  not_main = refl;
+  parameters = refl;
+  return_kind = _;
+  return_spans = _;
+  returns = refl;
+  value = refl;
+}
+
+-- ---- with an argument
+
+without_two : ℕ → ℕ
+without_two zero = 0
+without_two (suc zero) = 1
+without_two (suc (suc zero)) = 2
+without_two (suc (suc (suc zero))) = 2
+without_two (suc (suc (suc (suc zero)))) = 2
+without_two (suc (suc (suc (suc (suc d))))) = suc (suc (suc d))
+
+without_those : (d : ℕ) → without_two (beyond_two d) ≡ d
+unfolding without_two
+without_those zero = refl
+without_those (suc zero) = refl
+without_those (suc (suc zero)) = refl
+without_those (suc (suc (suc d))) = refl
+
+injective_with : (c d : ℕ) → beyond_two c ≡ beyond_two d → c ≡ d
+injective_with c d e = sym (without_those c) ∙ ap without_two e ∙ without_those d
+
+apart_with : (d : ℕ) → beyond_two d ≡ 3 → ⊥
+apart_with zero e = omega (arith, e)
+apart_with (suc zero) e = omega (arith, e)
+apart_with (suc (suc zero)) e = omega (arith, e)
+apart_with (suc (suc (suc d))) e = omega (arith, e)
+
+told_with : (d : ℕ) → option_map facts_of (declaration_of (new_of calling_with_twice) (beyond_two d)) ≡ option_map facts_of (declaration_of calling_with_twice.old d)
+told_with zero = refl
+told_with (suc zero) = refl
+told_with (suc (suc zero)) = refl
+told_with (suc (suc (suc d))) = refl
+
+-- the expression has the argument where the function reads its parameter
+same_update : IsSame beyond_two (stored_there 2) (stored_there 2)
+same_update = (refl, refl, refl, ((refl, refl, refl, ((refl, refl, refl, ((refl, refl, refl, tt), tt)), tt)), ((refl, refl, refl, tt), tt)))
+
+holds_read : Holds calling_with_twice 4 (summed (reading 4)) (summed (reading 3)) (reading 3)
+holds_read = (refl, refl, refl, inl (refl, inl (record { spans = _; named_kind = _; named_spans = _; is = refl; own = refl; stands = refl }), (same_update, tt)))
+
+holds_doubled : Holds calling_with_twice 4 (summed (reading 4)) (summed (doubled (reading 3))) (doubled (reading 3))
+holds_doubled = (refl, refl, refl, inl (refl, inl (record { spans = _; named_kind = _; named_spans = _; is = refl; own = refl; stands = refl }), (same_update, tt)))
+
+read_agrees : passed.Agrees calling_with_twice 4 (reading 5) (reading 3)
+read_agrees = inl (refl, refl, tt, (inl (refl, refl, tt, tt), tt))
+
+doubled_agrees : passed.Agrees calling_with_twice 4 (doubled (reading 5)) (doubled (reading 3))
+doubled_agrees = inl (refl, refl, tt, (read_agrees, (inl (refl, refl, tt, tt), tt)))
+
+call_of_read : passed.Agrees calling_with_twice 4 (called_with (reading 5)) (summed (reading 3))
+call_of_read = inr (reading 3, record { is = refl; typed = refl; holds = holds_read }, (record { kind = _; spans = _; is = refl }, (refl, read_agrees)))
+
+call_of_doubled : passed.Agrees calling_with_twice 4 (called_with (doubled (reading 5))) (summed (doubled (reading 3)))
+call_of_doubled = inr (doubled (reading 3), record { is = refl; typed = refl; holds = holds_doubled }, (record { kind = _; spans = _; is = refl }, (refl, doubled_agrees)))
+
+pub premises_with : IsCallingWith calling_with_twice 4
+premises_with = record {
+  injective = injective_with;
+  apart = apart_with;
+  told = told_with;
+  functions = inr (
+    (refl, refl, (inl (refl, refl, tt, (inl (refl, refl, tt, (inl (refl, refl, tt, tt), tt)), tt)), tt)),
+    inl (
+      refl,
+      (
+        (
+          refl,
+          refl,
+          (inl (refl, refl, tt, (inl (refl, refl, tt, tt), tt)), (inl (refl, refl, tt, (call_of_read, tt)), (inl (refl, refl, tt, (call_of_doubled, tt)), tt))),
+        ),
+        tt,
+      ),
+    ),
   );
   statics = ((refl, refl, (inl (refl, refl, tt), tt)), tt);
   not_main = refl;

@@ -46,7 +46,7 @@ named kind d = tree 0 (object d) kind []
 abbrev value_at : ℕ → CType → Tree → Tree
 value_at n kind lvalue = tree n read kind (lvalue ∷ [])
 
-abbrev reading : ℕ → Tree
+abbrev pub reading : ℕ → Tree
 reading d = value_at 0 int (named int d)
 
 abbrev assigned : ℕ → CType → Tree → Tree → Tree
@@ -362,7 +362,7 @@ abbrev pub unset_read : Program
 unset_read = alone (local (codes "x") int ∷ []) (declared_only 1 ∷ returned (value_at 7 int (named int 1)) ∷ [])
 
 -- int n = 0; int *place(void) { return &n; } int main(void) { *place() += 3; return *place() += 3; }
-abbrev stored_there : ℕ → Tree
+abbrev pub stored_there : ℕ → Tree
 stored_there place = tree 7 (update Add int) int (tree 0 follow int (called 0 place (pointer int) [] ∷ []) ∷ constant 3 ∷ [])
 
 abbrev there : List External → List Tree → List External
@@ -405,4 +405,47 @@ calling_twice = record {
   rename = beyond_third;
   added = record { function = 3; parameters = []; body = adding };
   body = stored_there 2;
+}
+
+-- int n = 0; int *place(void) { return &n; } int main(void) { int k = 4; k + (*place() += 3); return k * 2 + (*place() += 3); }
+abbrev pub summed : Tree → Tree
+summed argument = operated 0 Add argument (stored_there 2)
+
+abbrev pub doubled : Tree → Tree
+doubled operand = operated 0 Mul operand (constant 2)
+
+abbrev pub summed_twice : Program
+summed_twice = program (fixed (codes "n") int ∷ of_function (codes "place") pointer_of_nothing ∷ local (codes "k") int ∷ [])
+    (there [] (declared_as 3 (constant 4) ∷ statement (summed (reading 3)) ∷ returned (summed (doubled (reading 3))) ∷ []))
+
+-- .. int sum(int x) { return x + (*place() += 3); } int main(void) { int k = 4; sum(k); return sum(k * 2); }
+abbrev pub called_with : Tree → Tree
+called_with argument = called 0 3 int (argument ∷ [])
+
+abbrev summing : Tree
+summing = tree 9 block void (returned (summed (reading 4)) ∷ [])
+
+abbrev pub called_with_twice : Program
+called_with_twice =
+    program (fixed (codes "n") int ∷ of_function (codes "place") pointer_of_nothing ∷ of_function (codes "sum") int_of_int ∷ local (codes "x") int ∷ local (codes "k") int ∷ [])
+    (there (defined 3 (4 ∷ []) (returned (summed (reading 4)) ∷ []) ∷ [])
+    (declared_as 5 (constant 4) ∷ statement (called_with (reading 5)) ∷ returned (called_with (doubled (reading 5))) ∷ []))
+
+-- the numbers of the declarations where a fourth and a fifth are added
+abbrev pub beyond_two : ℕ → ℕ
+beyond_two zero = 0
+beyond_two (suc zero) = 1
+beyond_two (suc (suc zero)) = 2
+beyond_two (suc (suc (suc d))) = suc (suc (suc (suc (suc d))))
+
+-- the change between the two
+abbrev pub calling_with_twice : Called
+calling_with_twice = record {
+  old = summed_twice;
+  declared = called_with_twice.declared;
+  functions = called_with_twice.functions;
+  statics = called_with_twice.statics;
+  rename = beyond_two;
+  added = record { function = 3; parameters = 4 ∷ []; body = summing };
+  body = summed (reading 4);
 }

@@ -8,6 +8,7 @@ ghost use Rattle.dm_type.specs.CTypes.{integer};
 ghost use Rattle.dm_meaning.specs.declared.cause.Cause.TheVariants.{Overflow, Division, Conflict, Null, Bounds, Pointer, Life, Unset, Const, NoValue, External};
 ghost use Rattle.dm_meaning.specs.Machines.{going, exited, undefined};
 ghost use Rattle.dm_meaning.specs.Called.{new_of, IsCalling};
+ghost use Rattle.dm_meaning.specs.CalledWith.{IsCallingWith};
 ghost use Rattle.dm_meaning.specs.Refinement.{Refines};
 ghost use Rattle.dm_meaning.specs.Units.{machine_of};
 ghost use Rattle.dm_meaning.specs.Examples as examples;
@@ -110,6 +111,16 @@ fn calls_of_an_added_function_refine()
     ensures refines { Refines (machine_of examples.called_twice) (machine_of examples.stored_twice) }
 {}
 
+fn calls_with_a_parameter_refine()
+    ensures summed_from_the_left { by_choice 0 90 [] examples.summed_twice ≡ Some (exited 14, []) }
+    ensures summed_from_the_right { by_choice 9 90 [] examples.summed_twice ≡ Some (exited 14, []) }
+    ensures called_from_the_left { by_choice 0 90 [] examples.called_with_twice ≡ Some (exited 14, []) }
+    ensures called_from_the_right { by_choice 9 90 [] examples.called_with_twice ≡ Some (exited 14, []) }
+    ensures new { new_of examples.calling_with_twice ≡ examples.called_with_twice }
+    ensures premises { IsCallingWith examples.calling_with_twice 4 }
+    ensures refines { Refines (machine_of examples.called_with_twice) (machine_of examples.summed_twice) }
+{}
+
 #[test]
 fn examples_come_to_what_c_says() {
     functions_have_frames_of_their_own();
@@ -124,4 +135,5 @@ fn examples_come_to_what_c_says() {
     objects_have_first_values();
     other_causes_are_met_at_their_nodes();
     calls_of_an_added_function_refine();
+    calls_with_a_parameter_refine();
 }
