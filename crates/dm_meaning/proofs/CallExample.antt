@@ -112,10 +112,10 @@ doubled_agrees : passed.Agrees calling_with_twice 4 (doubled (reading 5)) (doubl
 doubled_agrees = inl (refl, refl, tt, (read_agrees, (inl (refl, refl, tt, tt), tt)))
 
 call_of_read : passed.Agrees calling_with_twice 4 (called_with (reading 5)) (summed (reading 3))
-call_of_read = inr (reading 3, record { is = refl; typed = refl; holds = holds_read }, (record { kind = _; spans = _; is = refl }, (refl, read_agrees)))
+call_of_read = inr (reading 3, record { is = refl; typed = refl; holds = holds_read; solid = refl }, (record { kind = _; spans = _; is = refl }, (refl, read_agrees)))
 
 call_of_doubled : passed.Agrees calling_with_twice 4 (called_with (doubled (reading 5))) (summed (doubled (reading 3)))
-call_of_doubled = inr (doubled (reading 3), record { is = refl; typed = refl; holds = holds_doubled }, (record { kind = _; spans = _; is = refl }, (refl, doubled_agrees)))
+call_of_doubled = inr (doubled (reading 3), record { is = refl; typed = refl; holds = holds_doubled; solid = refl }, (record { kind = _; spans = _; is = refl }, (refl, doubled_agrees)))
 
 pub premises_with : IsCallingWith calling_with_twice 4
 premises_with = record {

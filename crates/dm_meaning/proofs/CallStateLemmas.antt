@@ -21,7 +21,7 @@ use Rattle.dm_meaning.specs.Running.{Run, done, to_do, Hole, Holes, here, within
 use Rattle.dm_meaning.specs.Expressions.{Move, goes, calls, fails, exits, lifted, value_of, moves}
 use Rattle.dm_meaning.specs.States.{Use, returns, Task, begins, declares, initials, evaluates, again, tests, ends, ends_switch, leaves, skips, hands_back, Caller, State}
 use Rattle.dm_meaning.specs.Statements.{place_of, Turned, onward, refused, declared_in, type_declared, named_from, made_from, unfolded, concluded, begin_statement, begin_declarator, begin_initialiser, items_tasks, ended, after_break, after_continue}
-use Rattle.dm_meaning.specs.Steps.{given_from, opened_frame, opened_memory, opened, handed_back, is_main, gives_nothing, body_place, no_place, closed, turned, moved, scene_of, expression_steps, task_steps, steps_from, next, Step}
+use Rattle.dm_meaning.specs.Steps.{given_from, opened_frame, opened_memory, opened, lacks_value, gone_back, handed_back, is_main, gives_nothing, body_place, no_place, closed, turned, moved, scene_of, expression_steps, task_steps, steps_from, next, Step}
 use Rattle.dm_meaning.specs.Units.{machine_of}
 use Rattle.dm_meaning.specs.Replaced.{renamed_declarator, Zipped, facts_of}
 use Rattle.dm_meaning.specs.Called.{Called, new_of, gives_value, IsSame, Agrees, DefinitionAgrees, IsCalling}
@@ -111,6 +111,7 @@ pub record Returning (w : ℕ) (tasks : List Task) (kind : CType) (run : Run) : 
   pub locks : List At
   pub is : tasks ≡ hands_back value ∷ []
   pub result : run ≡ done kind (of_value value) locks
+  pub given : lacks_value kind value ≡ false
   pub left : 3 ≤ w
 
 abbrev pub Phase : Called → ℕ → List Task → CType → Run → Type 0
@@ -341,10 +342,10 @@ module _ (change : Called) (calling : IsCalling change) where
 
     -- ---- the end of a frame
 
-    caller_met : (value : Value) (c : Caller) (cs : List Caller) (d : Caller) (ds : List Caller) → CallerAgrees change c d → CallersAgree change cs ds
-        → IsAmong (handed_back other value (d ∷ ds)) (next names change.old other) → Met change w other (handed_back now value (c ∷ cs))
-    caller_met value c cs d ds h k among =
-        one_step (handed_back other value (d ∷ ds)) among (handed_back now value (c ∷ cs)) (inl (
+    caller_resumed : (value : Value) (c : Caller) (cs : List Caller) (d : Caller) (ds : List Caller) → CallerAgrees change c d → CallersAgree change cs ds
+        → IsAmong (gone_back other value d ds) (next names change.old other) → Met change w other (gone_back now value c cs)
+    caller_resumed value c cs d ds h k among =
+        one_step (gone_back other value d ds) among (gone_back now value c cs) (inl (
           two_of_four,
           record {
             standing = refl;
@@ -357,13 +358,23 @@ module _ (change : Called) (calling : IsCalling change) where
           },
         ))
 
+    caller_met : (value : Value) (c : Caller) (cs : List Caller) (d : Caller) (ds : List Caller) → CallerAgrees change c d → CallersAgree change cs ds
+        → IsAmong (handed_back other value (d ∷ ds)) (next names change.old other) → Met change w other (handed_back now value (c ∷ cs))
+    caller_met value c cs d ds h k among =
+        subst (λ kind. Met change w other (if lacks_value kind value then record now { standing = undefined NoValue c.place } else gone_back now value c cs)) (sym h.kind) (by_lack (lacks_value d.kind value) among)
+      where
+        by_lack : (b : Bool) → IsAmong (if b then record other { standing = undefined NoValue d.place } else gone_back other value d ds) (next names change.old other)
+            → Met change w other (if b then record now { standing = undefined NoValue c.place } else gone_back now value c cs)
+        by_lack true l = inl (wrong_step (record other { standing = undefined NoValue d.place }) l NoValue d.place refl)
+        by_lack false l = caller_resumed value c cs d ds h k l
+
     -- the added function goes on with the value of a function that it has called
-    nested_met : (value : Value) (c c' : Caller) (cs : List Caller) (d : Caller) (ds : List Caller) → NestedAgrees change c c' d → CallersAgree change cs ds
-        → IsAmong (handed_back other value (d ∷ ds)) (next names change.old other) → Met change w other (handed_back now value (c ∷ c' ∷ cs))
-    nested_met value c c' cs d ds h k among =
+    nested_resumed : (value : Value) (c c' : Caller) (cs : List Caller) (d : Caller) (ds : List Caller) → NestedAgrees change c c' d → CallersAgree change cs ds → lacks_value c.kind value ≡ false
+        → IsAmong (gone_back other value d ds) (next names change.old other) → Met change w other (gone_back now value c (c' ∷ cs))
+    nested_resumed value c c' cs d ds h k given among =
         let now_run = filled_in c.hole (done c.kind (of_value value) []) in
         let run = filled_in h.inner (done d.kind (of_value value) []) in
-        one_step (handed_back other value (d ∷ ds)) among (handed_back now value (c ∷ c' ∷ cs)) (inr (record {
+        one_step (gone_back other value d ds) among (gone_back now value c (c' ∷ cs)) (inr (record {
           standing = refl;
           objects = h.objects;
           caller = c';
@@ -389,12 +400,23 @@ module _ (change : Called) (calling : IsCalling change) where
             now = now_run;
             is = ap (λ u. evaluates c.place now_run u ∷ c.frame.tasks) h.use_of ∙ ap (λ ts. evaluates c.place now_run returns ∷ ts) h.tasks;
             agrees = filled_agrees change true c.hole h.inner (done c.kind (of_value value) []) (done d.kind (of_value value) []) h.inside (h.kind, refl, λ lock l. l);
-            yields = filled_yields c'.kind c.kind c.hole value h.yields;
+            yields = filled_yields c'.kind c.kind c.hole (done c.kind (of_value value) []) h.yields (refl, value, refl, given);
             left = left_of_four now_run;
           }));
           statics = refl;
           world = ap (λ ns. record { memory = killed ns other.world.memory; input = other.world.input; output = other.world.output }) (numbers_renamed change.rename other.frame.objects);
         }))
+
+    nested_met : (value : Value) (c c' : Caller) (cs : List Caller) (d : Caller) (ds : List Caller) → NestedAgrees change c c' d → CallersAgree change cs ds
+        → IsAmong (handed_back other value (d ∷ ds)) (next names change.old other) → Met change w other (handed_back now value (c ∷ c' ∷ cs))
+    nested_met value c c' cs d ds h k among =
+        subst (λ kind. Met change w other (if lacks_value kind value then record now { standing = undefined NoValue c.place } else gone_back now value c (c' ∷ cs))) (sym h.kind)
+        (by_lack (lacks_value d.kind value) refl among)
+      where
+        by_lack : (b : Bool) → lacks_value d.kind value ≡ b → IsAmong (if b then record other { standing = undefined NoValue d.place } else gone_back other value d ds) (next names change.old other)
+            → Met change w other (if b then record now { standing = undefined NoValue c.place } else gone_back now value c (c' ∷ cs))
+        by_lack true e l = inl (wrong_step (record other { standing = undefined NoValue d.place }) l NoValue d.place refl)
+        by_lack false e l = nested_resumed value c c' cs d ds h k (ap (λ kind. lacks_value kind value) h.kind ∙ e) l
 
     back_met : (value : Value) (cs ds : List Caller) → CallersAgree change cs ds → IsAmong (handed_back other value ds) (next names change.old other) → Met change w other (handed_back now value cs)
     back_met value [] [] h among =
@@ -684,7 +706,7 @@ module _ (change : Called) (calling : IsCalling change) where
       where
         at_end : IsAmong state (task_steps (new_of change) names (in_added (hands_back h.value ∷ [])) (hands_back h.value ∷ [])) → Met change w other state
         at_end (inl e) =
-            subst (Met change w other) (sym e)
+            subst (Met change w other) (sym (e ∙ ap (λ b. if b then record (in_added (hands_back h.value ∷ [])) { standing = undefined NoValue caller.place } else gone_back (in_added (hands_back h.value ∷ [])) h.value caller others) h.given))
             (inr (inr (
               2,
               omega (arith, h.left),
@@ -855,6 +877,7 @@ module _ (change : Called) (calling : IsCalling change) where
           locks = other_locks;
           is = ap (λ r. hands_back (value_of r) ∷ []) yields.2;
           result = ap (λ k. done k other_result other_locks) (sym h.0 ∙ yields.0) ∙ ap (λ r. done caller.kind r other_locks) (sym h.1 ∙ yields.2);
+          given = ap (λ k. lacks_value k yields.1) (sym yields.0) ∙ yields.3;
           left = omega arith;
         }
         by_result (to_do doing other_kind at parts) h = absurd h

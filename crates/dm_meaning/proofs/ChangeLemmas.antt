@@ -1,5 +1,5 @@
 -- What the step of a node changes: nothing in memory, or a part of one object that has been made, which it locks.
-use Rattle.std.specs.Prelude.{◌≡◌, refl, ◌⊎◌, ℕ, Bool, true, false, not, ◌||◌, List, [], ◌∷◌, ◌++◌, Option, Some, None, Result as Outcome, Ok, Err, ℤ, neg_ℤ}
+use Rattle.std.specs.Prelude.{◌≡◌, refl, ◌⊎◌, ℕ, Bool, true, false, not, ◌||◌, if◌then◌else◌, List, [], ◌∷◌, ◌++◌, Option, Some, None, Result as Outcome, Ok, Err, ℤ, neg_ℤ}
 use Rattle.std.proofs.Common.{ap, sym, inl, inr}
 use Rattle.dm_int.specs.declared.Fault.{Fault}
 use Rattle.dm_int.specs.declared.Kind.TheVariants.{Long}
@@ -17,7 +17,7 @@ use Rattle.dm_meaning.specs.Values.{Name, numbered, literal_of, elsewhere, part,
 use Rattle.dm_meaning.specs.Memory.{Memory, Block, look_up, look, lives, may_be_written, reached, written, contents_at, or_unset}
 use Rattle.dm_meaning.specs.Programs.{layout}
 use Rattle.dm_meaning.specs.Causes.{earliest, when, is_unset, is_fixed, is_null, target_of, absence_causes, access_causes, read_causes, store_causes, update_causes, use_causes, follow_causes, moved_pointer, moved_causes, pointer_distance, distance_causes, order_causes}
-use Rattle.dm_meaning.specs.Operations.{Result, of_value, designates, Operand, World, Scene, Did, gives, breaks, ends_with, decided, unless, plain, typed, or_null, or_zero, truth_in, pointer_minus, byte_at, equal_pointers, ordered, equated, update_at, count_at, faulted, on_one, on_two, on_value, on_place, designated, object_named, read_at, followed, member_of, converted, convert_bare, Truth, holds, untold, truth_of, on_truth, signed, on_pointers, on_move, on_plus, pointer_plus, combined, store_at, Made, replace_at, operate}
+use Rattle.dm_meaning.specs.Operations.{Result, of_value, designates, Operand, World, Scene, Did, gives, breaks, ends_with, decided, unless, plain, typed, or_null, or_zero, truth_in, pointer_minus, byte_at, equal_pointers, ordered, equated, update_at, count_at, faulted, on_one, on_two, on_value, on_set, ill, on_place, designated, object_named, read_at, followed, member_of, converted, convert_bare, Truth, holds, untold, truth_of, on_truth, signed, on_pointers, on_move, on_plus, pointer_plus, combined, store_at, Made, replace_at, operate}
 use Rattle.dm_meaning.specs.MoreObjects.{IsMade, IsMadeName}
 use Rattle.dm_meaning.proofs.ExtendLemmas.{nil_left, nil_right, when_false, access_absence}
 
@@ -81,6 +81,14 @@ module _ (scene : Scene) (world : World) (locks : List At) where
   value_changes (of_value v) next h = h v
   value_changes (designates at) next h = tt
 
+  changes_unless_ill : (b : Bool) (did : Did) → DidChanges did → DidChanges (if b then ill else did)
+  changes_unless_ill true did h = tt
+  changes_unless_ill false did h = h
+
+  set_changes : (result : Result) (next : Value → Did) → ((v : Value) → DidChanges (next v)) → DidChanges (on_set result next)
+  set_changes (of_value v) next h = changes_unless_ill (is_unset v) (next v) (h v)
+  set_changes (designates at) next h = tt
+
   place_changes : (result : Result) (next : At → Did) → ((at : At) → DidChanges (next at)) → DidChanges (on_place result next)
   place_changes (of_value v) next h = tt
   place_changes (designates at) next h = h at
@@ -118,12 +126,12 @@ module _ (scene : Scene) (world : World) (locks : List At) where
 
   convert_changes : (kind : CType) (result : Result) → DidChanges (convert_bare world kind result)
   convert_changes void result = unchanged
-  convert_changes (integer kind) result = value_changes result _ (converted_changes (integer kind))
-  convert_changes (pointer target) result = value_changes result _ (converted_changes (pointer target))
-  convert_changes (array element known) result = value_changes result _ (converted_changes (array element known))
-  convert_changes (struct m) result = value_changes result _ (converted_changes (struct m))
-  convert_changes (function_type other parameters) result = value_changes result _ (converted_changes (function_type other parameters))
-  convert_changes (const type) result = value_changes result _ (converted_changes (const type))
+  convert_changes (integer kind) result = set_changes result _ (converted_changes (integer kind))
+  convert_changes (pointer target) result = set_changes result _ (converted_changes (pointer target))
+  convert_changes (array element known) result = set_changes result _ (converted_changes (array element known))
+  convert_changes (struct m) result = set_changes result _ (converted_changes (struct m))
+  convert_changes (function_type other parameters) result = set_changes result _ (converted_changes (function_type other parameters))
+  convert_changes (const type) result = set_changes result _ (converted_changes (const type))
 
   sign_changes : (kind : CType) (sign : Sign) (value : Value) → DidChanges (signed world kind sign value)
   sign_changes kind Not value = truth_changes (truth_of world.memory value) (λ b. plain world (truth_in kind (not b))) (λ b. unchanged)
@@ -214,8 +222,8 @@ module _ (scene : Scene) (world : World) (locks : List At) where
       two_changes operands (λ a b. on_value a.result (λ x. on_value b.result (combined scene world kind a.kind op x)))
       (λ a b. value_changes a.result (λ x. on_value b.result (combined scene world kind a.kind op x)) (λ x. value_changes b.result (combined scene world kind a.kind op x) (combined_changes kind a.kind op x)))
   operate_changes store kind operands =
-      two_changes operands (λ a b. on_place a.result (λ at. on_value b.result (store_at scene world locks kind at)))
-      (λ a b. place_changes a.result (λ at. on_value b.result (store_at scene world locks kind at)) (λ at. value_changes b.result (store_at scene world locks kind at) (store_changes kind at)))
+      two_changes operands (λ a b. on_place a.result (λ at. on_set b.result (store_at scene world locks kind at)))
+      (λ a b. place_changes a.result (λ at. on_set b.result (store_at scene world locks kind at)) (λ at. set_changes b.result (store_at scene world locks kind at) (store_changes kind at)))
   operate_changes (update op works) kind operands =
       two_changes operands (λ a b. on_place a.result (λ at. on_value b.result (update_at scene world locks kind op works at)))
       (λ a b. place_changes a.result (λ at. on_value b.result (update_at scene world locks kind op works at)) (λ at. value_changes b.result (update_at scene world locks kind op works at) (λ v. replace_changes kind at _ _)))

@@ -19,7 +19,7 @@ use Rattle.dm_meaning.specs.Objects.{Layout}
 use Rattle.dm_meaning.specs.Memory.{Memory, Block, look_up, look, changed_block, written, reached_in, value_in, or_unset, contents_at, lives, may_be_written}
 use Rattle.dm_meaning.specs.Programs.{layout}
 use Rattle.dm_meaning.specs.Causes.{earliest, when, is_outside, is_other, is_fixed, is_unset, is_unset_object, absence_causes, access_causes, read_causes, store_causes, update_causes, is_null, use_causes, follow_causes, target_of, path_moved, pointer_along, moved_pointer, moved_causes, distance_in, pointer_distance, distance_causes, in_one_object, order_causes}
-use Rattle.dm_meaning.specs.Operations.{Result, of_value, designates, Operand, World, Scene, Did, gives, unless, plain, typed, faulted, on_one, on_two, on_value, on_place, object_named, designated, read_at, followed, member_of, truth_in, converted, convert_bare, told, truth_of, on_truth, signed, or_null, pointer_plus, or_zero, pointer_minus, byte_in_block, byte_at, equal_pointers, ordered, equated, on_pointers, on_move, on_plus, combined, store_at, Made, made_pointer, updated, counted, move_of, replace_at, operate}
+use Rattle.dm_meaning.specs.Operations.{Result, of_value, designates, Operand, World, Scene, Did, gives, unless, plain, typed, faulted, on_one, on_two, on_value, on_set, ill, on_place, object_named, designated, read_at, followed, member_of, truth_in, converted, convert_bare, told, truth_of, on_truth, signed, or_null, pointer_plus, or_zero, pointer_minus, byte_in_block, byte_at, equal_pointers, ordered, equated, on_pointers, on_move, on_plus, combined, store_at, Made, made_pointer, updated, counted, move_of, replace_at, operate}
 use Rattle.dm_meaning.proofs.OptionLemmas.{mapped_some}
 use Rattle.dm_meaning.specs.Extending.{HasAll, Extends, AreAmong, SameUnlessUndefined}
 
@@ -82,6 +82,14 @@ two_same (a ∷ b ∷ c ∷ rest) next other h = tt
 value_same : (result : Result) (next other : Value → Did) → ((v : Value) → SameUnlessUndefined (next v) (other v)) → SameUnlessUndefined (on_value result next) (on_value result other)
 value_same (of_value v) next other h = h v
 value_same (designates at) next other h = tt
+
+same_unless_ill : (b : Bool) (did other : Did) → SameUnlessUndefined did other → SameUnlessUndefined (if b then ill else did) (if b then ill else other)
+same_unless_ill true did other h = tt
+same_unless_ill false did other h = h
+
+set_same : (result : Result) (next other : Value → Did) → ((v : Value) → SameUnlessUndefined (next v) (other v)) → SameUnlessUndefined (on_set result next) (on_set result other)
+set_same (of_value v) next other h = same_unless_ill (is_unset v) (next v) (other v) (h v)
+set_same (designates at) next other h = tt
 
 place_same : (result : Result) (next other : At → Did) → ((at : At) → SameUnlessUndefined (next at) (other at)) → SameUnlessUndefined (on_place result next) (on_place result other)
 place_same (of_value v) next other h = tt
@@ -252,12 +260,12 @@ module _ (scene : Scene) (world more : World) (extends : Extends more world) (lo
 
   convert_same : (kind : CType) (result : Result) → SameUnlessUndefined (convert_bare world kind result) (convert_bare more kind result)
   convert_same void result = plain_same _
-  convert_same (integer kind) result = value_same result _ _ (converted_same (integer kind))
-  convert_same (pointer target) result = value_same result _ _ (converted_same (pointer target))
-  convert_same (array element known) result = value_same result _ _ (converted_same (array element known))
-  convert_same (struct n) result = value_same result _ _ (converted_same (struct n))
-  convert_same (function_type other parameters) result = value_same result _ _ (converted_same (function_type other parameters))
-  convert_same (const type) result = value_same result _ _ (converted_same (const type))
+  convert_same (integer kind) result = set_same result _ _ (converted_same (integer kind))
+  convert_same (pointer target) result = set_same result _ _ (converted_same (pointer target))
+  convert_same (array element known) result = set_same result _ _ (converted_same (array element known))
+  convert_same (struct n) result = set_same result _ _ (converted_same (struct n))
+  convert_same (function_type other parameters) result = set_same result _ _ (converted_same (function_type other parameters))
+  convert_same (const type) result = set_same result _ _ (converted_same (const type))
 
   -- a truth that is told stays, whatever it decides
   told_same : (causes others : List Cause) (truth : Bool) (next other : Bool → Did) → (causes ≡ [] → others ≡ []) → ((b : Bool) → SameUnlessUndefined (next b) (other b))
@@ -503,7 +511,7 @@ module _ (scene : Scene) (world more : World) (extends : Extends more world) (lo
   operate_same (member n) kind operands = one_same operands _ _ (λ a. member_same n a.result)
   operate_same (unary sign) kind operands = one_same operands _ _ (λ a. value_same a.result _ _ (signed_same kind sign))
   operate_same (binary op) kind operands = two_same operands _ _ (λ a b. value_same a.result _ _ (λ x. value_same b.result _ _ (combined_same kind a.kind op x)))
-  operate_same store kind operands = two_same operands _ _ (λ a b. place_same a.result _ _ (λ at. value_same b.result _ _ (store_at_same kind at)))
+  operate_same store kind operands = two_same operands _ _ (λ a b. place_same a.result _ _ (λ at. set_same b.result _ _ (store_at_same kind at)))
   operate_same (update op works) kind operands =
       two_same operands _ _ (λ a b. place_same a.result _ _ (λ at. value_same b.result _ _ (λ v.
       replace_same kind at (λ w c. updated scene w kind op works c v) (λ c. updated_same kind op works c v) (λ made old. made))))

@@ -1,5 +1,5 @@
 -- A step of a node beside fewer locks is the same step, unless it is undefined beside all of them.
-use Rattle.std.specs.Prelude.{◌≡◌, refl, ◌⊎◌, Bool, List, [], ◌∷◌, ◌++◌}
+use Rattle.std.specs.Prelude.{◌≡◌, refl, ◌⊎◌, Bool, true, false, if◌then◌else◌, List, [], ◌∷◌, ◌++◌}
 use Rattle.std.proofs.Common.{ap, sym, ◌∙◌, inl, inr}
 use Rattle.dm_int.specs.declared.Op.{Op}
 use Rattle.dm_type.specs.CTypes.{CType}
@@ -8,8 +8,8 @@ use Rattle.dm_meaning.specs.declared.cause.Cause.{Cause}
 use Rattle.dm_meaning.specs.Values.{At}
 use Rattle.dm_meaning.specs.Memory.{Memory, contents_at}
 use Rattle.dm_meaning.specs.Programs.{layout}
-use Rattle.dm_meaning.specs.Causes.{read_causes, store_causes, update_causes}
-use Rattle.dm_meaning.specs.Operations.{Result, of_value, designates, Operand, World, Scene, Did, breaks, unless, updated, counted, operate}
+use Rattle.dm_meaning.specs.Causes.{is_unset, read_causes, store_causes, update_causes}
+use Rattle.dm_meaning.specs.Operations.{Result, of_value, designates, Operand, World, Scene, Did, breaks, ill, store_at, unless, updated, counted, operate}
 use Rattle.dm_meaning.specs.Extending.{HasAll, AreAmong}
 use Rattle.dm_meaning.proofs.ExtendLemmas.{read_same, store_same}
 
@@ -54,9 +54,13 @@ module _ (scene : Scene) (world : World) (locks fewer : List At) (among : AreAmo
           (operate scene world fewer store kind (record { kind = a.kind; result = result } ∷ record { kind = b.kind; result = other } ∷ []))
       at_place (of_value value) other = inl refl
       at_place (designates at) (designates other) = inl refl
-      at_place (designates at) (of_value value) =
-          fewer_causes (store_causes (layout scene.program) world.memory locks kind at) (store_causes (layout scene.program) world.memory fewer kind at) _
-          (λ e. store_same (layout scene.program) world.memory world.memory locks fewer kind at (keeps_all world.memory) among e)
+      at_place (designates at) (of_value value) = by_set (is_unset value)
+        where
+          by_set : (b : Bool) → SameDid (if b then ill else store_at scene world locks kind at value) (if b then ill else store_at scene world fewer kind at value)
+          by_set true = inl refl
+          by_set false =
+              fewer_causes (store_causes (layout scene.program) world.memory locks kind at) (store_causes (layout scene.program) world.memory fewer kind at) _
+              (λ e. store_same (layout scene.program) world.memory world.memory locks fewer kind at (keeps_all world.memory) among e)
 
   update_same : (kind : CType) (at : At) → update_causes (layout scene.program) world.memory locks kind at ≡ [] → update_causes (layout scene.program) world.memory fewer kind at ≡ []
   update_same kind at e =

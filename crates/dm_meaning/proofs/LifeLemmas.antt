@@ -22,12 +22,12 @@ use Rattle.dm_meaning.specs.Memory.{Memory, Block, look_up, changed_block, writt
 use Rattle.dm_meaning.specs.Primitives.{Answer, answers, stops, refuses, Prim}
 use Rattle.dm_meaning.specs.Programs.{Program, Definition, layout, declaration_of, definition_of}
 use Rattle.dm_meaning.specs.Causes.{earliest, when, is_unset, is_null, target_of, read_causes, store_causes, update_causes, use_causes, follow_causes, moved_pointer, moved_causes, pointer_distance, distance_causes, order_causes}
-use Rattle.dm_meaning.specs.Operations.{Result, of_value, designates, Operand, World, Scene, Objects, Did, gives, breaks, ends_with, decided, unless, plain, typed, or_null, or_zero, truth_in, pointer_minus, byte_at, equal_pointers, ordered, equated, update_at, count_at, faulted, on_one, on_two, on_value, on_place, designated, object_named, read_at, followed, member_of, converted, convert_bare, Truth, holds, untold, truth_of, on_truth, signed, on_pointers, on_move, on_plus, pointer_plus, combined, store_at, Made, replace_at, operate}
+use Rattle.dm_meaning.specs.Operations.{Result, of_value, designates, Operand, World, Scene, Objects, Did, gives, breaks, ends_with, decided, unless, plain, typed, or_null, or_zero, truth_in, pointer_minus, byte_at, equal_pointers, ordered, equated, update_at, count_at, faulted, on_one, on_two, on_value, on_set, ill, on_place, designated, object_named, read_at, followed, member_of, converted, convert_bare, Truth, holds, untold, truth_of, on_truth, signed, on_pointers, on_move, on_plus, pointer_plus, combined, store_at, Made, replace_at, operate}
 use Rattle.dm_meaning.specs.Running.{Doing, evaluates, gives_truth, gives_value, Run, done, to_do, Runs, no_runs, more_runs, locks_in, locks_in_all, Open, first_open, others_open, open_parts, operands_in, Hole, within, Holes, in_first, in_others}
 use Rattle.dm_meaning.specs.Expressions.{Move, goes, calls, fails, exits, lifted, as_move, by_truth, on_operand, value_of, answered, undefined_called, called, call_step, function_named, nth_run, form_step, node_step, own_or_inner, where_open, moves, moves_in}
 use Rattle.dm_meaning.specs.States.{Use, drops, chooses, selects, repeats, continues, returns, initialises, Task, begins, declares, initials, evaluates as evaluating, again, tests, ends, ends_switch, leaves, skips, hands_back, Caller, State}
 use Rattle.dm_meaning.specs.Statements.{Turned, onward, refused, type_declared, made_from, named_since, declared_in, as_list, on_one_tree, on_first_tree, on_option_tree, on_tree_if, returning, begin_form, begin_tree, begin_statement, unlabelled, begin_declarator, begin_initialiser, by_test, concluded, unfolded, ended, after_break, after_continue}
-use Rattle.dm_meaning.specs.Steps.{given_from, opened, handed_back, is_main, gives_nothing, body_place, no_place, turned, moved, scene_of, expression_steps, task_steps, next, Step}
+use Rattle.dm_meaning.specs.Steps.{given_from, opened, lacks_value, gone_back, handed_back, is_main, gives_nothing, body_place, no_place, turned, moved, scene_of, expression_steps, task_steps, next, Step}
 use Rattle.dm_meaning.specs.Lifetimes.{IsAlive, numbers_of}
 use Rattle.dm_meaning.proofs.AmongLemmas.{among_either, among-map_from}
 use Rattle.dm_meaning.proofs.ExtendLemmas.{look_changed}
@@ -154,6 +154,14 @@ module _ (n : ℕ) where
     value_keeps (of_value v) next h = h v
     value_keeps (designates at) next h = tt
 
+    keeps_unless_ill : (b : Bool) (did : Did) → DidKeeps did → DidKeeps (if b then ill else did)
+    keeps_unless_ill true did h = tt
+    keeps_unless_ill false did h = h
+
+    set_keeps : (result : Result) (next : Value → Did) → ((v : Value) → DidKeeps (next v)) → DidKeeps (on_set result next)
+    set_keeps (of_value v) next h = keeps_unless_ill (is_unset v) (next v) (h v)
+    set_keeps (designates at) next h = tt
+
     place_keeps : (result : Result) (next : At → Did) → ((at : At) → DidKeeps (next at)) → DidKeeps (on_place result next)
     place_keeps (of_value v) next h = tt
     place_keeps (designates at) next h = h at
@@ -191,12 +199,12 @@ module _ (n : ℕ) where
 
     convert_keeps : (kind : CType) (result : Result) → DidKeeps (convert_bare world kind result)
     convert_keeps void result = alive
-    convert_keeps (integer kind) result = value_keeps result _ (converted_keeps (integer kind))
-    convert_keeps (pointer target) result = value_keeps result _ (converted_keeps (pointer target))
-    convert_keeps (array element known) result = value_keeps result _ (converted_keeps (array element known))
-    convert_keeps (struct m) result = value_keeps result _ (converted_keeps (struct m))
-    convert_keeps (function_type other parameters) result = value_keeps result _ (converted_keeps (function_type other parameters))
-    convert_keeps (const type) result = value_keeps result _ (converted_keeps (const type))
+    convert_keeps (integer kind) result = set_keeps result _ (converted_keeps (integer kind))
+    convert_keeps (pointer target) result = set_keeps result _ (converted_keeps (pointer target))
+    convert_keeps (array element known) result = set_keeps result _ (converted_keeps (array element known))
+    convert_keeps (struct m) result = set_keeps result _ (converted_keeps (struct m))
+    convert_keeps (function_type other parameters) result = set_keeps result _ (converted_keeps (function_type other parameters))
+    convert_keeps (const type) result = set_keeps result _ (converted_keeps (const type))
 
     sign_keeps : (kind : CType) (sign : Sign) (value : Value) → DidKeeps (signed world kind sign value)
     sign_keeps kind Not value = truth_keeps (truth_of world.memory value) (λ b. plain world (truth_in kind (not b))) (λ b. alive)
@@ -285,8 +293,8 @@ module _ (n : ℕ) where
         two_keeps operands (λ a b. on_value a.result (λ x. on_value b.result (combined scene world kind a.kind op x)))
         (λ a b. value_keeps a.result (λ x. on_value b.result (combined scene world kind a.kind op x)) (λ x. value_keeps b.result (combined scene world kind a.kind op x) (combined_keeps kind a.kind op x)))
     operate_keeps store kind operands =
-        two_keeps operands (λ a b. on_place a.result (λ at. on_value b.result (store_at scene world locks kind at)))
-        (λ a b. place_keeps a.result (λ at. on_value b.result (store_at scene world locks kind at)) (λ at. value_keeps b.result (store_at scene world locks kind at) (store_keeps kind at)))
+        two_keeps operands (λ a b. on_place a.result (λ at. on_set b.result (store_at scene world locks kind at)))
+        (λ a b. place_keeps a.result (λ at. on_set b.result (store_at scene world locks kind at)) (λ at. set_keeps b.result (store_at scene world locks kind at) (store_keeps kind at)))
     operate_keeps (update op works) kind operands =
         two_keeps operands (λ a b. on_place a.result (λ at. on_value b.result (update_at scene world locks kind op works at)))
         (λ a b. place_keeps a.result (λ at. on_value b.result (update_at scene world locks kind op works at)) (λ at. value_keeps b.result (update_at scene world locks kind op works at) (λ v. replace_keeps kind at _ _)))
@@ -504,7 +512,11 @@ module _ (n : ℕ) (program : Program) (names : ℕ → ℕ) (state : State) (fr
 
   back_keeps : (value : Value) (callers : List Caller) → StateKeeps (handed_back state value callers)
   back_keeps value [] = inr alive
-  back_keeps value (caller ∷ callers) = alive_killed (numbers_of state.frame.objects) state.world.memory n alive
+  back_keeps value (caller ∷ callers) = by_lack (lacks_value caller.kind value)
+    where
+      by_lack : (b : Bool) → StateKeeps (if b then record state { standing = undefined NoValue caller.place } else gone_back state value caller callers)
+      by_lack true = inr alive
+      by_lack false = alive_killed (numbers_of state.frame.objects) state.world.memory n alive
 
   opened_keeps : (rest : List Task) (place : Place) (use_of : Use) (kind : CType) (hole : Hole) (arguments : List Value) (o : Option Definition)
       → StateKeeps (opened program names state rest place use_of kind hole arguments o)

@@ -3,7 +3,8 @@
 use Rattle.std.specs.Prelude.{◌≡◌, refl, ◌⊎◌, ℕ, zero, suc, ◌==◌, Bool, true, false, IsTrue, List, [], ◌∷◌, ◌++◌, map, Option, Some, None, option_map, ℤ, pos, if◌then◌else◌}
 use Rattle.std.proofs.Common.{arith, true≢false, ap, sym, ◌∙◌, subst, inl, inr}
 use Rattle.dm_token.specs.declared.place.Place.{Place}
-use Rattle.dm_type.specs.CTypes.{CType, void}
+use Rattle.dm_type.specs.CTypes.{CType, void, bare}
+use Rattle.dm_tree.specs.Scenes.{is_void}
 use Rattle.dm_tree.specs.declared.unit.Sort.{Sort}
 use Rattle.dm_tree.specs.Trees.{Label, enumerator, object, function, both, either, choose, comma, call, sizeof_tree, Tree, Trees, node, no_trees, more_trees, label_of, kind_of}
 use Rattle.dm_tree.specs.Units.{Declaration}
@@ -19,6 +20,7 @@ use Rattle.dm_meaning.specs.Replaced.{relabelled, Zipped, facts_of}
 use Rattle.dm_meaning.specs.Called.{Called, new_of, gives_value as root_gives_value, is_object, IsSame, AreSame}
 use Rattle.dm_meaning.specs.CalledWith.{IsParameter, Holds, HoldsBelow, IsNamed, Agrees, AllAgree, Passes, PassesAlone, DefinitionAgrees, FunctionsAgree, IsCallingWith}
 use Rattle.dm_meaning.specs.Extending.{AreAmong}
+use Rattle.dm_meaning.specs.Steps.{lacks_value}
 use Rattle.dm_meaning.proofs.AmongLemmas.{among_left, among_right, among_either, among-map, among-map_from}
 use Rattle.dm_meaning.proofs.MoveLemmas.{IsToDo, lifted_again, inner_steps, open_steps, move_lifts, locks_lift}
 use Rattle.dm_meaning.proofs.OptionLemmas.{none_is_some}
@@ -26,8 +28,8 @@ use Rattle.dm_meaning.proofs.FewerLemmas.{SameDid, operate_fewer}
 use Rattle.dm_meaning.proofs.ConstantLemmas.{kind_begun, own_step}
 use Rattle.dm_meaning.proofs.RunLemmas.{redone, same_renamed, OptionAgrees}
 use Rattle.dm_meaning.proofs.GrowLemmas.{equal_is, differ_is}
-use Rattle.dm_meaning.proofs.SetLemmas.{IsSetResult, Sets, HoleSets, MoveSets, filled_sets, begun_sets, move_sets_on}
-use Rattle.dm_meaning.proofs.CallRunLemmas.{may_stand, MoveAgrees, lifted_agrees, open_of_relabelled, open_parts_redone, function_in_redone, if_agrees, stands_inside, relabelled_gives, among_nothing, among_joined, stands_always, truth_stands}
+use Rattle.dm_meaning.proofs.YieldLemmas.{Yields, HoleYields, MoveYields, filled_yields, begun_yields, given_set, move_yields_on}
+use Rattle.dm_meaning.proofs.CallRunLemmas.{may_stand, open_of_relabelled, open_parts_redone, function_in_redone, if_agrees, stands_inside, relabelled_gives, among_nothing, among_joined, stands_always, truth_stands}
 
 -- ---- the argument in the expression
 
@@ -97,6 +99,7 @@ pub record IsPassed (change : Called) (p : ℕ) (inside : Bool) (doing : Doing) 
   pub is : doing ≡ evaluates call
   pub typed : kind ≡ kind_of tree
   pub holds : Holds change p change.body tree argument
+  pub solid : is_void (bare (kind_of argument)) ≡ false
   pub stands : other ≡ filled_in (hole_of change p change.body tree argument holds) inner
 
 -- likewise where a part of the argument is left out
@@ -107,6 +110,7 @@ pub record IsPassedHole (change : Called) (p : ℕ) (inside : Bool) (doing : Doi
   pub is : doing ≡ evaluates call
   pub typed : kind ≡ kind_of tree
   pub holds : Holds change p change.body tree argument
+  pub solid : is_void (bare (kind_of argument)) ≡ false
   pub stands : other ≡ hole_in (hole_of change p change.body tree argument holds) inner
 
 -- the added function is named
@@ -138,32 +142,62 @@ abbrev mutual
 
   pub PassesRunAlone : Called → ℕ → Bool → CType → Runs → Run → Type 0
   PassesRunAlone change p inside kind no_runs inner = ⊥
-  PassesRunAlone change p inside kind (more_runs first no_runs) inner = Sets kind first × RunAgrees change p inside first inner
+  PassesRunAlone change p inside kind (more_runs first no_runs) inner = Yields kind first × RunAgrees change p inside first inner
   PassesRunAlone change p inside kind (more_runs first (more_runs second rest)) inner = ⊥
 
 abbrev mutual
-  pub HoleAgrees : Called → ℕ → Bool → Hole → Hole → Type 0
-  HoleAgrees change p inside here here = Unit {0}
-  HoleAgrees change p inside (within doing kind place holes) (within other other_kind other_place others) =
-      ((doing ≡ redone change.rename other) × (kind ≡ other_kind) × (may_stand inside other ≡ true) × HolesAgree change p inside holes others)
-      ⊎ ((inner : Hole) × (passed : IsPassedHole change p inside doing kind (within other other_kind other_place others) inner) × PassesHole change p inside (kind_of passed.argument) holes inner)
-  HoleAgrees change p inside here (within other other_kind other_place others) = ⊥
-  HoleAgrees change p inside (within doing kind place holes) here = ⊥
+  -- a value of the first type will stand there
+  pub HoleAgrees : Called → ℕ → Bool → CType → Hole → Hole → Type 0
+  HoleAgrees change p inside filler here here = Unit {0}
+  HoleAgrees change p inside filler (within doing kind place holes) (within other other_kind other_place others) =
+      ((doing ≡ redone change.rename other) × (kind ≡ other_kind) × (may_stand inside other ≡ true) × HolesAgree change p inside filler holes others)
+      ⊎ ((inner : Hole) × (passed : IsPassedHole change p inside doing kind (within other other_kind other_place others) inner) × PassesHole change p inside filler (kind_of passed.argument) holes inner)
+  HoleAgrees change p inside filler here (within other other_kind other_place others) = ⊥
+  HoleAgrees change p inside filler (within doing kind place holes) here = ⊥
 
-  pub HolesAgree : Called → ℕ → Bool → Holes → Holes → Type 0
-  HolesAgree change p inside (in_first hole rest) (in_first other others) = HoleAgrees change p inside hole other × RunsAgree change p inside rest others
-  HolesAgree change p inside (in_others first holes) (in_others other others) = RunAgrees change p inside first other × HolesAgree change p inside holes others
-  HolesAgree change p inside (in_first hole rest) (in_others other others) = ⊥
-  HolesAgree change p inside (in_others first holes) (in_first other others) = ⊥
+  pub HolesAgree : Called → ℕ → Bool → CType → Holes → Holes → Type 0
+  HolesAgree change p inside filler (in_first hole rest) (in_first other others) = HoleAgrees change p inside filler hole other × RunsAgree change p inside rest others
+  HolesAgree change p inside filler (in_others first holes) (in_others other others) = RunAgrees change p inside first other × HolesAgree change p inside filler holes others
+  HolesAgree change p inside filler (in_first hole rest) (in_others other others) = ⊥
+  HolesAgree change p inside filler (in_others first holes) (in_first other others) = ⊥
 
-  pub PassesHole : Called → ℕ → Bool → CType → Holes → Hole → Type 0
-  PassesHole change p inside kind (in_first hole rest) inner = ⊥
-  PassesHole change p inside kind (in_others named holes) inner = IsNamedRun change named × PassesHoleAlone change p inside kind holes inner
+  pub PassesHole : Called → ℕ → Bool → CType → CType → Holes → Hole → Type 0
+  PassesHole change p inside filler kind (in_first hole rest) inner = ⊥
+  PassesHole change p inside filler kind (in_others named holes) inner = IsNamedRun change named × PassesHoleAlone change p inside filler kind holes inner
 
-  pub PassesHoleAlone : Called → ℕ → Bool → CType → Holes → Hole → Type 0
-  PassesHoleAlone change p inside kind (in_first hole no_runs) inner = HoleSets kind hole × HoleAgrees change p inside hole inner
-  PassesHoleAlone change p inside kind (in_first hole (more_runs second rest)) inner = ⊥
-  PassesHoleAlone change p inside kind (in_others first holes) inner = ⊥
+  pub PassesHoleAlone : Called → ℕ → Bool → CType → CType → Holes → Hole → Type 0
+  PassesHoleAlone change p inside filler kind (in_first hole no_runs) inner = HoleYields kind filler hole × HoleAgrees change p inside filler hole inner
+  PassesHoleAlone change p inside filler kind (in_first hole (more_runs second rest)) inner = ⊥
+  PassesHoleAlone change p inside filler kind (in_others first holes) inner = ⊥
+
+-- a step and another one come to the same, unless the other is undefined
+abbrev pub MoveAgrees : {T H U G : Type 0} → (ℕ → ℕ) → (T → U → Type 0) → (CType → H → G → Type 0) → Move T H → Move U G → Type 0
+MoveAgrees rename R S m (fails cause place) = Unit {0}
+MoveAgrees rename R S (goes world t) (goes other u) = (world ≡ other) × R t u
+MoveAgrees rename R S (calls f arguments kind h) (calls g others other g_hole) = (f ≡ rename g) × (arguments ≡ others) × (kind ≡ other) × S kind h g_hole
+MoveAgrees rename R S (exits status) (exits other) = status ≡ other
+MoveAgrees rename R S m n = ⊥
+
+pub lifted_agrees : {T H U G T' H' U' G' : Type 0} (rename : ℕ → ℕ) (R : T → U → Type 0) (S : CType → H → G → Type 0) (R' : T' → U' → Type 0) (S' : CType → H' → G' → Type 0)
+    (f : T → T') (g : H → H') (f' : U → U') (g' : G → G')
+    → ((t : T) (u : U) → R t u → R' (f t) (f' u)) → ((type : CType) (h : H) (k : G) → S type h k → S' type (g h) (g' k))
+    → (m : Move T H) (n : Move U G) → MoveAgrees rename R S m n → MoveAgrees rename R' S' (lifted f g m) (lifted f' g' n)
+lifted_agrees rename R S R' S' f g f' g' p q (goes world t) (goes other u) h = (h.0, p t u h.1)
+lifted_agrees rename R S R' S' f g f' g' p q (goes world t) (calls d others other b) h = absurd h
+lifted_agrees rename R S R' S' f g f' g' p q (goes world t) (fails other_cause at) h = tt
+lifted_agrees rename R S R' S' f g f' g' p q (goes world t) (exits other) h = absurd h
+lifted_agrees rename R S R' S' f g f' g' p q (calls e arguments kind a) (goes other u) h = absurd h
+lifted_agrees rename R S R' S' f g f' g' p q (calls e arguments kind a) (calls d others other b) h = (h.0, h.1, h.2, q kind a b h.3)
+lifted_agrees rename R S R' S' f g f' g' p q (calls e arguments kind a) (fails other_cause at) h = tt
+lifted_agrees rename R S R' S' f g f' g' p q (calls e arguments kind a) (exits other) h = absurd h
+lifted_agrees rename R S R' S' f g f' g' p q (fails cause place) (goes other u) h = absurd h
+lifted_agrees rename R S R' S' f g f' g' p q (fails cause place) (calls d others other b) h = absurd h
+lifted_agrees rename R S R' S' f g f' g' p q (fails cause place) (fails other_cause at) h = tt
+lifted_agrees rename R S R' S' f g f' g' p q (fails cause place) (exits other) h = absurd h
+lifted_agrees rename R S R' S' f g f' g' p q (exits status) (goes other u) h = absurd h
+lifted_agrees rename R S R' S' f g f' g' p q (exits status) (calls d others other b) h = absurd h
+lifted_agrees rename R S R' S' f g f' g' p q (exits status) (fails other_cause at) h = tt
+lifted_agrees rename R S R' S' f g f' g' p q (exits status) (exits other) h = h
 
 -- a tree that stands for the expression with an argument agrees with it, whatever its form
 run_passes : (change : Called) (p : ℕ) (inside : Bool) (doing : Doing) (kind : CType) (place : Place) (parts : Runs) (other inner : Run) → IsToDo other
@@ -179,11 +213,11 @@ hole_within : (change : Called) (p : ℕ) (tree other argument : Tree) (h : Hold
 unfolding IsWithin
 hole_within change p (node label kind spans parts) (node other other_kind other_spans others) argument h inner = tt
 
-hole_passes : (change : Called) (p : ℕ) (inside : Bool) (doing : Doing) (kind : CType) (place : Place) (holes : Holes) (other inner : Hole) → IsWithin other
-    → (passed : IsPassedHole change p inside doing kind other inner) → PassesHole change p inside (kind_of passed.argument) holes inner → HoleAgrees change p inside (within doing kind place holes) other
+hole_passes : (change : Called) (p : ℕ) (inside : Bool) (filler : CType) (doing : Doing) (kind : CType) (place : Place) (holes : Holes) (other inner : Hole) → IsWithin other
+    → (passed : IsPassedHole change p inside doing kind other inner) → PassesHole change p inside filler (kind_of passed.argument) holes inner → HoleAgrees change p inside filler (within doing kind place holes) other
 unfolding IsWithin
-hole_passes change p inside doing kind place holes here inner e h k = absurd e
-hole_passes change p inside doing kind place holes (within other other_kind other_place others) inner e h k = inr (inner, h, k)
+hole_passes change p inside filler doing kind place holes here inner e h k = absurd e
+hole_passes change p inside filler doing kind place holes (within other other_kind other_place others) inner e h k = inr (inner, h, k)
 
 -- among agreeing definitions that of a function agrees
 zipped_definition : (change : Called) (p : ℕ) → ((c d : ℕ) → change.rename c ≡ change.rename d → c ≡ d) → (fs gs : List Definition) → Zipped (DefinitionAgrees change p) fs gs → (d : ℕ)
@@ -249,6 +283,7 @@ mutual
           is = ap evaluates h.1.is;
           typed = h.1.typed;
           holds = h.1.holds;
+          solid = h.1.solid;
           stands = begun_hole change p change.body (node other other_kind other_spans others) h.0 h.1.holds;
         },
         begun_passes change p parts h.0 h.2,
@@ -267,7 +302,7 @@ mutual
   begun_passes_alone : (change : Called) (p : ℕ) (parts : Trees) (argument : Tree) → PassesAlone change p parts argument → PassesRunAlone change p false (kind_of argument) (all_begun parts) (begun argument)
   begun_passes_alone change p no_trees argument h = absurd h
   begun_passes_alone change p (more_trees first no_trees) argument h =
-      (subst (λ kind. Sets kind (begun first)) (agreeing_kind change p first argument h.1) (begun_sets first h.0), begun_agrees change p first argument h.1)
+      (subst (λ kind. Yields kind (begun first)) (agreeing_kind change p first argument h.1) (begun_yields first h.0), begun_agrees change p first argument h.1)
   begun_passes_alone change p (more_trees first (more_trees second rest)) argument h = absurd h
 
 mutual
@@ -387,13 +422,14 @@ mutual
   all_opened_twice opens (in_others first holes) inner h k = all_opened_twice (others_open opens) holes inner h k
 
 mutual
-  pub filled_agrees : (change : Called) (p : ℕ) (inside : Bool) (hole other : Hole) (run other_run : Run) → HoleAgrees change p inside hole other → RunAgrees change p inside run other_run → RunAgrees change p inside (filled_in hole run) (filled_in other other_run)
-  filled_agrees change p inside here here run other_run h k = k
-  filled_agrees change p inside here (within other other_kind other_place others) run other_run h k = absurd h
-  filled_agrees change p inside (within doing kind place holes) here run other_run h k = absurd h
-  filled_agrees change p inside (within doing kind place holes) (within other other_kind other_place others) run other_run (inl h) k =
-      inl (h.0, h.1, h.2, all_filled_agree change p inside holes others run other_run h.3 k)
-  filled_agrees change p inside (within doing kind place holes) (within other other_kind other_place others) run other_run (inr h) k =
+  pub filled_agrees : (change : Called) (p : ℕ) (inside : Bool) (filler : CType) (hole other : Hole) (run other_run : Run) → HoleAgrees change p inside filler hole other → Yields filler run → RunAgrees change p inside run other_run
+      → RunAgrees change p inside (filled_in hole run) (filled_in other other_run)
+  filled_agrees change p inside filler here here run other_run h y k = k
+  filled_agrees change p inside filler here (within other other_kind other_place others) run other_run h y k = absurd h
+  filled_agrees change p inside filler (within doing kind place holes) here run other_run h y k = absurd h
+  filled_agrees change p inside filler (within doing kind place holes) (within other other_kind other_place others) run other_run (inl h) y k =
+      inl (h.0, h.1, h.2, all_filled_agree change p inside filler holes others run other_run h.3 y k)
+  filled_agrees change p inside filler (within doing kind place holes) (within other other_kind other_place others) run other_run (inr h) y k =
       inr (
         filled_in h.0 other_run,
         record {
@@ -403,27 +439,30 @@ mutual
           is = h.1.is;
           typed = h.1.typed;
           holds = h.1.holds;
+          solid = h.1.solid;
           stands = ap (λ hole. filled_in hole other_run) h.1.stands ∙ filled_twice (hole_of change p change.body h.1.tree h.1.argument h.1.holds) h.0 other_run;
         },
-        filled_passes change p inside (kind_of h.1.argument) holes h.0 run other_run h.2 k,
+        filled_passes change p inside filler (kind_of h.1.argument) holes h.0 run other_run h.2 y k,
       )
 
-  pub all_filled_agree : (change : Called) (p : ℕ) (inside : Bool) (holes others : Holes) (run other_run : Run) → HolesAgree change p inside holes others → RunAgrees change p inside run other_run → RunsAgree change p inside (all_filled_in holes run) (all_filled_in others other_run)
-  all_filled_agree change p inside (in_first hole rest) (in_first other others) run other_run h k = (filled_agrees change p inside hole other run other_run h.0 k, h.1)
-  all_filled_agree change p inside (in_others first holes) (in_others other others) run other_run h k = (h.0, all_filled_agree change p inside holes others run other_run h.1 k)
-  all_filled_agree change p inside (in_first hole rest) (in_others other others) run other_run h k = absurd h
-  all_filled_agree change p inside (in_others first holes) (in_first other others) run other_run h k = absurd h
+  pub all_filled_agree : (change : Called) (p : ℕ) (inside : Bool) (filler : CType) (holes others : Holes) (run other_run : Run) → HolesAgree change p inside filler holes others → Yields filler run → RunAgrees change p inside run other_run
+      → RunsAgree change p inside (all_filled_in holes run) (all_filled_in others other_run)
+  all_filled_agree change p inside filler (in_first hole rest) (in_first other others) run other_run h y k = (filled_agrees change p inside filler hole other run other_run h.0 y k, h.1)
+  all_filled_agree change p inside filler (in_others first holes) (in_others other others) run other_run h y k = (h.0, all_filled_agree change p inside filler holes others run other_run h.1 y k)
+  all_filled_agree change p inside filler (in_first hole rest) (in_others other others) run other_run h y k = absurd h
+  all_filled_agree change p inside filler (in_others first holes) (in_first other others) run other_run h y k = absurd h
 
-  filled_passes : (change : Called) (p : ℕ) (inside : Bool) (kind : CType) (holes : Holes) (inner : Hole) (run other_run : Run) → PassesHole change p inside kind holes inner → RunAgrees change p inside run other_run
-      → PassesRun change p inside kind (all_filled_in holes run) (filled_in inner other_run)
-  filled_passes change p inside kind (in_first hole rest) inner run other_run h k = absurd h
-  filled_passes change p inside kind (in_others named holes) inner run other_run h k = (h.0, filled_passes_alone change p inside kind holes inner run other_run h.1 k)
+  filled_passes : (change : Called) (p : ℕ) (inside : Bool) (filler kind : CType) (holes : Holes) (inner : Hole) (run other_run : Run) → PassesHole change p inside filler kind holes inner → Yields filler run
+      → RunAgrees change p inside run other_run → PassesRun change p inside kind (all_filled_in holes run) (filled_in inner other_run)
+  filled_passes change p inside filler kind (in_first hole rest) inner run other_run h y k = absurd h
+  filled_passes change p inside filler kind (in_others named holes) inner run other_run h y k = (h.0, filled_passes_alone change p inside filler kind holes inner run other_run h.1 y k)
 
-  filled_passes_alone : (change : Called) (p : ℕ) (inside : Bool) (kind : CType) (holes : Holes) (inner : Hole) (run other_run : Run) → PassesHoleAlone change p inside kind holes inner → RunAgrees change p inside run other_run
-      → PassesRunAlone change p inside kind (all_filled_in holes run) (filled_in inner other_run)
-  filled_passes_alone change p inside kind (in_first hole no_runs) inner run other_run h k = (filled_sets kind hole run h.0, filled_agrees change p inside hole inner run other_run h.1 k)
-  filled_passes_alone change p inside kind (in_first hole (more_runs second rest)) inner run other_run h k = absurd h
-  filled_passes_alone change p inside kind (in_others first holes) inner run other_run h k = absurd h
+  filled_passes_alone : (change : Called) (p : ℕ) (inside : Bool) (filler kind : CType) (holes : Holes) (inner : Hole) (run other_run : Run) → PassesHoleAlone change p inside filler kind holes inner → Yields filler run
+      → RunAgrees change p inside run other_run → PassesRunAlone change p inside kind (all_filled_in holes run) (filled_in inner other_run)
+  filled_passes_alone change p inside filler kind (in_first hole no_runs) inner run other_run h y k =
+      (filled_yields kind filler hole run h.0 y, filled_agrees change p inside filler hole inner run other_run h.1 y k)
+  filled_passes_alone change p inside filler kind (in_first hole (more_runs second rest)) inner run other_run h y k = absurd h
+  filled_passes_alone change p inside filler kind (in_others first holes) inner run other_run h y k = absurd h
 
 -- ---- the step of a node
 
@@ -479,16 +518,16 @@ pub record Entered (change : Called) (p : ℕ) (value : Value) (kind : CType) (r
   pub set : is_unset value ≡ false
 
 -- two facts on steps in one
-both_agree : {T H U G : Type 0} (rename : ℕ → ℕ) (R R' : T → U → Type 0) (S S' : H → G → Type 0) (Q : T → Type 0) (P : H → Type 0)
-    → ((t : T) (u : U) → Q t → R t u → R' t u) → ((h : H) (k : G) → P h → S h k → S' h k) → (m : Move T H) (n : Move U G)
-    → ((world : World) (t : T) → m ≡ goes world t → Q t) → ((f : ℕ) (arguments : List Value) (kind : CType) (h : H) → m ≡ calls f arguments kind h → P h)
+both_agree : {T H U G : Type 0} (rename : ℕ → ℕ) (R R' : T → U → Type 0) (S S' : CType → H → G → Type 0) (Q : T → Type 0) (P : CType → H → Type 0)
+    → ((t : T) (u : U) → Q t → R t u → R' t u) → ((type : CType) (h : H) (k : G) → P type h → S type h k → S' type h k) → (m : Move T H) (n : Move U G)
+    → ((world : World) (t : T) → m ≡ goes world t → Q t) → ((f : ℕ) (arguments : List Value) (kind : CType) (h : H) → m ≡ calls f arguments kind h → P kind h)
     → MoveAgrees rename R S m n → MoveAgrees rename R' S' m n
 both_agree rename R R' S S' Q P f g (goes world t) (goes other u) q k h = (h.0, f t u (q world t refl) h.1)
 both_agree rename R R' S S' Q P f g (goes world t) (calls d others other b) q k h = absurd h
 both_agree rename R R' S S' Q P f g (goes world t) (fails other_cause at) q k h = tt
 both_agree rename R R' S S' Q P f g (goes world t) (exits other) q k h = absurd h
 both_agree rename R R' S S' Q P f g (calls e arguments kind a) (goes other u) q k h = absurd h
-both_agree rename R R' S S' Q P f g (calls e arguments kind a) (calls d others other b) q k h = (h.0, h.1, h.2, g a b (k e arguments kind a refl) h.3)
+both_agree rename R R' S S' Q P f g (calls e arguments kind a) (calls d others other b) q k h = (h.0, h.1, h.2, g kind a b (k e arguments kind a refl) h.3)
 both_agree rename R R' S S' Q P f g (calls e arguments kind a) (fails other_cause at) q k h = tt
 both_agree rename R R' S S' Q P f g (calls e arguments kind a) (exits other) q k h = absurd h
 both_agree rename R R' S S' Q P f g (fails cause place) (goes other u) q k h = absurd h
@@ -501,21 +540,21 @@ both_agree rename R R' S S' Q P f g (exits status) (fails other_cause at) q k h 
 both_agree rename R R' S S' Q P f g (exits status) (exits other) q k h = h
 
 -- less on steps
-pub weakened : {T H U G : Type 0} (rename : ℕ → ℕ) (R R' : T → U → Type 0) (S S' : H → G → Type 0) → ((t : T) (u : U) → R t u → R' t u) → ((h : H) (k : G) → S h k → S' h k) → (m : Move T H) (n : Move U G)
+pub weakened : {T H U G : Type 0} (rename : ℕ → ℕ) (R R' : T → U → Type 0) (S S' : CType → H → G → Type 0) → ((t : T) (u : U) → R t u → R' t u) → ((type : CType) (h : H) (k : G) → S type h k → S' type h k) → (m : Move T H) (n : Move U G)
     → MoveAgrees rename R S m n → MoveAgrees rename R' S' m n
-weakened rename R R' S S' f g m n h = both_agree rename R R' S S' (λ t. Unit {0}) (λ k. Unit {0}) (λ t u q r. f t u r) (λ a b q r. g a b r) m n (λ world t e. tt) (λ d arguments kind k e. tt) h
+weakened rename R R' S S' f g m n h = both_agree rename R R' S S' (λ t. Unit {0}) (λ type k. Unit {0}) (λ t u q r. f t u r) (λ type a b q r. g type a b r) m n (λ world t e. tt) (λ d arguments kind k e. tt) h
 
 -- the first of two cases of which the second can't be
 pub only_left : {A B : Type 0} → A ⊎ ((true ≡ false) × B) → A
 only_left (inl a) = a
 only_left (inr (e, b)) = absurd (true≢false e)
 
--- what steps come to that set a value
-goes_sets : (kind : CType) (m : Move Run Hole) → MoveSets kind m → (world : World) (t : Run) → m ≡ goes world t → Sets kind t
-goes_sets kind m h world t e = subst (MoveSets kind) e h
+-- what steps come to that give a value
+goes_yields : (kind : CType) (m : Move Run Hole) → MoveYields kind m → (world : World) (t : Run) → m ≡ goes world t → Yields kind t
+goes_yields kind m h world t e = subst (MoveYields kind) e h
 
-calls_sets : (kind : CType) (m : Move Run Hole) → MoveSets kind m → (f : ℕ) (arguments : List Value) (called_kind : CType) (hole : Hole) → m ≡ calls f arguments called_kind hole → HoleSets kind hole
-calls_sets kind m h f arguments called_kind hole e = subst (MoveSets kind) e h
+calls_yields : (kind : CType) (m : Move Run Hole) → MoveYields kind m → (f : ℕ) (arguments : List Value) (called_kind : CType) (hole : Hole) → m ≡ calls f arguments called_kind hole → HoleYields kind called_kind hole
+calls_yields kind m h f arguments called_kind hole e = subst (MoveYields kind) e h
 
 -- A step of the new program beside its own locks and objects, and one of the old program beside at least these locks; in the added function
 -- the objects may be others.
@@ -615,12 +654,12 @@ module _ (change : Called) (p : ℕ) (calling : IsCallingWith change p) (inside 
   -- The added function is called: in the old program its expression stands in this place, with the value of the argument.
   abbrev Entering : Run → Move Run Hole → Type 0
   Entering other m =
-      (value : Value) × (kind : CType) × (run : Run) × (hole other_hole : Hole) × (m ≡ calls change.added.function (value ∷ []) kind hole) × HoleAgrees change p inside hole other_hole × IsOpen other_hole
+      (value : Value) × (kind : CType) × (run : Run) × (hole other_hole : Hole) × (m ≡ calls change.added.function (value ∷ []) kind hole) × HoleAgrees change p inside kind hole other_hole × IsOpen other_hole
       × (other ≡ filled_in other_hole run) × Entered change p value kind run
 
   abbrev EnteringIn : Open → Runs → Move Runs Holes → Type 0
   EnteringIn opens other_parts m =
-      (value : Value) × (kind : CType) × (run : Run) × (holes other_holes : Holes) × (m ≡ calls change.added.function (value ∷ []) kind holes) × HolesAgree change p inside holes other_holes × AreOpen opens other_holes
+      (value : Value) × (kind : CType) × (run : Run) × (holes other_holes : Holes) × (m ≡ calls change.added.function (value ∷ []) kind holes) × HolesAgree change p inside kind holes other_holes × AreOpen opens other_holes
       × (other_parts ≡ all_filled_in other_holes run) × Entered change p value kind run
 
   -- a step of the new tree is met by a step of the old one, or calls the added function
@@ -659,7 +698,7 @@ module _ (change : Called) (p : ℕ) (calling : IsCallingWith change p) (inside 
             subst (λ y. RunMoveAgrees change p inside y (lifted (to_do doing kind at) (within doing kind at) n)) (sym f)
                 (lifted_agrees change.rename (RunsAgree change p inside) (HolesAgree change p inside) (RunAgrees change p inside) (HoleAgrees change p inside)
                 (to_do (redone change.rename doing) kind place) (within (redone change.rename doing) kind place) (to_do doing kind at) (within doing kind at)
-                (λ t u r. inl (refl, refl, stands, r)) (λ a b r. inl (refl, refl, stands, r)) x n agrees),
+                (λ t u r. inl (refl, refl, stands, r)) (λ type a b r. inl (refl, refl, stands, r)) x n agrees),
           )
       lifted_match x f (inr (outside, (value, own, run, holes, other_holes, g, agrees, opened, there, entered))) =
           inr (
@@ -704,7 +743,7 @@ module _ (change : Called) (p : ℕ) (calling : IsCallingWith change p) (inside 
   pub record Argument (kind : CType) (parts : Runs) (inner : Run) : Type 0 where
     pub first : Run
     pub is : parts ≡ more_runs first no_runs
-    pub sets : Sets kind first
+    pub yields : Yields kind first
     pub agrees : RunAgrees change p inside first inner
     pub steps : (m : Move Run Hole) → IsAmong m (moves new_scene world fewer first) → Matched inner m
 
@@ -713,7 +752,7 @@ module _ (change : Called) (p : ℕ) (calling : IsCallingWith change p) (inside 
     pub named_place : Place
     pub first : Run
     pub is : parts ≡ more_runs (named_run named_kind named_place) (more_runs first no_runs)
-    pub sets : Sets kind first
+    pub yields : Yields kind first
     pub agrees : RunAgrees change p inside first inner
     pub steps : (m : Move Run Hole) → IsAmong m (moves new_scene world fewer first) → Matched inner m
 
@@ -723,7 +762,7 @@ module _ (change : Called) (p : ℕ) (calling : IsCallingWith change p) (inside 
     named_place = h.place;
     first = a.first;
     is = ap (λ run. more_runs run rest) h.is ∙ ap (more_runs (named_run h.kind h.place)) a.is;
-    sets = a.sets;
+    yields = a.yields;
     agrees = a.agrees;
     steps = a.steps;
   }
@@ -770,37 +809,37 @@ module _ (change : Called) (p : ℕ) (calling : IsCallingWith change p) (inside 
         )
 
     -- a step of the argument
-    run_in_call : (first t : Run) → Sets (kind_of passed.argument) first → RunAgrees change p inside first t → RunAgrees change p inside (calling_run first) (filled_in outer t)
+    run_in_call : (first t : Run) → Yields (kind_of passed.argument) first → RunAgrees change p inside first t → RunAgrees change p inside (calling_run first) (filled_in outer t)
     run_in_call first t s r =
         run_passes change p inside (evaluates call) kind place (more_runs (named_run named_kind named_place) (more_runs first no_runs)) (filled_in outer t) t
         (hole_to_do change p change.body passed.tree passed.argument passed.holds t)
-        (record { outside = passed.outside; tree = passed.tree; argument = passed.argument; is = refl; typed = passed.typed; holds = passed.holds; stands = refl })
+        (record { outside = passed.outside; tree = passed.tree; argument = passed.argument; is = refl; typed = passed.typed; holds = passed.holds; solid = passed.solid; stands = refl })
         (record { kind = named_kind; place = named_place; is = refl }, (s, r))
 
-    hole_in_call : (first t : Hole) → HoleSets (kind_of passed.argument) first → HoleAgrees change p inside first t → HoleAgrees change p inside (calling_hole first) (hole_in outer t)
-    hole_in_call first t s r =
-        hole_passes change p inside (evaluates call) kind place (in_others (named_run named_kind named_place) (in_first first no_runs)) (hole_in outer t) t
+    hole_in_call : (filler : CType) (first t : Hole) → HoleYields (kind_of passed.argument) filler first → HoleAgrees change p inside filler first t → HoleAgrees change p inside filler (calling_hole first) (hole_in outer t)
+    hole_in_call filler first t s r =
+        hole_passes change p inside filler (evaluates call) kind place (in_others (named_run named_kind named_place) (in_first first no_runs)) (hole_in outer t) t
         (hole_within change p change.body passed.tree passed.argument passed.holds t)
-        (record { outside = passed.outside; tree = passed.tree; argument = passed.argument; is = refl; typed = passed.typed; holds = passed.holds; stands = refl })
+        (record { outside = passed.outside; tree = passed.tree; argument = passed.argument; is = refl; typed = passed.typed; holds = passed.holds; solid = passed.solid; stands = refl })
         (record { kind = named_kind; place = named_place; is = refl }, (s, r))
 
-    argument_step : (m x : Move Run Hole) → m ≡ lifted calling_run calling_hole x → MoveSets (kind_of passed.argument) x → Matched inner x → Matched other m
-    argument_step m x e sets (inl (n, among_moves, agrees)) =
+    argument_step : (m x : Move Run Hole) → m ≡ lifted calling_run calling_hole x → MoveYields (kind_of passed.argument) x → Matched inner x → Matched other m
+    argument_step m x e yields (inl (n, among_moves, agrees)) =
         let old_move = lifted (filled_in outer) (hole_in outer) n in
-        let sets_too : MoveAgrees change.rename (λ t u. Sets (kind_of passed.argument) t × RunAgrees change p inside t u) (λ h k. HoleSets (kind_of passed.argument) h × HoleAgrees change p inside h k) x n =
-        both_agree change.rename (RunAgrees change p inside) (λ t u. Sets (kind_of passed.argument) t × RunAgrees change p inside t u) (HoleAgrees change p inside) (λ h k. HoleSets (kind_of passed.argument) h × HoleAgrees change p inside h k)
-        (Sets (kind_of passed.argument)) (HoleSets (kind_of passed.argument)) (λ t u s r. (s, r)) (λ h k s r. (s, r)) x n
-        (goes_sets (kind_of passed.argument) x sets) (calls_sets (kind_of passed.argument) x sets) agrees in
+        let both_facts : MoveAgrees change.rename (λ t u. Yields (kind_of passed.argument) t × RunAgrees change p inside t u) (λ type h k. HoleYields (kind_of passed.argument) type h × HoleAgrees change p inside type h k) x n =
+        both_agree change.rename (RunAgrees change p inside) (λ t u. Yields (kind_of passed.argument) t × RunAgrees change p inside t u) (HoleAgrees change p inside) (λ type h k. HoleYields (kind_of passed.argument) type h × HoleAgrees change p inside type h k)
+        (Yields (kind_of passed.argument)) (HoleYields (kind_of passed.argument)) (λ t u s r. (s, r)) (λ type h k s r. (s, r)) x n
+        (goes_yields (kind_of passed.argument) x yields) (calls_yields (kind_of passed.argument) x yields) agrees in
         inl (
           old_move,
           subst (λ run. IsAmong old_move (moves old_scene world locks run)) (sym passed.stands)
               (move_lifts old_scene world locks outer inner n (open_hole change p change.body passed.tree passed.argument passed.holds) among_moves),
           subst (λ y. RunMoveAgrees change p inside y old_move) (sym e)
-              (lifted_agrees change.rename (λ t u. Sets (kind_of passed.argument) t × RunAgrees change p inside t u) (λ h k. HoleSets (kind_of passed.argument) h × HoleAgrees change p inside h k)
+              (lifted_agrees change.rename (λ t u. Yields (kind_of passed.argument) t × RunAgrees change p inside t u) (λ type h k. HoleYields (kind_of passed.argument) type h × HoleAgrees change p inside type h k)
               (RunAgrees change p inside) (HoleAgrees change p inside) calling_run calling_hole (filled_in outer) (hole_in outer)
-              (λ t u r. run_in_call t u r.0 r.1) (λ h k r. hole_in_call h k r.0 r.1) x n sets_too),
+              (λ t u r. run_in_call t u r.0 r.1) (λ type h k r. hole_in_call type h k r.0 r.1) x n both_facts),
         )
-    argument_step m x e sets (inr (outside, (value, own, run, hole, other_hole, g, agrees, is_open, there, entering))) =
+    argument_step m x e yields (inr (outside, (value, own, run, hole, other_hole, g, agrees, is_open, there, entering))) =
         inr (
           outside,
           (
@@ -810,7 +849,7 @@ module _ (change : Called) (p : ℕ) (calling : IsCallingWith change p) (inside 
             calling_hole hole,
             hole_in outer other_hole,
             e ∙ ap (lifted calling_run calling_hole) g,
-            hole_in_call hole other_hole (calls_sets (kind_of passed.argument) x sets change.added.function (value ∷ []) own hole g) agrees,
+            hole_in_call own hole other_hole (calls_yields (kind_of passed.argument) x yields change.added.function (value ∷ []) own hole g) agrees,
             opened_twice outer other_hole (open_hole change p change.body passed.tree passed.argument passed.holds) is_open,
             passed.stands ∙ ap (filled_in outer) there ∙ sym (filled_twice outer other_hole run),
             entering,
@@ -818,17 +857,18 @@ module _ (change : Called) (p : ℕ) (calling : IsCallingWith change p) (inside 
         )
 
     -- a step of a call
-    call_steps : (first : Run) → Sets (kind_of passed.argument) first → RunAgrees change p inside first inner → ((m : Move Run Hole) → IsAmong m (moves new_scene world fewer first) → Matched inner m)
+    call_steps : (first : Run) → Yields (kind_of passed.argument) first → RunAgrees change p inside first inner → ((m : Move Run Hole) → IsAmong m (moves new_scene world fewer first) → Matched inner m)
         → (m : Move Run Hole) → IsAmong m (moves new_scene world fewer (calling_run first)) → Matched other m
-    call_steps (done own result own_locks) sets agrees steps m (inl e) = by_inner inner refl agrees
+    call_steps (done own result own_locks) yields agrees steps m (inl e) = by_inner inner refl agrees
       where
         by_inner : (run : Run) → inner ≡ run → RunAgrees change p inside (done own result own_locks) run → Matched other m
         by_inner (done other_kind other_result other_locks) i h =
-            entered sets.1.0 m (e ∙ ap (λ r. called new_scene world kind place (value_of r ∷ []) change.added.function (definition_of (new_of change) change.added.function)) sets.1.1)
-            other_kind other_result other_locks i (sym h.0 ∙ sets.0) (sym h.1 ∙ sets.1.1) sets.1.2
+            entered yields.1 m (e ∙ ap (λ r. called new_scene world kind place (value_of r ∷ []) change.added.function (definition_of (new_of change) change.added.function)) yields.2)
+            other_kind other_result other_locks i (sym h.0 ∙ yields.0) (sym h.1 ∙ yields.2)
+            (given_set (kind_of passed.argument) yields.1 (ap (λ k. lacks_value k yields.1) (sym yields.0) ∙ yields.3) passed.solid)
         by_inner (to_do doing other_kind at parts) i h = absurd h
-    call_steps (done own result own_locks) sets agrees steps m (inr e) = absurd e
-    call_steps (to_do doing own at parts) sets agrees steps m k =
+    call_steps (done own result own_locks) yields agrees steps m (inr e) = absurd e
+    call_steps (to_do doing own at parts) yields agrees steps m k =
         let first = to_do doing own at parts in
         let outermost = among-map_from (lifted (to_do (evaluates call) kind place) (within (evaluates call) kind place)) m _ k in
         let middle = among-map_from (lifted (more_runs (named_run named_kind named_place)) (in_others (named_run named_kind named_place))) outermost.0 _ outermost.1 in
@@ -849,7 +889,7 @@ module _ (change : Called) (p : ℕ) (calling : IsCallingWith change p) (inside 
             argument_step m last.0
             (e ∙ ap (lifted (to_do (evaluates call) kind place) (within (evaluates call) kind place)) (f ∙ ap (lifted (more_runs (named_run named_kind named_place)) (in_others (named_run named_kind named_place))) last.2)
             ∙ sym (lifted_thrice last.0))
-            (move_sets_on new_scene world fewer (kind_of passed.argument) (to_do doing own at parts) sets last.0 last.1)
+            (move_yields_on new_scene world fewer (kind_of passed.argument) (to_do doing own at parts) yields last.0 last.1)
             (steps last.0 last.1)
         by_last x y e f (inr l) = absurd l
 
@@ -857,8 +897,8 @@ module _ (change : Called) (p : ℕ) (calling : IsCallingWith change p) (inside 
       → (m : Move Run Hole) → IsAmong m (moves new_scene world fewer (to_do doing kind place parts)) → Matched other m
   call_matched doing kind place parts other inner passed passing m k =
       call_steps kind place other inner
-      (record { outside = passed.outside; tree = passed.tree; argument = passed.argument; is = refl; typed = passed.typed; holds = passed.holds; stands = passed.stands })
-      passing.named_kind passing.named_place passing.first passing.sets passing.agrees passing.steps m
+      (record { outside = passed.outside; tree = passed.tree; argument = passed.argument; is = refl; typed = passed.typed; holds = passed.holds; solid = passed.solid; stands = passed.stands })
+      passing.named_kind passing.named_place passing.first passing.yields passing.agrees passing.steps m
       (subst (λ d. IsAmong m (moves new_scene world fewer (to_do d kind place (more_runs (named_run passing.named_kind passing.named_place) (more_runs passing.first no_runs))))) passed.is
       (subst (λ ps. IsAmong m (moves new_scene world fewer (to_do doing kind place ps))) passing.is k))
 
@@ -886,7 +926,7 @@ module _ (change : Called) (p : ℕ) (calling : IsCallingWith change p) (inside 
             subst (λ y. MoveAgrees change.rename (RunsAgree change p inside) (HolesAgree change p inside) y (lifted (λ run. more_runs run other_parts) (λ hole. in_first hole other_parts) n)) (sym f)
                 (lifted_agrees change.rename (RunAgrees change p inside) (HoleAgrees change p inside) (RunsAgree change p inside) (HolesAgree change p inside)
                 (λ run. more_runs run rest) (λ hole. in_first hole rest) (λ run. more_runs run other_parts) (λ hole. in_first hole other_parts)
-                (λ t u r. (r, h.1)) (λ a b r. (r, h.1)) x n agrees),
+                (λ t u r. (r, h.1)) (λ type a b r. (r, h.1)) x n agrees),
           )
       first_match opened x f (inr (outside, (value, own, run, hole, other_hole, g, agrees, is_open, there, entered))) =
           inr (
@@ -916,7 +956,7 @@ module _ (change : Called) (p : ℕ) (calling : IsCallingWith change p) (inside 
             subst (λ y. MoveAgrees change.rename (RunsAgree change p inside) (HolesAgree change p inside) y (lifted (more_runs other) (in_others other) n)) (sym f)
                 (lifted_agrees change.rename (RunsAgree change p inside) (HolesAgree change p inside) (RunsAgree change p inside) (HolesAgree change p inside)
                 (more_runs first) (in_others first) (more_runs other) (in_others other)
-                (λ t u r. (h.0, r)) (λ a b r. (h.0, r)) x n agrees),
+                (λ t u r. (h.0, r)) (λ type a b r. (h.0, r)) x n agrees),
           )
       rest_match x f (inr (outside, (value, own, run, holes, other_holes, g, agrees, are_open, there, entered))) =
           inr (
@@ -958,5 +998,5 @@ module _ (change : Called) (p : ℕ) (calling : IsCallingWith change p) (inside 
 
     argument_matched : (kind : CType) (parts : Runs) (inner : Run) → PassesRunAlone change p inside kind parts inner → Argument kind parts inner
     argument_matched kind no_runs inner h = absurd h
-    argument_matched kind (more_runs first no_runs) inner h = record { first = first; is = refl; sets = h.0; agrees = h.1; steps = run_matched first inner h.1 }
+    argument_matched kind (more_runs first no_runs) inner h = record { first = first; is = refl; yields = h.0; agrees = h.1; steps = run_matched first inner h.1 }
     argument_matched kind (more_runs first (more_runs second rest)) inner h = absurd h

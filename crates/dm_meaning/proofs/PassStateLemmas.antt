@@ -23,7 +23,7 @@ use Rattle.dm_meaning.specs.Running.{Run, done, to_do, Hole, Holes, here, within
 use Rattle.dm_meaning.specs.Expressions.{Move, goes, calls, fails, exits, lifted, value_of, moves}
 use Rattle.dm_meaning.specs.States.{Use, returns, Task, begins, declares, initials, evaluates, again, tests, ends, ends_switch, leaves, skips, hands_back, Caller, State}
 use Rattle.dm_meaning.specs.Statements.{place_of, Turned, onward, refused, declared_in, type_declared, named_from, made_from, unfolded, concluded, begin_statement, begin_declarator, begin_initialiser, items_tasks, ended, after_break, after_continue}
-use Rattle.dm_meaning.specs.Steps.{given_from, opened_frame, opened_memory, opened, handed_back, is_main, gives_nothing, body_place, no_place, closed, turned, moved, scene_of, expression_steps, task_steps, steps_from, next, Step}
+use Rattle.dm_meaning.specs.Steps.{given_from, opened_frame, opened_memory, opened, lacks_value, gone_back, handed_back, is_main, gives_nothing, body_place, no_place, closed, turned, moved, scene_of, expression_steps, task_steps, steps_from, next, Step}
 use Rattle.dm_meaning.specs.Units.{machine_of}
 use Rattle.dm_meaning.specs.Replaced.{renamed_declarator, Zipped, facts_of}
 use Rattle.dm_meaning.specs.Called.{Called, new_of, gives_value}
@@ -33,8 +33,7 @@ use Rattle.dm_meaning.specs.MoreObjects.{LocksMade, TasksSettled, IsSpare, with_
 use Rattle.dm_meaning.proofs.AmongLemmas.{among-map, among-map_from}
 use Rattle.dm_meaning.proofs.MoveLemmas.{IsToDo, move_lifts, locks_lift}
 use Rattle.dm_meaning.proofs.RunLemmas.{OptionAgrees, renamed_objects, object_renamed}
-use Rattle.dm_meaning.proofs.CallRunLemmas.{MoveAgrees}
-use Rattle.dm_meaning.proofs.PassRunLemmas.{hole_of, hole_to_do, RunAgrees, HoleAgrees, RunMoveAgrees, definition_agrees, added_found, filled_agrees, filled_twice, fewer_locks, Entered, weakened, only_left, run_matched}
+use Rattle.dm_meaning.proofs.PassRunLemmas.{hole_of, hole_to_do, RunAgrees, HoleAgrees, MoveAgrees, RunMoveAgrees, definition_agrees, added_found, filled_agrees, filled_twice, fewer_locks, Entered, weakened, only_left, run_matched}
 use Rattle.dm_meaning.proofs.ReadLemmas.{Reads, HoleReads, begun_reads, filled_reads, AfterRead, parameter_block, unlocked, fewer_read, reads_matched}
 use Rattle.dm_meaning.proofs.YieldLemmas.{Yields, HoleYields, MoveYields, filled_yields, move_yields_on}
 use Rattle.dm_meaning.proofs.StatementLemmas.{map_append, numbers_renamed, named_from_renamed, length_renamed}
@@ -49,7 +48,7 @@ pub record CallerAgrees (change : Called) (p : ℕ) (caller other : Caller) : Ty
   pub objects : caller.frame.objects ≡ renamed_objects change.rename other.frame.objects
   pub tasks : TasksAgree change p caller.frame.tasks other.frame.tasks
   pub kind : caller.kind ≡ other.kind
-  pub hole : HoleAgrees change p false caller.hole other.hole
+  pub hole : HoleAgrees change p false caller.kind caller.hole other.hole
   pub use_of : UseAgrees change p caller.use_of other.use_of
 
 -- the parameter's objects of the added function's frames, from the last, with their values
@@ -60,8 +59,8 @@ Spare = List (ℕ × Value)
 abbrev pub EvalAgrees : Called → ℕ → ℕ → Value → Run → Run → Type 0
 EvalAgrees change p n value run other = ((named : Bool) × Reads change p n value named run other × IsToDo other) ⊎ RunAgrees change p true run other
 
-abbrev pub HoleEval : Called → ℕ → ℕ → Value → Hole → Hole → Type 0
-HoleEval change p n value hole other = ((named : Bool) × HoleReads change p n value named hole other) ⊎ HoleAgrees change p true hole other
+abbrev pub HoleEval : Called → ℕ → ℕ → Value → CType → Hole → Hole → Type 0
+HoleEval change p n value filler hole other = ((named : Bool) × HoleReads change p n value named filler hole other) ⊎ HoleAgrees change p true filler hole other
 
 -- The added function waits for one that it has called, and the caller of the added function waits for that: in the old program there is one
 -- caller, in whose expression the added function's expression stands.
@@ -74,9 +73,9 @@ pub record NestedAgrees (change : Called) (p n : ℕ) (value : Value) (added cal
   pub inner : Hole
   pub hole : other.hole ≡ hole_in outer inner
   pub opened : IsOpen outer
-  pub inside : HoleEval change p n value added.hole inner
+  pub inside : HoleEval change p n value added.kind added.hole inner
   pub set : is_unset value ≡ false
-  pub outside : HoleAgrees change p false caller.hole outer
+  pub outside : HoleAgrees change p false caller.kind caller.hole outer
   pub yields : HoleYields caller.kind added.kind added.hole
   pub caller_function : caller.frame.function ≡ change.rename other.frame.function
   pub caller_objects : caller.frame.objects ≡ renamed_objects change.rename other.frame.objects
@@ -140,6 +139,7 @@ pub record Returning (w : ℕ) (tasks : List Task) (kind : CType) (run : Run) : 
   pub locks : List At
   pub is : tasks ≡ hands_back value ∷ []
   pub result : run ≡ done kind (of_value value) locks
+  pub given : lacks_value kind value ≡ false
   pub left : 5 ≤ w
 
 abbrev pub Phase : Called → ℕ → ℕ → ℕ → Value → List Task → CType → Run → Type 0
@@ -156,7 +156,7 @@ pub record Waits (change : Called) (p : ℕ) (spare : Spare) (caller : Caller) (
   pub function : caller.frame.function ≡ change.rename other.frame.function
   pub objects : caller.frame.objects ≡ renamed_objects change.rename other.frame.objects
   pub tasks : TasksAgree change p caller.frame.tasks rest
-  pub holes : HoleAgrees change p false caller.hole hole
+  pub holes : HoleAgrees change p false caller.kind caller.hole hole
   pub uses : UseAgrees change p caller.use_of use_of
   pub callers : CallersAgree change p spare behind other.callers
 
@@ -391,30 +391,48 @@ module _ (change : Called) (p : ℕ) (calling : IsCallingWith change p) where
 
     -- ---- the end of a frame
 
-    caller_met : (value : Value) (c : Caller) (cs : List Caller) (d : Caller) (ds : List Caller) → CallerAgrees change p c d → CallersAgree change p spare cs ds
-        → IsAmong (handed_back other value (d ∷ ds)) (next names change.old other) → Met change p w spare other (handed_back now value (c ∷ cs))
-    caller_met value c cs d ds h k among =
-        one_step (handed_back other value (d ∷ ds)) among (handed_back now value (c ∷ cs)) (inl (
+    caller_resumed : (value : Value) (c : Caller) (cs : List Caller) (d : Caller) (ds : List Caller) → CallerAgrees change p c d → CallersAgree change p spare cs ds → lacks_value c.kind value ≡ false
+        → IsAmong (gone_back other value d ds) (next names change.old other) → Met change p w spare other (gone_back now value c cs)
+    caller_resumed value c cs d ds h k given among =
+        one_step (gone_back other value d ds) among (gone_back now value c cs) (inl (
           four_of_six,
           record {
             standing = refl;
             function = h.function;
             objects = h.objects;
-            tasks = ((filled_agrees change p false c.hole d.hole (done c.kind (of_value value) []) (done d.kind (of_value value) []) h.hole (h.kind, refl, λ lock l. l), h.use_of), h.tasks);
+            tasks =
+                ((filled_agrees change p false c.kind c.hole d.hole (done c.kind (of_value value) []) (done d.kind (of_value value) []) h.hole (refl, value, refl, given) (h.kind, refl, λ lock l. l), h.use_of), h.tasks);
             callers = k;
             statics = refl;
             world = ap (λ ns. record { memory = killed ns other.world.memory; input = other.world.input; output = other.world.output }) (numbers_renamed change.rename other.frame.objects);
           },
         ))
 
+    -- a value that isn't given is undefined in both programs
+    back_by : (value : Value) (c : Caller) (cs : List Caller) (d : Caller) (ds : List Caller) → c.kind ≡ d.kind
+        → (lacks_value c.kind value ≡ false → IsAmong (gone_back other value d ds) (next names change.old other) → Met change p w spare other (gone_back now value c cs))
+        → IsAmong (handed_back other value (d ∷ ds)) (next names change.old other) → Met change p w spare other (handed_back now value (c ∷ cs))
+    back_by value c cs d ds same resumes among =
+        subst (λ kind. Met change p w spare other (if lacks_value kind value then record now { standing = undefined NoValue c.place } else gone_back now value c cs)) (sym same)
+        (by_lack (lacks_value d.kind value) refl among)
+      where
+        by_lack : (b : Bool) → lacks_value d.kind value ≡ b → IsAmong (if b then record other { standing = undefined NoValue d.place } else gone_back other value d ds) (next names change.old other)
+            → Met change p w spare other (if b then record now { standing = undefined NoValue c.place } else gone_back now value c cs)
+        by_lack true e l = inl (wrong_step (record other { standing = undefined NoValue d.place }) l NoValue d.place refl)
+        by_lack false e l = resumes (ap (λ kind. lacks_value kind value) same ∙ e) l
+
+    caller_met : (value : Value) (c : Caller) (cs : List Caller) (d : Caller) (ds : List Caller) → CallerAgrees change p c d → CallersAgree change p spare cs ds
+        → IsAmong (handed_back other value (d ∷ ds)) (next names change.old other) → Met change p w spare other (handed_back now value (c ∷ cs))
+    caller_met value c cs d ds h k among = back_by value c cs d ds h.kind (caller_resumed value c cs d ds h k) among
+
     -- the added function goes on with the value of a function that it has called
-    nested_met : (value : Value) (first : ℕ × Value) (rest : Spare) → spare ≡ first ∷ rest → (c c' : Caller) (cs : List Caller) (d : Caller) (ds : List Caller)
-        → NestedAgrees change p first.0 first.1 c c' d → CallersAgree change p rest cs ds
-        → IsAmong (handed_back other value (d ∷ ds)) (next names change.old other) → Met change p w spare other (handed_back now value (c ∷ c' ∷ cs))
-    nested_met value first rest is_spare c c' cs d ds h k among =
+    nested_resumed : (value : Value) (first : ℕ × Value) (rest : Spare) → spare ≡ first ∷ rest → (c c' : Caller) (cs : List Caller) (d : Caller) (ds : List Caller)
+        → NestedAgrees change p first.0 first.1 c c' d → CallersAgree change p rest cs ds → lacks_value c.kind value ≡ false
+        → IsAmong (gone_back other value d ds) (next names change.old other) → Met change p w spare other (gone_back now value c (c' ∷ cs))
+    nested_resumed value first rest is_spare c c' cs d ds h k given among =
         let now_run = filled_in c.hole (done c.kind (of_value value) []) in
         let run = filled_in h.inner (done d.kind (of_value value) []) in
-        one_step (handed_back other value (d ∷ ds)) among (handed_back now value (c ∷ c' ∷ cs)) (inr (
+        one_step (gone_back other value d ds) among (gone_back now value c (c' ∷ cs)) (inr (
           first,
           rest,
           is_spare,
@@ -443,8 +461,8 @@ module _ (change : Called) (p : ℕ) (calling : IsCallingWith change p) where
               place = c.place;
               now = now_run;
               is = ap (λ u. evaluates c.place now_run u ∷ c.frame.tasks) h.use_of ∙ ap (λ ts. evaluates c.place now_run returns ∷ ts) h.tasks;
-              agrees = resumed_agrees first.0 first.1 c.hole h.inner (done c.kind (of_value value) []) (done d.kind (of_value value) []) h.inside (h.kind, refl, λ lock l. l);
-              yields = filled_yields c'.kind c.kind c.hole value h.yields;
+              agrees = resumed_agrees first.0 first.1 c.kind c.hole h.inner (done c.kind (of_value value) []) (done d.kind (of_value value) []) h.inside (refl, value, refl, given) (h.kind, refl, λ lock l. l);
+              yields = filled_yields c'.kind c.kind c.hole (done c.kind (of_value value) []) h.yields (refl, value, refl, given);
             }));
             set = h.set;
             statics = refl;
@@ -452,22 +470,27 @@ module _ (change : Called) (p : ℕ) (calling : IsCallingWith change p) where
           },
         ))
       where
-        resumed_agrees : (n : ℕ) (v : Value) (hole inner : Hole) (filler other_filler : Run) → HoleEval change p n v hole inner → RunAgrees change p true filler other_filler
+        resumed_agrees : (n : ℕ) (v : Value) (type : CType) (hole inner : Hole) (filler other_filler : Run) → HoleEval change p n v type hole inner → Yields type filler → RunAgrees change p true filler other_filler
             → Reading change p 6 n v (filled_in hole filler) (filled_in inner other_filler) ⊎ (RunAgrees change p true (filled_in hole filler) (filled_in inner other_filler) × Left 6 (filled_in hole filler))
-        resumed_agrees n v hole inner filler other_filler (inl (named, reads)) agrees =
+        resumed_agrees n v type hole inner filler other_filler (inl (named, reads)) y agrees =
             inl (record {
               named = named;
-              reads = filled_reads change p n v named hole inner filler other_filler reads agrees;
+              reads = filled_reads change p n v named type hole inner filler other_filler reads y agrees;
               open_still = hole_open hole inner reads;
               stage = stage_of_six named;
             })
           where
-            hole_open : (a b : Hole) → HoleReads change p n v named a b → IsToDo (filled_in b other_filler)
+            hole_open : (a b : Hole) → HoleReads change p n v named type a b → IsToDo (filled_in b other_filler)
             hole_open here b r = absurd r
             hole_open (within doing kind place holes) here r = absurd r
             hole_open (within doing kind place holes) (within other_doing other_kind other_place other_holes) r = tt
-        resumed_agrees n v hole inner filler other_filler (inr plain) agrees =
-            inr (filled_agrees change p true hole inner filler other_filler plain agrees, left_of_six (filled_in hole filler))
+        resumed_agrees n v type hole inner filler other_filler (inr plain) y agrees =
+            inr (filled_agrees change p true type hole inner filler other_filler plain y agrees, left_of_six (filled_in hole filler))
+
+    nested_met : (value : Value) (first : ℕ × Value) (rest : Spare) → spare ≡ first ∷ rest → (c c' : Caller) (cs : List Caller) (d : Caller) (ds : List Caller)
+        → NestedAgrees change p first.0 first.1 c c' d → CallersAgree change p rest cs ds
+        → IsAmong (handed_back other value (d ∷ ds)) (next names change.old other) → Met change p w spare other (handed_back now value (c ∷ c' ∷ cs))
+    nested_met value first rest is_spare c c' cs d ds h k among = back_by value c (c' ∷ cs) d ds h.kind (nested_resumed value first rest is_spare c c' cs d ds h k) among
 
     back_met : (value : Value) (cs ds : List Caller) → CallersAgree change p spare cs ds → IsAmong (handed_back other value ds) (next names change.old other) → Met change p w spare other (handed_back now value cs)
     back_met value [] [] h among =
@@ -483,7 +506,7 @@ module _ (change : Called) (p : ℕ) (calling : IsCallingWith change p) where
     -- ---- expressions
 
     module _ (rest other_rest : List Task) (rest_agrees : TasksAgree change p rest other_rest) (place at : Place) (use_of other_use : Use) (use_agrees : UseAgrees change p use_of other_use) where
-      opened_met : (kind : CType) (hole other_hole : Hole) (arguments : List Value) → HoleAgrees change p false hole other_hole → (definition other_definition : Option Definition)
+      opened_met : (kind : CType) (hole other_hole : Hole) (arguments : List Value) → HoleAgrees change p false kind hole other_hole → (definition other_definition : Option Definition)
           → OptionAgrees (DefinitionAgrees change p) definition other_definition
           → IsAmong (opened change.old names other other_rest at other_use kind other_hole arguments other_definition) (next names change.old other)
           → Met change p w spare other (opened (new_of change) names now rest place use_of kind hole arguments definition)
@@ -505,14 +528,14 @@ module _ (change : Called) (p : ℕ) (calling : IsCallingWith change p) where
             },
           ))
 
-      called_met : (f g : ℕ) (arguments others : List Value) (kind other_kind : CType) (hole other_hole : Hole) → f ≡ change.rename g → arguments ≡ others → kind ≡ other_kind → HoleAgrees change p false hole other_hole
+      called_met : (f g : ℕ) (arguments others : List Value) (kind other_kind : CType) (hole other_hole : Hole) → f ≡ change.rename g → arguments ≡ others → kind ≡ other_kind → HoleAgrees change p false kind hole other_hole
           → IsAmong (opened change.old names other other_rest at other_use other_kind other_hole others (definition_of change.old g)) (next names change.old other)
           → Met change p w spare other (opened (new_of change) names now rest place use_of kind hole arguments (definition_of (new_of change) f))
       called_met f g arguments others kind other_kind hole other_hole e a k h among =
           subst (λ d. Met change p w spare other (opened (new_of change) names now rest place use_of kind hole arguments (definition_of (new_of change) d))) (sym e)
           (subst (λ l. Met change p w spare other (opened (new_of change) names now rest place use_of kind hole l (definition_of (new_of change) (change.rename g)))) (sym a)
           (subst (λ t. Met change p w spare other (opened (new_of change) names now rest place use_of t hole others (definition_of (new_of change) (change.rename g)))) (sym k)
-          (opened_met other_kind hole other_hole others h (definition_of (new_of change) (change.rename g)) (definition_of change.old g)
+          (opened_met other_kind hole other_hole others (subst (λ t. HoleAgrees change p false t hole other_hole) k h) (definition_of (new_of change) (change.rename g)) (definition_of change.old g)
           (definition_agrees change p calling change.functions change.old.functions calling.functions g) among)))
 
       moved_met : (m n : Move Run Hole) → RunMoveAgrees change p false m n → IsAmong (moved change.old names other other_rest at other_use n) (next names change.old other)
@@ -536,7 +559,7 @@ module _ (change : Called) (p : ℕ) (calling : IsCallingWith change p) where
       moved_met (exits status) (calls g others other_kind other_hole) h among = absurd h
 
       -- the added function is called: the old program stays where it is
-      added_met : (value : Value) (kind : CType) (run : Run) (hole other_hole : Hole) → HoleAgrees change p false hole other_hole → IsOpen other_hole → Entered change p value kind run
+      added_met : (value : Value) (kind : CType) (run : Run) (hole other_hole : Hole) → HoleAgrees change p false kind hole other_hole → IsOpen other_hole → Entered change p value kind run
           → unfolded other.frame.tasks ≡ evaluates at (filled_in other_hole run) other_use ∷ other_rest
           → (definition : Option Definition) → definition ≡ Some change.added
           → Met change p w spare other (opened (new_of change) names now rest place use_of kind hole (value ∷ []) definition)
@@ -603,7 +626,7 @@ module _ (change : Called) (p : ℕ) (calling : IsCallingWith change p) where
           by_match : (m : Move Run Hole)
               → ((n : Move Run Hole) × IsAmong n (moves (scene_of change.old other) other.world (locks_in (to_do other_doing other_kind there others)) (to_do other_doing other_kind there others)) × RunMoveAgrees change p false m n)
               ⊎ ((false ≡ false)
-              × ((value : Value) × (kind : CType) × (run : Run) × (hole other_hole : Hole) × (m ≡ calls change.added.function (value ∷ []) kind hole) × HoleAgrees change p false hole other_hole × IsOpen other_hole
+              × ((value : Value) × (kind : CType) × (run : Run) × (hole other_hole : Hole) × (m ≡ calls change.added.function (value ∷ []) kind hole) × HoleAgrees change p false kind hole other_hole × IsOpen other_hole
               × (to_do other_doing other_kind there others ≡ filled_in other_hole run) × Entered change p value kind run))
               → Met change p w spare other (moved (new_of change) names now rest place use_of m)
           by_match m (inl (n, among, agrees)) =
@@ -786,7 +809,8 @@ module _ (change : Called) (p : ℕ) (calling : IsCallingWith change p) where
       where
         at_end : IsAmong state (task_steps (new_of change) names (in_added (hands_back h.value ∷ [])) (hands_back h.value ∷ [])) → Met change p w all_spare other state
         at_end (inl e) =
-            subst (Met change p w all_spare other) (sym e)
+            let back = in_added (hands_back h.value ∷ []) in
+            subst (Met change p w all_spare other) (sym (e ∙ ap (λ b. if b then record back { standing = undefined NoValue caller.place } else gone_back back h.value caller others) h.given))
             (inr (inr (inr (inr (record {
               first = (n, value);
               rest = spare;
@@ -802,7 +826,7 @@ module _ (change : Called) (p : ℕ) (calling : IsCallingWith change p) where
                   tasks =
                       subst (λ ts. TasksAgree change p (evaluates caller.place (filled_in caller.hole (done caller.kind (of_value h.value) [])) caller.use_of ∷ caller.frame.tasks) ts)
                       (sym (waits.evaluating ∙ ap (λ r. evaluates waits.place (filled_in waits.hole r) waits.use_of ∷ waits.rest) h.result))
-                      ((filled_agrees change p false caller.hole waits.hole (done caller.kind (of_value h.value) []) (done caller.kind (of_value h.value) h.locks) waits.holes (refl, refl, λ lock l. absurd l), waits.uses), waits.tasks);
+                      ((filled_agrees change p false caller.kind caller.hole waits.hole (done caller.kind (of_value h.value) []) (done caller.kind (of_value h.value) h.locks) waits.holes (refl, h.value, refl, h.given) (refl, refl, λ lock l. absurd l), waits.uses), waits.tasks);
                   callers = waits.callers;
                   statics = refl;
                   world = refl;
@@ -812,7 +836,7 @@ module _ (change : Called) (p : ℕ) (calling : IsCallingWith change p) where
         at_end (inr e) = absurd e
 
     -- a function is called
-    called_inside : (kind : CType) (place : Place) (hole inner : Hole) (arguments : List Value) → HoleEval change p n value hole inner → HoleYields caller.kind kind hole
+    called_inside : (kind : CType) (place : Place) (hole inner : Hole) (arguments : List Value) → HoleEval change p n value kind hole inner → HoleYields caller.kind kind hole
         → (definition other_definition : Option Definition) → OptionAgrees (DefinitionAgrees change p) definition other_definition
         → IsAmong (opened change.old names other waits.rest waits.place waits.use_of kind (hole_in waits.hole inner) arguments other_definition) (next names change.old other)
         → (tasks : List Task) → Met change p w all_spare other (opened (new_of change) names (in_added tasks) [] place returns kind hole arguments definition)
@@ -861,7 +885,7 @@ module _ (change : Called) (p : ℕ) (calling : IsCallingWith change p) where
         ))
 
     called_inside_by : (place : Place) (f g : ℕ) (arguments values : List Value) (kind other_kind : CType) (hole inner : Hole) → f ≡ change.rename g → arguments ≡ values → kind ≡ other_kind
-        → HoleEval change p n value hole inner → HoleYields caller.kind kind hole
+        → HoleEval change p n value kind hole inner → HoleYields caller.kind kind hole
         → IsAmong (opened change.old names other waits.rest waits.place waits.use_of other_kind (hole_in waits.hole inner) values (definition_of change.old g)) (next names change.old other)
         → (tasks : List Task) → Met change p w all_spare other (opened (new_of change) names (in_added tasks) [] place returns kind hole arguments (definition_of (new_of change) f))
     called_inside_by place f g arguments values kind other_kind hole inner e a t h y among tasks =
@@ -1013,7 +1037,7 @@ module _ (change : Called) (p : ℕ) (calling : IsCallingWith change p) where
         by_match m y (inl (x, among, agrees)) =
             inside_moved place (to_do doing kind at parts) (inl (h.named, h.reads, h.open_still)) yields m x
             (weakened change.rename (λ t u. Reads change p n value h.named t u × IsToDo u) (EvalAgrees change p n value) (HoleReads change p n value h.named) (HoleEval change p n value)
-            (λ t u r. inl (h.named, r.0, r.1)) (λ a b r. inl (h.named, r)) m x agrees) y (old_step x among)
+            (λ t u r. inl (h.named, r.0, r.1)) (λ type a b r. inl (h.named, r)) m x agrees) y (old_step x among)
         by_match m y (inr (next_run, e, after)) =
             subst (λ z. Met change p w all_spare other (moved (new_of change) names (in_added (evaluates place (to_do doing kind at parts) returns ∷ [])) [] place returns z)) (sym e)
             (progressed h.named next_run h.stage h.open_still after (subst (MoveYields caller.kind) e y))
@@ -1031,6 +1055,7 @@ module _ (change : Called) (p : ℕ) (calling : IsCallingWith change p) where
           locks = other_locks;
           is = ap (λ r. hands_back (value_of r) ∷ []) yields.2;
           result = ap (λ k. done k other_result other_locks) (sym h.0 ∙ yields.0) ∙ ap (λ r. done caller.kind r other_locks) (sym h.1 ∙ yields.2);
+          given = ap (λ k. lacks_value k yields.1) (sym yields.0) ∙ yields.3;
           left = omega arith;
         }
         by_result (to_do doing other_kind at parts) h = absurd h
@@ -1042,7 +1067,7 @@ module _ (change : Called) (p : ℕ) (calling : IsCallingWith change p) where
         let match = only_left (run_matched change p calling true inner_objects (other.frame.objects ++ other.statics) (λ d k'. absurd (cc)) other.world (locks_in now) (locks_in whole_run) fewer now run agrees from.0 from.1) in
         subst (Met change p w all_spare other) (sym from.2)
         (inside_moved place now (inr agrees) yields from.0 match.0
-        (weakened change.rename (RunAgrees change p true) (EvalAgrees change p n value) (HoleAgrees change p true) (HoleEval change p n value) (λ t u r. inr r) (λ a b r. inr r) from.0 match.0 match.2)
+        (weakened change.rename (RunAgrees change p true) (EvalAgrees change p n value) (HoleAgrees change p true) (HoleEval change p n value) (λ t u r. inr r) (λ type a b r. inr r) from.0 match.0 match.2)
         (new_yields now yields from.0 from.1) (old_step match.0 match.1))
 
     evaluating_met : (tasks : List Task) → Evaluating change p w n value tasks caller.kind run → (state : State) → IsAmong state (task_steps (new_of change) names (in_added tasks) (unfolded tasks)) → Met change p w all_spare other state

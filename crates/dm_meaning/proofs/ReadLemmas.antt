@@ -26,8 +26,9 @@ use Rattle.dm_meaning.proofs.MoveLemmas.{IsToDo, moving_to_do, none_first, none_
 use Rattle.dm_meaning.proofs.OptionLemmas.{none_is_some}
 use Rattle.dm_meaning.proofs.RunLemmas.{redone}
 use Rattle.dm_meaning.proofs.GrowLemmas.{differ_is}
-use Rattle.dm_meaning.proofs.CallRunLemmas.{may_stand, MoveAgrees, lifted_agrees, open_parts_redone, stands_inside, among_nothing, among_joined}
-use Rattle.dm_meaning.proofs.PassRunLemmas.{hole_of, holes_of, RunAgrees, RunsAgree, HoleAgrees, HolesAgree, begun_same, all_begun_same, filled_agrees, all_filled_agree, fewer_locks, fewer_locks_all, only_left, run_matched, runs_matched}
+use Rattle.dm_meaning.proofs.CallRunLemmas.{may_stand, open_parts_redone, stands_inside, among_nothing, among_joined}
+use Rattle.dm_meaning.proofs.YieldLemmas.{Yields}
+use Rattle.dm_meaning.proofs.PassRunLemmas.{hole_of, holes_of, RunAgrees, RunsAgree, HoleAgrees, HolesAgree, MoveAgrees, lifted_agrees, begun_same, all_begun_same, filled_agrees, all_filled_agree, fewer_locks, fewer_locks_all, only_left, run_matched, runs_matched}
 
 -- ---- how trees agree
 
@@ -62,21 +63,21 @@ abbrev mutual
 
 abbrev mutual
   -- another part is left out
-  pub HoleReads : Called → ℕ → ℕ → Value → Bool → Hole → Hole → Type 0
-  HoleReads change p n value named here other = ⊥
-  HoleReads change p n value named (within doing kind place holes) here = ⊥
-  HoleReads change p n value named (within doing kind place holes) (within other other_kind other_place others) =
-      (doing ≡ redone change.rename other) × (kind ≡ other_kind) × (may_stand true other ≡ true) × HolesRead change p n value named (open_parts other) holes others
+  pub HoleReads : Called → ℕ → ℕ → Value → Bool → CType → Hole → Hole → Type 0
+  HoleReads change p n value named filler here other = ⊥
+  HoleReads change p n value named filler (within doing kind place holes) here = ⊥
+  HoleReads change p n value named filler (within doing kind place holes) (within other other_kind other_place others) =
+      (doing ≡ redone change.rename other) × (kind ≡ other_kind) × (may_stand true other ≡ true) × HolesRead change p n value named filler (open_parts other) holes others
 
-  pub HolesRead : Called → ℕ → ℕ → Value → Bool → Open → Holes → Holes → Type 0
-  HolesRead change p n value named opens (in_first hole rest) (in_first other others) =
-      (IsTrue (first_open opens) × HoleReads change p n value named hole other × RunsAgree change p true rest others)
-      ⊎ (HoleAgrees change p true hole other × ReadsIn change p n value named (others_open opens) rest others)
-  HolesRead change p n value named opens (in_others first holes) (in_others other others) =
-      (IsTrue (first_open opens) × Reads change p n value named first other × HolesAgree change p true holes others)
-      ⊎ (RunAgrees change p true first other × HolesRead change p n value named (others_open opens) holes others)
-  HolesRead change p n value named opens (in_first hole rest) (in_others other others) = ⊥
-  HolesRead change p n value named opens (in_others first holes) (in_first other others) = ⊥
+  pub HolesRead : Called → ℕ → ℕ → Value → Bool → CType → Open → Holes → Holes → Type 0
+  HolesRead change p n value named filler opens (in_first hole rest) (in_first other others) =
+      (IsTrue (first_open opens) × HoleReads change p n value named filler hole other × RunsAgree change p true rest others)
+      ⊎ (HoleAgrees change p true filler hole other × ReadsIn change p n value named (others_open opens) rest others)
+  HolesRead change p n value named filler opens (in_others first holes) (in_others other others) =
+      (IsTrue (first_open opens) × Reads change p n value named first other × HolesAgree change p true filler holes others)
+      ⊎ (RunAgrees change p true first other × HolesRead change p n value named filler (others_open opens) holes others)
+  HolesRead change p n value named filler opens (in_first hole rest) (in_others other others) = ⊥
+  HolesRead change p n value named filler opens (in_others first holes) (in_first other others) = ⊥
 
 mutual
   -- when the added function begins
@@ -109,22 +110,22 @@ mutual
       inr (begun_same change p first other s, all_begun_read change p n value locks (others_open opens) rest others argument h)
 
 mutual
-  pub filled_reads : (change : Called) (p n : ℕ) (value : Value) (named : Bool) (hole other : Hole) (run other_run : Run) → HoleReads change p n value named hole other → RunAgrees change p true run other_run
+  pub filled_reads : (change : Called) (p n : ℕ) (value : Value) (named : Bool) (filler : CType) (hole other : Hole) (run other_run : Run) → HoleReads change p n value named filler hole other → Yields filler run → RunAgrees change p true run other_run
       → Reads change p n value named (filled_in hole run) (filled_in other other_run)
-  filled_reads change p n value named here other run other_run h k = absurd h
-  filled_reads change p n value named (within doing kind place holes) here run other_run h k = absurd h
-  filled_reads change p n value named (within doing kind place holes) (within other other_kind other_place others) run other_run h k =
-      (h.0, h.1, h.2, all_filled_read change p n value named (open_parts other) holes others run other_run h.3 k)
+  filled_reads change p n value named filler here other run other_run h y k = absurd h
+  filled_reads change p n value named filler (within doing kind place holes) here run other_run h y k = absurd h
+  filled_reads change p n value named filler (within doing kind place holes) (within other other_kind other_place others) run other_run h y k =
+      (h.0, h.1, h.2, all_filled_read change p n value named filler (open_parts other) holes others run other_run h.3 y k)
 
-  all_filled_read : (change : Called) (p n : ℕ) (value : Value) (named : Bool) (opens : Open) (holes others : Holes) (run other_run : Run) → HolesRead change p n value named opens holes others → RunAgrees change p true run other_run
+  all_filled_read : (change : Called) (p n : ℕ) (value : Value) (named : Bool) (filler : CType) (opens : Open) (holes others : Holes) (run other_run : Run) → HolesRead change p n value named filler opens holes others → Yields filler run → RunAgrees change p true run other_run
       → ReadsIn change p n value named opens (all_filled_in holes run) (all_filled_in others other_run)
-  all_filled_read change p n value named opens (in_first hole rest) (in_first other others) run other_run (inl (o, h, s)) k = inl (o, filled_reads change p n value named hole other run other_run h k, s)
-  all_filled_read change p n value named opens (in_first hole rest) (in_first other others) run other_run (inr (h, s)) k = inr (filled_agrees change p true hole other run other_run h k, s)
-  all_filled_read change p n value named opens (in_others first holes) (in_others other others) run other_run (inl (o, h, s)) k = inl (o, h, all_filled_agree change p true holes others run other_run s k)
-  all_filled_read change p n value named opens (in_others first holes) (in_others other others) run other_run (inr (h, s)) k =
-      inr (h, all_filled_read change p n value named (others_open opens) holes others run other_run s k)
-  all_filled_read change p n value named opens (in_first hole rest) (in_others other others) run other_run h k = absurd h
-  all_filled_read change p n value named opens (in_others first holes) (in_first other others) run other_run h k = absurd h
+  all_filled_read change p n value named filler opens (in_first hole rest) (in_first other others) run other_run (inl (o, h, s)) y k = inl (o, filled_reads change p n value named filler hole other run other_run h y k, s)
+  all_filled_read change p n value named filler opens (in_first hole rest) (in_first other others) run other_run (inr (h, s)) y k = inr (filled_agrees change p true filler hole other run other_run h y k, s)
+  all_filled_read change p n value named filler opens (in_others first holes) (in_others other others) run other_run (inl (o, h, s)) y k = inl (o, h, all_filled_agree change p true filler holes others run other_run s y k)
+  all_filled_read change p n value named filler opens (in_others first holes) (in_others other others) run other_run (inr (h, s)) y k =
+      inr (h, all_filled_read change p n value named filler (others_open opens) holes others run other_run s y k)
+  all_filled_read change p n value named filler opens (in_first hole rest) (in_others other others) run other_run h y k = absurd h
+  all_filled_read change p n value named filler opens (in_others first holes) (in_first other others) run other_run h y k = absurd h
 
 -- the tree after the parameter's name was evaluated, or after it was read
 abbrev pub AfterRead : Called → ℕ → ℕ → Value → Bool → Run → Run → Type 0
@@ -226,7 +227,7 @@ module _ (change : Called) (p : ℕ) (calling : IsCallingWith change p) (objects
 
   abbrev ReadMatchedIn : Bool → Open → Runs → Move Runs Holes → Type 0
   ReadMatchedIn named opens other_parts m =
-      ((x : Move Runs Holes) × IsAmong x (moves_in old_scene world locks opens other_parts) × MoveAgrees change.rename (ReadsIn change p n value named opens) (HolesRead change p n value named opens) m x)
+      ((x : Move Runs Holes) × IsAmong x (moves_in old_scene world locks opens other_parts) × MoveAgrees change.rename (ReadsIn change p n value named opens) (λ type. HolesRead change p n value named type opens) m x)
       ⊎ ((parts : Runs) × (m ≡ goes world parts) × ProgressIn named opens parts other_parts)
 
   -- the parameter itself
@@ -284,9 +285,9 @@ module _ (change : Called) (p : ℕ) (calling : IsCallingWith change p) (objects
             lifted (to_do other kind at) (within other kind at) y,
             inner_steps (operands_in (open_parts other) other_parts) _ _ _ (moving_holds old_scene world locks (open_parts other) other_parts y among_moves) (among-map _ _ _ among_moves),
             subst (λ z. MoveAgrees change.rename (ReadsOn named) (HoleReads change p n value named) z (lifted (to_do other kind at) (within other kind at) y)) (sym e)
-                (lifted_agrees change.rename (ReadsIn change p n value named (open_parts other)) (HolesRead change p n value named (open_parts other)) (ReadsOn named) (HoleReads change p n value named)
+                (lifted_agrees change.rename (ReadsIn change p n value named (open_parts other)) (λ type. HolesRead change p n value named type (open_parts other)) (ReadsOn named) (HoleReads change p n value named)
                 (to_do (redone change.rename other) kind place) (within (redone change.rename other) kind place) (to_do other kind at) (within other kind at)
-                (λ t u r. ((refl, refl, stands, r), tt)) (λ a b r. (refl, refl, stands, r)) x y agrees),
+                (λ t u r. ((refl, refl, stands, r), tt)) (λ type a b r. (refl, refl, stands, r)) x y agrees),
           )
       by_inner x e (inr (next_parts, f, progress)) =
           inr (
@@ -349,10 +350,10 @@ module _ (change : Called) (p : ℕ) (calling : IsCallingWith change p) (objects
           inl (
             lifted (λ run. more_runs run others) (λ hole. in_first hole others) y,
             open_steps (first_open opens) _ _ _ o (among-map _ _ _ among_moves),
-            subst (λ z. MoveAgrees change.rename (ReadsIn change p n value named opens) (HolesRead change p n value named opens) z (lifted (λ run. more_runs run others) (λ hole. in_first hole others) y)) (sym e)
-                (lifted_agrees change.rename (ReadsOn named) (HoleReads change p n value named) (ReadsIn change p n value named opens) (HolesRead change p n value named opens)
+            subst (λ z. MoveAgrees change.rename (ReadsIn change p n value named opens) (λ type. HolesRead change p n value named type opens) z (lifted (λ run. more_runs run others) (λ hole. in_first hole others) y)) (sym e)
+                (lifted_agrees change.rename (ReadsOn named) (HoleReads change p n value named) (ReadsIn change p n value named opens) (λ type. HolesRead change p n value named type opens)
                 (λ run. more_runs run rest) (λ hole. in_first hole rest) (λ run. more_runs run others) (λ hole. in_first hole others)
-                (λ t u r. inl (o, r.0, s)) (λ a b r. inl (o, r, s)) x y agrees),
+                (λ t u r. inl (o, r.0, s)) (λ type a b r. inl (o, r, s)) x y agrees),
           )
       by_read x e (inr (run, f, progress)) =
           inr (more_runs run rest, e ∙ ap (lifted (λ r. more_runs r rest) (λ hole. in_first hole rest)) f, first_progress named opens run other rest others o s progress)
@@ -362,10 +363,10 @@ module _ (change : Called) (p : ℕ) (calling : IsCallingWith change p) (objects
       inl (
         lifted (more_runs other) (in_others other) plain_move.0,
         among_right _ (where_open (first_open opens) (map (lifted (λ run. more_runs run others) (λ hole. in_first hole others)) (moves old_scene world locks other))) _ (among-map _ _ _ plain_move.1),
-        subst (λ z. MoveAgrees change.rename (ReadsIn change p n value named opens) (HolesRead change p n value named opens) z (lifted (more_runs other) (in_others other) plain_move.0)) (sym from.2)
-            (lifted_agrees change.rename (RunsAgree change p true) (HolesAgree change p true) (ReadsIn change p n value named opens) (HolesRead change p n value named opens)
+        subst (λ z. MoveAgrees change.rename (ReadsIn change p n value named opens) (λ type. HolesRead change p n value named type opens) z (lifted (more_runs other) (in_others other) plain_move.0)) (sym from.2)
+            (lifted_agrees change.rename (RunsAgree change p true) (HolesAgree change p true) (ReadsIn change p n value named opens) (λ type. HolesRead change p n value named type opens)
             (more_runs first) (in_others first) (more_runs other) (in_others other)
-            (λ t u r. inl (o, h, r)) (λ a b r. inl (o, h, r)) from.0 plain_move.0 plain_move.2),
+            (λ t u r. inl (o, h, r)) (λ type a b r. inl (o, h, r)) from.0 plain_move.0 plain_move.2),
       )
 
   -- it is read in another one
@@ -381,10 +382,10 @@ module _ (change : Called) (p : ℕ) (calling : IsCallingWith change p) (objects
       inl (
         lifted (λ run. more_runs run others) (λ hole. in_first hole others) plain_move.0,
         open_steps (first_open opens) _ _ _ open_here.0 (among-map _ _ _ plain_move.1),
-        subst (λ z. MoveAgrees change.rename (ReadsIn change p n value named opens) (HolesRead change p n value named opens) z (lifted (λ run. more_runs run others) (λ hole. in_first hole others) plain_move.0)) (sym from.2)
-            (lifted_agrees change.rename (RunAgrees change p true) (HoleAgrees change p true) (ReadsIn change p n value named opens) (HolesRead change p n value named opens)
+        subst (λ z. MoveAgrees change.rename (ReadsIn change p n value named opens) (λ type. HolesRead change p n value named type opens) z (lifted (λ run. more_runs run others) (λ hole. in_first hole others) plain_move.0)) (sym from.2)
+            (lifted_agrees change.rename (RunAgrees change p true) (HoleAgrees change p true) (ReadsIn change p n value named opens) (λ type. HolesRead change p n value named type opens)
             (λ run. more_runs run rest) (λ hole. in_first hole rest) (λ run. more_runs run others) (λ hole. in_first hole others)
-            (λ t u r. inr (r, h)) (λ a b r. inr (r, h)) from.0 plain_move.0 plain_move.2),
+            (λ t u r. inr (r, h)) (λ type a b r. inr (r, h)) from.0 plain_move.0 plain_move.2),
       )
   plain_first named first rest other others opens s h inner m (inr k) =
       let from = among-map_from (lifted (more_runs first) (in_others first)) m _ k in
@@ -395,10 +396,10 @@ module _ (change : Called) (p : ℕ) (calling : IsCallingWith change p) (objects
           inl (
             lifted (more_runs other) (in_others other) y,
             among_right _ (where_open (first_open opens) (map (lifted (λ run. more_runs run others) (λ hole. in_first hole others)) (moves old_scene world locks other))) _ (among-map _ _ _ among_moves),
-            subst (λ z. MoveAgrees change.rename (ReadsIn change p n value named opens) (HolesRead change p n value named opens) z (lifted (more_runs other) (in_others other) y)) (sym e)
-                (lifted_agrees change.rename (ReadsIn change p n value named (others_open opens)) (HolesRead change p n value named (others_open opens)) (ReadsIn change p n value named opens) (HolesRead change p n value named opens)
+            subst (λ z. MoveAgrees change.rename (ReadsIn change p n value named opens) (λ type. HolesRead change p n value named type opens) z (lifted (more_runs other) (in_others other) y)) (sym e)
+                (lifted_agrees change.rename (ReadsIn change p n value named (others_open opens)) (λ type. HolesRead change p n value named type (others_open opens)) (ReadsIn change p n value named opens) (λ type. HolesRead change p n value named type opens)
                 (more_runs first) (in_others first) (more_runs other) (in_others other)
-                (λ t u r. inr (s, r)) (λ a b r. inr (s, r)) x y agrees),
+                (λ t u r. inr (s, r)) (λ type a b r. inr (s, r)) x y agrees),
           )
       by_read x e (inr (parts, f, progress)) =
           inr (more_runs first parts, e ∙ ap (lifted (more_runs first) (in_others first)) f, rest_progress named opens first other parts others s progress)

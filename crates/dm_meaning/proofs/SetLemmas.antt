@@ -1,30 +1,26 @@
--- The evaluation of an expression of some forms keeps its type, and comes to a value that was set.
-use Rattle.std.specs.Prelude.{◌≡◌, refl, ℕ, zero, suc, nat_lt, Bool, true, false, not, ◌||◌, List, [], ◌∷◌, ◌++◌, map, Option, Some, None, slice_get, Result as Outcome, Ok, Err, ℤ, if◌then◌else◌}
+-- What the step of a node gives was set, for the forms that give a value and don't convert it.
+use Rattle.std.specs.Prelude.{◌≡◌, refl, ℕ, zero, suc, nat_lt, pos, option_map, Bool, true, false, not, ◌||◌, List, [], ◌∷◌, ◌++◌, map, Option, Some, None, slice_get, Result as Outcome, Ok, Err, ℤ, if◌then◌else◌}
 use Rattle.std.proofs.Common.{true≢false, ap, sym, ◌∙◌, subst, inl, inr}
-use Rattle.dm_token.specs.declared.place.Place.{Place}
 use Rattle.dm_int.specs.declared.Fault.{Fault}
 use Rattle.dm_int.specs.declared.Op.{Op}
+use Rattle.dm_int.specs.declared.Kind.{Kind}
 use Rattle.dm_int.specs.declared.Kind.TheVariants.{Long}
 use Rattle.dm_int.specs.Operators as operators
-use Rattle.dm_tree.specs.Evaluation.{unary_value}
+use Rattle.dm_tree.specs.Evaluation.{unary_value, updated_value, counted_value}
 use Rattle.dm_int.specs.declared.Op.TheVariants.{Add, Sub, Less, Greater, LessEq, GreaterEq, Equal, NotEqual}
 use Rattle.dm_type.specs.CTypes.{CType, void, integer, pointer, array, struct, function as function_type, const, bare, is_const}
 use Rattle.dm_tree.specs.declared.tree.Sign.{Sign}
 use Rattle.dm_tree.specs.declared.tree.Sign.TheVariants.{Plus, Minus, Complement, Not}
-use Rattle.dm_tree.specs.Trees.{Label, number, enumerator, read, decay, address, unary, binary, both, either, call, sizeof_tree, sizeof_kind, Tree, node, label_of, kind_of}
+use Rattle.dm_tree.specs.Trees.{Label, number, enumerator, read, decay, address, unary, binary, store, update, count, sizeof_kind}
 use Rattle.dm_meaning.specs.declared.cause.Cause.{Cause}
 use Rattle.dm_meaning.specs.declared.cause.Cause.TheVariants.{Conflict, Bounds, Life, Unset, OtherType}
-use Rattle.dm_meaning.specs.Among.{IsAmong}
-use Rattle.dm_meaning.specs.Values.{Name, numbered, literal_of, elsewhere, part, past, Path, At, overlaps_any, Pointer, to, Value, integer_value, pointer_value, parts as compound, unset}
+use Rattle.dm_meaning.specs.Values.{Name, numbered, literal_of, elsewhere, part, past, Path, At, overlaps_any, Pointer, null, to, Value, integer_value, pointer_value, parts as compound, unset}
 use Rattle.dm_meaning.specs.Objects.{Layout, Field, Reached, object_of, outside, foreign, unknown, reached_member, element, from_part, part_at}
-use Rattle.dm_meaning.specs.Memory.{Memory, Block, look_up, look, lives, reached, reached_in, literal_block, contents_at}
+use Rattle.dm_meaning.specs.Memory.{Memory, Block, look_up, look, lives, reached, reached_in, literal_block, contents_at, written}
+use Rattle.dm_meaning.specs.Primitives.{Answer, answers, stops, refuses, put_character, get_character, text_at, most_in, written_line, put_line, end_program, Primitive, primitives, is_primitive, primitive_in, Prim}
 use Rattle.dm_meaning.specs.Programs.{layout}
-use Rattle.dm_meaning.specs.Causes.{earliest, when, is_unset, is_unset_object, is_outside, is_other, absence_causes, access_causes, read_causes, use_causes, order_causes}
-use Rattle.dm_meaning.specs.Operations.{Result, of_value, designates, Operand, World, Scene, Did, gives, breaks, ends_with, unless, decided, faulted, on_one, on_two, on_value, on_place, Truth, holds, untold, truth_of, on_truth, truth_in, typed_bare, typed, plain, read_at, part_of, byte_at, ordered, signed, pointer_plus, on_pointers, on_move, on_plus, combined, operate}
-use Rattle.dm_meaning.specs.Running.{Doing, evaluates, gives_truth, gives_value, Run, done, to_do, Runs, begun, Hole, here, within, Holes, filled_in, locks_in_all, open_parts, operands_in}
-use Rattle.dm_meaning.specs.Expressions.{Move, goes, calls, fails, exits, lifted, as_move, by_truth, on_operand, value_of, both_chosen, either_chosen, form_step, node_step, own_or_inner, moves, moves_in}
-use Rattle.dm_meaning.specs.CalledWith.{is_set}
-use Rattle.dm_meaning.proofs.AmongLemmas.{among-map_from}
+use Rattle.dm_meaning.specs.Causes.{when, is_null, store_causes, update_causes, is_unset, is_unset_object, is_outside, is_other, absence_causes, access_causes, read_causes, use_causes, order_causes}
+use Rattle.dm_meaning.specs.Operations.{Result, of_value, designates, Operand, World, Scene, Did, gives, breaks, ends_with, unless, decided, faulted, on_one, on_two, on_value, on_set, ill, on_place, converted, store_at, Made, made_number, kind_in, updated, counted, replace_at, count_at, update_at, Truth, holds, untold, truth_of, on_truth, truth_in, typed_bare, typed, plain, read_at, part_of, byte_at, ordered, signed, pointer_plus, on_pointers, on_move, on_plus, combined, operate}
 use Rattle.dm_meaning.proofs.OptionLemmas.{none_is_some}
 use Rattle.dm_meaning.proofs.ExtendLemmas.{nil_left, nil_right, when_false}
 
@@ -56,7 +52,7 @@ known_member None = tt
 
 known_element : (layout : Layout) (type : CType) (n : ℕ) → IsKnown (element layout type n)
 unfolding IsKnown
-known_element layout (array type (Some count)) n = known_if (nat_lt n count) type
+known_element layout (array type (Some known)) n = known_if (nat_lt n known) type
 known_element layout (array type None) n = tt
 known_element layout (struct at) n = known_member (slice_get (layout.fields at) n)
 known_element layout void n = tt
@@ -119,13 +115,16 @@ bare_set : (kind : CType) (z : ℤ) → is_unset (typed_bare kind z) ≡ false
 bare_set (integer kind) z = refl
 bare_set void z = refl
 bare_set (pointer type) z = refl
-bare_set (array type count) z = refl
+bare_set (array type known) z = refl
 bare_set (struct n) z = refl
 bare_set (function_type result parameters) z = refl
 bare_set (const type) z = refl
 
-typed_result : (kind : CType) (z : ℤ) → IsSetResult (of_value (typed kind z))
-typed_result kind z = (typed kind z, refl, bare_set (bare kind) z)
+pub typed_set : (kind : CType) (z : ℤ) → is_unset (typed kind z) ≡ false
+typed_set kind z = bare_set (bare kind) z
+
+pub typed_result : (kind : CType) (z : ℤ) → IsSetResult (of_value (typed kind z))
+typed_result kind z = (typed kind z, refl, typed_set kind z)
 
 pointer_result : (p : Pointer) → IsSetResult (of_value (pointer_value p))
 pointer_result p = (pointer_value p, refl, refl)
@@ -140,7 +139,7 @@ unless_pointer causes world p = unless_sets causes (gives world (of_value (point
 unless_typed : (causes : List Cause) (world : World) (kind : CType) (z : ℤ) → DidSets (unless causes (gives world (of_value (typed kind z)) []))
 unless_typed causes world kind z = unless_sets causes (gives world (of_value (typed kind z)) []) (λ e. typed_result kind z)
 
-one_sets : (operands : List Operand) (next : Operand → Did) → ((a : Operand) → DidSets (next a)) → DidSets (on_one operands next)
+pub one_sets : (operands : List Operand) (next : Operand → Did) → ((a : Operand) → DidSets (next a)) → DidSets (on_one operands next)
 one_sets [] next h = tt
 one_sets (a ∷ []) next h = h a
 one_sets (a ∷ b ∷ rest) next h = tt
@@ -166,6 +165,114 @@ fault_typed (Err fault) world kind = tt
 truth_typed : (truth : Truth) (world : World) (kind : CType) → DidSets (on_truth truth (λ b. plain world (truth_in kind (not b))))
 truth_typed (holds b) world kind = typed_result kind (operators.truth (not b))
 truth_typed (untold cause) world kind = tt
+
+-- a value that was set stays so
+pub set_sets : (result : Result) (next : Value → Did) → ((value : Value) → is_unset value ≡ false → DidSets (next value)) → DidSets (on_set result next)
+set_sets (of_value value) next h = by_set (is_unset value) refl
+  where
+    by_set : (b : Bool) → is_unset value ≡ b → DidSets (if b then ill else next value)
+    by_set true e = tt
+    by_set false e = h value e
+set_sets (designates at) next h = tt
+
+number_set : (kind : Kind) (outcome : Outcome ℤ Fault) → (made_number kind outcome).causes ≡ [] → is_unset (made_number kind outcome).value ≡ false
+number_set kind (Ok z) e = refl
+number_set kind (Err fault) e = absurd (cc)
+
+if_set : (b : Bool) (x y : Value) → is_unset x ≡ false → is_unset y ≡ false → is_unset (if b then x else y) ≡ false
+if_set true x y h k = h
+if_set false x y h k = k
+
+-- what is converted to another type than void
+pub converted_sets : (world : World) (kind : CType) (value : Value) → is_unset value ≡ false → DidSets (converted world kind value)
+converted_sets world (integer kind) (integer_value other z) e = (_, refl, refl)
+converted_sets world (integer kind) (pointer_value p) e =
+    unless_sets (use_causes world.memory p) (plain world (integer_value kind (operators.truth (not (is_null p))))) (λ c. (integer_value kind (operators.truth (not (is_null p))), refl, refl))
+converted_sets world (integer kind) (compound all) e = (_, refl, refl)
+converted_sets world (integer kind) unset e = absurd (true≢false e)
+converted_sets world (pointer target) (pointer_value p) e = unless_pointer (use_causes world.memory p) world p
+converted_sets world (pointer target) (integer_value kind z) e = (_, refl, refl)
+converted_sets world (pointer target) (compound all) e = (_, refl, refl)
+converted_sets world (pointer target) unset e = absurd (true≢false e)
+converted_sets world void value e = (value, refl, e)
+converted_sets world (array type known) value e = (value, refl, e)
+converted_sets world (struct n) value e = (value, refl, e)
+converted_sets world (function_type result parameters) value e = (value, refl, e)
+converted_sets world (const inner) value e = (value, refl, e)
+
+-- ---- the machine's own functions
+
+abbrev pub AnswerSets : Option Answer → Type 0
+AnswerSets None = Unit {0}
+AnswerSets (Some (answers value input output)) = is_unset value ≡ false
+AnswerSets (Some (stops status)) = Unit {0}
+AnswerSets (Some (refuses cause)) = Unit {0}
+
+put_sets : (arguments : List Value) (input output : List ℕ) → AnswerSets (Some (put_character arguments input output))
+put_sets (integer_value kind z ∷ []) input output = refl
+put_sets other input output = tt
+
+get_sets : (input output : List ℕ) → AnswerSets (Some (get_character input output))
+get_sets [] output = refl
+get_sets (byte ∷ input) output = refl
+
+written_sets : (line : Outcome (List ℕ) Cause) (input output : List ℕ) → AnswerSets (Some (written_line line input output))
+written_sets (Ok bytes) input output = refl
+written_sets (Err cause) input output = tt
+
+line_sets : (layout : Layout) (memory : Memory) (arguments : List Value) (input output : List ℕ) → AnswerSets (Some (put_line layout memory arguments input output))
+line_sets layout memory (pointer_value null ∷ []) input output = tt
+line_sets layout memory (pointer_value (to at) ∷ []) input output = written_sets (text_at layout memory (most_in layout (look memory at.name)) at) input output
+line_sets layout memory other input output = tt
+
+end_sets : (arguments : List Value) → AnswerSets (Some (end_program arguments))
+end_sets (integer_value kind z ∷ []) = tt
+end_sets other = tt
+
+abbrev AllSet : List Primitive → Type 0
+AllSet [] = Unit {0}
+AllSet (first ∷ rest) = ((layout : Layout) (memory : Memory) (arguments : List Value) (input output : List ℕ) → AnswerSets (Some (first.meaning layout memory arguments input output))) × AllSet rest
+
+all_set : AllSet primitives
+all_set = (
+  λ layout memory arguments input output. put_sets arguments input output,
+  (
+    λ layout memory arguments input output. get_sets input output,
+    (line_sets, (λ layout memory arguments input output. end_sets arguments, tt)),
+  ),
+)
+
+found_sets : (layout : Layout) (memory : Memory) (arguments : List Value) (input output : List ℕ) (name : List ℕ) (kind : CType) (all : List Primitive) → AllSet all
+    → AnswerSets (option_map (λ primitive. primitive.meaning layout memory arguments input output) (primitive_in all name kind))
+found_sets layout memory arguments input output name kind [] h = tt
+found_sets layout memory arguments input output name kind (first ∷ rest) h =
+    by_name (is_primitive name kind first) (found_sets layout memory arguments input output name kind rest h.1)
+  where
+    by_name : (b : Bool) → AnswerSets (option_map (λ primitive. primitive.meaning layout memory arguments input output) (primitive_in rest name kind))
+        → AnswerSets (option_map (λ primitive. primitive.meaning layout memory arguments input output) (if b then Some first else primitive_in rest name kind))
+    by_name true k = h.0 layout memory arguments input output
+    by_name false k = k
+
+-- What one of them answers was set.
+pub prim_sets : (layout : Layout) (memory : Memory) (name : List ℕ) (kind : CType) (arguments : List Value) (input output : List ℕ) → AnswerSets (Prim name kind layout memory arguments input output)
+prim_sets layout memory name kind arguments input output = found_sets layout memory arguments input output name kind primitives all_set
+
+-- ---- nodes
+
+-- the forms that give a value and don't convert it
+abbrev pub is_set : Label → Bool
+is_set (number z) = true
+is_set (enumerator d) = true
+is_set read = true
+is_set decay = true
+is_set address = true
+is_set (unary sign) = true
+is_set (binary op) = true
+is_set store = true
+is_set (update op works) = true
+is_set (count plus before) = true
+is_set (sizeof_kind type) = true
+is_set label = false
 
 module _ (scene : Scene) (world : World) (locks : List At) where
   signed_sets : (kind : CType) (sign : Sign) (value : Value) → DidSets (signed world kind sign value)
@@ -227,7 +334,54 @@ module _ (scene : Scene) (world : World) (locks : List At) where
       unless_sets (read_causes (layout scene.program) world.memory locks kind at) (plain world (contents_at world.memory at))
       (λ e. (contents_at world.memory at, refl, read_set (layout scene.program) world.memory locks kind at e))
 
-  operate_sets : (label : Label) (kind : CType) (operands : List Operand) → is_set label ≡ true → DidSets (operate scene world locks label kind operands)
+  store_sets : (kind : CType) (at : At) (value : Value) → is_unset value ≡ false → DidSets (store_at scene world locks kind at value)
+  store_sets kind at value e =
+      unless_sets (store_causes (layout scene.program) world.memory locks kind at) (gives (record world { memory = written world.memory at value }) (of_value value) (at ∷ [])) (λ c. (value, refl, e))
+
+  -- what is made of a value that was set
+  updated_set : (kind : CType) (op : Op) (works : CType) (a b : Value) → is_unset a ≡ false → (updated scene world kind op works a b).causes ≡ [] → is_unset (updated scene world kind op works a b).value ≡ false
+  updated_set kind op works (integer_value k m) (integer_value j n) s e = number_set k (updated_value op (kind_in works) k m n) e
+  updated_set kind op works (pointer_value p) (integer_value j n) s e = refl
+  updated_set kind op works unset b s e = absurd (true≢false s)
+  updated_set kind op works (compound all) b s e = absurd (cc)
+  updated_set kind op works (integer_value k m) (pointer_value q) s e = absurd (cc)
+  updated_set kind op works (integer_value k m) (compound all) s e = absurd (cc)
+  updated_set kind op works (integer_value k m) unset s e = absurd (cc)
+  updated_set kind op works (pointer_value p) (pointer_value q) s e = absurd (cc)
+  updated_set kind op works (pointer_value p) (compound all) s e = absurd (cc)
+  updated_set kind op works (pointer_value p) unset s e = absurd (cc)
+
+  counted_set : (kind : CType) (plus : Bool) (a : Value) → is_unset a ≡ false → (counted scene world kind plus a).causes ≡ [] → is_unset (counted scene world kind plus a).value ≡ false
+  counted_set kind plus (integer_value k m) s e = number_set k (counted_value plus k m) e
+  counted_set kind plus (pointer_value p) s e = refl
+  counted_set kind plus unset s e = absurd (true≢false s)
+  counted_set kind plus (compound all) s e = absurd (cc)
+
+  -- the object's value was set, where nothing is undefined
+  contents_set : (kind : CType) (at : At) (made : List Cause) → made ++ update_causes (layout scene.program) world.memory locks kind at ≡ [] → is_unset (contents_at world.memory at) ≡ false
+  contents_set kind at made e =
+      let reads = read_causes (layout scene.program) world.memory locks kind at in
+      let stores = store_causes (layout scene.program) world.memory locks kind at in
+      read_set (layout scene.program) world.memory locks kind at (nil_left reads stores (nil_right made (reads ++ stores) e))
+
+  update_sets : (kind : CType) (op : Op) (works : CType) (at : At) (value : Value) → DidSets (update_at scene world locks kind op works at value)
+  update_sets kind op works at value =
+      let made = updated scene world kind op works (contents_at world.memory at) value in
+      let updates = update_causes (layout scene.program) world.memory locks kind at in
+      unless_sets (made.causes ++ updates) (gives (record world { memory = written world.memory at made.value }) (of_value made.value) (at ∷ []))
+      (λ e. (made.value, refl, updated_set kind op works (contents_at world.memory at) value (contents_set kind at made.causes e) (nil_left made.causes updates e)))
+
+  count_sets : (kind : CType) (plus before : Bool) (at : At) → DidSets (count_at scene world locks kind plus before at)
+  count_sets kind plus before at =
+      let contents = contents_at world.memory at in
+      let made = counted scene world kind plus contents in
+      let updates = update_causes (layout scene.program) world.memory locks kind at in
+      unless_sets (made.causes ++ updates) (gives (record world { memory = written world.memory at made.value }) (of_value (if before then made.value else contents)) (at ∷ []))
+      (λ e.
+      let known = contents_set kind at made.causes e in
+      (if before then made.value else contents, refl, if_set before made.value contents (counted_set kind plus contents known (nil_left made.causes updates e)) known))
+
+  pub operate_sets : (label : Label) (kind : CType) (operands : List Operand) → is_set label ≡ true → DidSets (operate scene world locks label kind operands)
   operate_sets (number z) kind operands h = typed_result kind z
   operate_sets (enumerator d) kind operands h = typed_result kind _
   operate_sets read kind operands h = one_sets operands _ (λ a. place_sets a.result _ (read_sets kind))
@@ -236,102 +390,7 @@ module _ (scene : Scene) (world : World) (locks : List At) where
   operate_sets (unary sign) kind operands h = one_sets operands _ (λ a. value_sets a.result _ (signed_sets kind sign))
   operate_sets (binary op) kind operands h = two_sets operands _ (λ a b. value_sets a.result _ (λ x. value_sets b.result _ (combined_sets kind a.kind op x)))
   operate_sets (sizeof_kind type) kind operands h = typed_result kind _
-  operate_sets both kind operands h = tt
-  operate_sets either kind operands h = tt
-  operate_sets sizeof_tree kind operands h = tt
+  operate_sets store kind operands h = two_sets operands _ (λ a b. place_sets a.result _ (λ at. set_sets b.result _ (store_sets kind at)))
+  operate_sets (update op works) kind operands h = two_sets operands _ (λ a b. place_sets a.result _ (λ at. value_sets b.result _ (update_sets kind op works at)))
+  operate_sets (count plus before) kind operands h = one_sets operands _ (λ a. place_sets a.result _ (count_sets kind plus before))
   operate_sets label kind operands h = absurd (cc)
-
--- ---- what is under evaluation
-
-abbrev pub doing_sets : Doing → Bool
-doing_sets (evaluates label) = is_set label
-doing_sets gives_truth = true
-doing_sets gives_value = false
-
--- a tree under evaluation comes to a value of this type that was set
-abbrev pub Sets : CType → Run → Type 0
-Sets kind (done own result locks) = (own ≡ kind) × IsSetResult result
-Sets kind (to_do doing own place parts) = (own ≡ kind) × (doing_sets doing ≡ true)
-
--- and does so whatever value stands for the part that is left out
-abbrev pub HoleSets : CType → Hole → Type 0
-HoleSets kind here = ⊥
-HoleSets kind (within doing own place holes) = (own ≡ kind) × (doing_sets doing ≡ true)
-
-abbrev pub MoveSets : CType → Move Run Hole → Type 0
-MoveSets kind (goes world run) = Sets kind run
-MoveSets kind (calls f arguments called_kind hole) = HoleSets kind hole
-MoveSets kind (fails cause place) = Unit {0}
-MoveSets kind (exits status) = Unit {0}
-
-pub filled_sets : (kind : CType) (hole : Hole) (run : Run) → HoleSets kind hole → Sets kind (filled_in hole run)
-filled_sets kind here run h = absurd h
-filled_sets kind (within doing own place holes) run h = h
-
-pub begun_sets : (tree : Tree) → is_set (label_of tree) ≡ true → Sets (kind_of tree) (begun tree)
-begun_sets (node label kind spans parts) e = (refl, e)
-
-module _ (scene : Scene) (world : World) (locks : List At) (kind : CType) where
-  on_operand_sets : (place : Place) (operands : List Operand) (next : Operand → Move Run Hole) → ((a : Operand) → MoveSets kind (next a)) → MoveSets kind (on_operand place operands next)
-  on_operand_sets place [] next h = tt
-  on_operand_sets place (a ∷ []) next h = h a
-  on_operand_sets place (a ∷ b ∷ rest) next h = tt
-
-  by_truth_sets : (place : Place) (truth : Truth) (next : Bool → Run) → ((b : Bool) → Sets kind (next b)) → MoveSets kind (by_truth world place truth next)
-  by_truth_sets place (holds b) next h = h b
-  by_truth_sets place (untold cause) next h = tt
-
-  did_sets : (own : CType) (place : Place) (own_locks : List At) (did : Did) → own ≡ kind → DidSets did → MoveSets kind (as_move own place own_locks did)
-  did_sets own place own_locks (gives after result new) e h = (e, h)
-  did_sets own place own_locks (breaks cause) e h = tt
-  did_sets own place own_locks (ends_with status) e h = tt
-
-  form_sets : (label : Label) (own : CType) (place : Place) (members : Runs) (operands : List Operand) → own ≡ kind → is_set label ≡ true
-      → MoveSets kind (form_step scene world locks label own place members operands)
-  form_sets both own place members operands e h = on_operand_sets place operands _ (λ a. by_truth_sets place (truth_of world.memory (value_of a.result)) (both_chosen own place members) both_set)
-    where
-      both_set : (b : Bool) → Sets kind (both_chosen own place members b)
-      both_set true = (e, refl)
-      both_set false = (e, typed_result own (operators.truth false))
-  form_sets either own place members operands e h = on_operand_sets place operands _ (λ a. by_truth_sets place (truth_of world.memory (value_of a.result)) (either_chosen own place members) either_set)
-    where
-      either_set : (b : Bool) → Sets kind (either_chosen own place members b)
-      either_set true = (e, typed_result own (operators.truth true))
-      either_set false = (e, refl)
-  form_sets sizeof_tree own place members operands e h = (e, typed_result own _)
-  form_sets (number z) own place members operands e h = did_sets own place (locks_in_all members) (operate scene world locks (number z) own operands) e (operate_sets scene world locks (number z) own operands h)
-  form_sets (enumerator d) own place members operands e h = did_sets own place (locks_in_all members) (operate scene world locks (enumerator d) own operands) e (operate_sets scene world locks (enumerator d) own operands h)
-  form_sets (sizeof_kind type) own place members operands e h = did_sets own place (locks_in_all members) (operate scene world locks (sizeof_kind type) own operands) e (operate_sets scene world locks (sizeof_kind type) own operands h)
-  form_sets (unary sign) own place members operands e h = did_sets own place (locks_in_all members) (operate scene world locks (unary sign) own operands) e (operate_sets scene world locks (unary sign) own operands h)
-  form_sets (binary op) own place members operands e h = did_sets own place (locks_in_all members) (operate scene world locks (binary op) own operands) e (operate_sets scene world locks (binary op) own operands h)
-  form_sets read own place members operands e h = did_sets own place (locks_in_all members) (operate scene world locks read own operands) e (operate_sets scene world locks read own operands h)
-  form_sets decay own place members operands e h = did_sets own place (locks_in_all members) (operate scene world locks decay own operands) e (operate_sets scene world locks decay own operands h)
-  form_sets address own place members operands e h = did_sets own place (locks_in_all members) (operate scene world locks address own operands) e (operate_sets scene world locks address own operands h)
-  form_sets label own place members operands e h = absurd (cc)
-
-  node_sets : (doing : Doing) (own : CType) (place : Place) (members : Runs) (operands : List Operand) → own ≡ kind → doing_sets doing ≡ true
-      → MoveSets kind (node_step scene world locks doing own place members operands)
-  node_sets (evaluates label) own place members operands e h = form_sets label own place members operands e h
-  node_sets gives_truth own place members operands e h =
-      on_operand_sets place operands _ (λ a. by_truth_sets place (truth_of world.memory (value_of a.result)) (λ b. done own (of_value (truth_in own b)) (locks_in_all members)) (λ b. (e, typed_result own (operators.truth b))))
-  node_sets gives_value own place members operands e h = absurd (cc)
-
-  lifted_sets : (doing : Doing) (own : CType) (place : Place) (m : Move Runs Holes) → own ≡ kind → doing_sets doing ≡ true → MoveSets kind (lifted (to_do doing own place) (within doing own place) m)
-  lifted_sets doing own place (goes w members) e h = (e, h)
-  lifted_sets doing own place (calls f arguments called_kind holes) e h = (e, h)
-  lifted_sets doing own place (fails cause at) e h = tt
-  lifted_sets doing own place (exits status) e h = tt
-
-  own_sets : (doing : Doing) (own : CType) (place : Place) (members : Runs) → own ≡ kind → doing_sets doing ≡ true → (operands : Option (List Operand)) (inner : List (Move Runs Holes))
-      → (m : Move Run Hole) → IsAmong m (own_or_inner operands (node_step scene world locks doing own place members) (map (lifted (to_do doing own place) (within doing own place)) inner)) → MoveSets kind m
-  own_sets doing own place members e h (Some operands) inner m (inl k) = subst (MoveSets kind) (sym k) (node_sets doing own place members operands e h)
-  own_sets doing own place members e h (Some operands) inner m (inr k) = absurd k
-  own_sets doing own place members e h None inner m k =
-      let from = among-map_from _ m inner k in
-      subst (MoveSets kind) (sym from.2) (lifted_sets doing own place from.0 e h)
-
-  -- each step keeps what a tree comes to
-  pub move_sets_on : (run : Run) → Sets kind run → (m : Move Run Hole) → IsAmong m (moves scene world locks run) → MoveSets kind m
-  move_sets_on (done own result own_locks) h m k = absurd k
-  move_sets_on (to_do doing own place members) h m k =
-      own_sets doing own place members h.0 h.1 (operands_in (open_parts doing) members) (moves_in scene world locks (open_parts doing) members) m k

@@ -19,7 +19,7 @@ use Rattle.dm_meaning.specs.Running.{Run, done, to_do, Runs, more_runs, begun, a
 use Rattle.dm_meaning.specs.Expressions.{Move, goes, calls, fails, exits, value_of, moves}
 use Rattle.dm_meaning.specs.States.{Loop, Use, drops, chooses, selects, repeats, continues, returns, initialises, Task, begins, declares, initials, evaluates, again, tests, ends, ends_switch, leaves, skips, hands_back, Frame, Caller, State}
 use Rattle.dm_meaning.specs.Statements.{Turned, onward, refused, Local, with_expressions, evaluation, is_automatic, type_declared, named_from, declared_in, declarator_tasks, item_tasks_by, item_tasks, items_tasks, unlabelled, start_task, start_tasks, as_list, entered, memory_entered, begin_for, loop_with, on_one_tree, on_first_tree, on_option_tree, on_tree_if, returning, begin_form, begin_tree, begin_statement, initial_of, begin_declarator, part_tasks, count_items, value_listed, begin_initialiser, initial_value, selected_by, by_test, begins_one, concluded, tested, continued, unfolded, named_since, ended, after_break, after_continue}
-use Rattle.dm_meaning.specs.Steps.{opened_frame, opened_memory, given_from, opened, resumed, handed_back, is_main, gives_nothing, body_place, no_place, closed, turned, moved, scene_of, expression_steps, task_steps, steps_from, next, Step}
+use Rattle.dm_meaning.specs.Steps.{opened_frame, opened_memory, given_from, opened, resumed, lacks_value, gone_back, handed_back, is_main, gives_nothing, body_place, no_place, closed, turned, moved, scene_of, expression_steps, task_steps, steps_from, next, Step}
 use Rattle.dm_meaning.specs.Units.{static_numbers, statics_memory, argv_kind, arguments_for, start, Begins, machine_of}
 use Rattle.dm_meaning.specs.Extending.{HasAll}
 use Rattle.dm_meaning.specs.Lifetimes.{numbers_of}
@@ -437,9 +437,8 @@ module _ (program : Program) (names : ℕ → ℕ) (state : State) (more : Memor
   closed_spared false true = unchanged _ refl (handing unset)
   closed_spared false false = inl (NoValue, body_place (definition_of program state.frame.function) no_place, refl)
 
-  back_spared : (value : Value) (callers : List Caller) → CallersSettled memory callers → StateSpared (handed_back wide value callers) (handed_back state value callers)
-  back_spared value [] h = unchanged _ refl (record { frame = settled.frame; callers = settled.callers })
-  back_spared value (caller ∷ callers) h =
+  gone_spared : (value : Value) (caller : Caller) (callers : List Caller) → CallersSettled memory (caller ∷ callers) → StateSpared (gone_back wide value caller callers) (gone_back state value caller callers)
+  gone_spared value caller callers h =
       let numbers = numbers_of state.frame.objects in
       let grown = grown_killed numbers more memory has settled.frame.0 in
       let later = killed numbers memory in
@@ -462,6 +461,15 @@ module _ (program : Program) (names : ℕ → ℕ) (state : State) (more : Memor
         },
         grown,
       )
+
+  back_spared : (value : Value) (callers : List Caller) → CallersSettled memory callers → StateSpared (handed_back wide value callers) (handed_back state value callers)
+  back_spared value [] h = unchanged _ refl (record { frame = settled.frame; callers = settled.callers })
+  back_spared value (caller ∷ callers) h = by_lack (lacks_value caller.kind value)
+    where
+      by_lack : (b : Bool) → StateSpared (if b then record wide { standing = undefined NoValue caller.place } else gone_back wide value caller callers)
+          (if b then record state { standing = undefined NoValue caller.place } else gone_back state value caller callers)
+      by_lack true = inl (NoValue, caller.place, refl)
+      by_lack false = gone_spared value caller callers h
 
   module _ (rest : List Task) (rest_settled : TasksSettled memory rest) (place : Place) (use_of : Use) (use_settled : UseSettled memory use_of) where
     opened_spared : (kind : CType) (hole : Hole) (arguments : List Value) → LocksMade memory (hole_locks hole) → (o : Option Definition)

@@ -20,7 +20,7 @@ use Rattle.dm_meaning.specs.Running.{Run, done, to_do, Hole, locks_in}
 use Rattle.dm_meaning.specs.Expressions.{Move, goes, calls, fails, exits, moves}
 use Rattle.dm_meaning.specs.States.{Use, Task, begins, declares, initials, evaluates, again, tests, ends, ends_switch, leaves, skips, hands_back, Caller, State}
 use Rattle.dm_meaning.specs.Statements.{Turned, onward, refused, declared_in, type_declared, named_from, made_from, unfolded, concluded, begin_statement, begin_declarator, begin_initialiser, ended, after_break, after_continue}
-use Rattle.dm_meaning.specs.Steps.{given_from, opened_frame, opened_memory, opened, handed_back, is_main, gives_nothing, body_place, no_place, closed, turned, moved, scene_of, expression_steps, task_steps, steps_from, next, Step}
+use Rattle.dm_meaning.specs.Steps.{given_from, opened_frame, opened_memory, opened, lacks_value, gone_back, handed_back, is_main, gives_nothing, body_place, no_place, closed, turned, moved, scene_of, expression_steps, task_steps, steps_from, next, Step}
 use Rattle.dm_meaning.specs.Units.{machine_of}
 use Rattle.dm_meaning.specs.Replaced.{Replaced, new_of, renamed_declarator, Zipped, Agrees, facts_of, DefinitionAgrees, IsReplacement}
 use Rattle.dm_meaning.proofs.AmongLemmas.{among-map, among-map_from}
@@ -210,15 +210,21 @@ module _ (change : Replaced) (replacement : IsReplacement change) where
     back_met value [] (d ∷ ds) h among = absurd h
     back_met value (c ∷ cs) [] h among = absurd h
     back_met value (c ∷ cs) (d ∷ ds) h among =
-        one_step (handed_back other value (d ∷ ds)) among (handed_back now value (c ∷ cs)) (record {
-          standing = refl;
-          function = h.0.function;
-          objects = h.0.objects;
-          tasks = ((filled_agrees change c.hole d.hole (done c.kind (of_value value) []) (done d.kind (of_value value) []) h.0.hole (h.0.kind, refl, refl), h.0.use_of), h.0.tasks);
-          callers = h.1;
-          statics = refl;
-          world = ap (λ ns. record { memory = killed ns other.world.memory; input = other.world.input; output = other.world.output }) (numbers_renamed change.rename other.frame.objects);
-        })
+        subst (λ kind. Met (if lacks_value kind value then record now { standing = undefined NoValue c.place } else gone_back now value c cs)) (sym h.0.kind) (by_lack (lacks_value d.kind value) among)
+      where
+        by_lack : (b : Bool) → IsAmong (if b then record other { standing = undefined NoValue d.place } else gone_back other value d ds) (next names change.old other)
+            → Met (if b then record now { standing = undefined NoValue c.place } else gone_back now value c cs)
+        by_lack true k = inl (wrong_step (record other { standing = undefined NoValue d.place }) k NoValue d.place refl)
+        by_lack false k =
+            one_step (gone_back other value d ds) k (gone_back now value c cs) (record {
+              standing = refl;
+              function = h.0.function;
+              objects = h.0.objects;
+              tasks = ((filled_agrees change c.hole d.hole (done c.kind (of_value value) []) (done d.kind (of_value value) []) h.0.hole (h.0.kind, refl, refl), h.0.use_of), h.0.tasks);
+              callers = h.1;
+              statics = refl;
+              world = ap (λ ns. record { memory = killed ns other.world.memory; input = other.world.input; output = other.world.output }) (numbers_renamed change.rename other.frame.objects);
+            })
 
     -- ---- expressions
 

@@ -6,7 +6,8 @@
 --     IsCallingWith change parameter      the programs are the same but for such calls and the added function
 use Rattle.std.specs.Prelude.{◌≡◌, ◌⊎◌, ℕ, Bool, true, false, List, [], ◌∷◌, map, option_map, IsTrue}
 use Rattle.dm_type.specs.CTypes.{CType, bare}
-use Rattle.dm_tree.specs.Trees.{Label, number, enumerator, object, function, read, decay, address, unary, binary, both, either, update, count, call, sizeof_tree, sizeof_kind, return, Spans, Tree, Trees, node, no_trees, more_trees, label_of, kind_of, trees_of, parts_of}
+use Rattle.dm_tree.specs.Scenes.{is_void}
+use Rattle.dm_tree.specs.Trees.{Label, object, function, read, call, return, Spans, Tree, Trees, node, no_trees, more_trees, label_of, kind_of, trees_of, parts_of}
 use Rattle.dm_meaning.specs.Objects.{object_of}
 use Rattle.dm_meaning.specs.Causes.{is_other}
 use Rattle.dm_meaning.specs.Programs.{Definition, declaration_of}
@@ -44,32 +45,18 @@ abbrev mutual
 
 -- ---- trees
 
--- the forms whose own step gives a value that was set
-abbrev pub is_set : Label → Bool
-is_set (number z) = true
-is_set (enumerator d) = true
-is_set read = true
-is_set decay = true
-is_set address = true
-is_set (unary sign) = true
-is_set (binary op) = true
-is_set both = true
-is_set either = true
-is_set sizeof_tree = true
-is_set (sizeof_kind type) = true
-is_set label = false
-
 -- the added function is named
 pub record IsNamed (change : Called) (tree : Tree) : Type 0 where
   pub kind : CType
   pub spans : Spans
   pub is : tree ≡ node (function change.added.function) kind spans no_trees
 
--- a call of the added function stands where its expression was, of the same type, with this argument in it
+-- a call of the added function stands where its expression was, of the same type, with this argument in it, whose type isn't void
 pub record IsCall (change : Called) (parameter : ℕ) (label : Label) (kind : CType) (other argument : Tree) : Type 0 where
   pub is : label ≡ call
   pub typed : kind ≡ kind_of other
   pub holds : Holds change parameter change.body other argument
+  pub solid : is_void (bare (kind_of argument)) ≡ false
 
 abbrev mutual
   -- a tree is another one but for places at which the added function is called
@@ -83,14 +70,14 @@ abbrev mutual
   AllAgree change parameter (more_trees first rest) (more_trees other others) = Agrees change parameter first other × AllAgree change parameter rest others
   AllAgree change parameter parts others = ⊥
 
-  -- the function's name and the argument, which comes to a value that was set
+  -- the function's name and the argument, which gives a value
   pub Passes : Called → ℕ → Trees → Tree → Type 0
   Passes change parameter no_trees argument = ⊥
   Passes change parameter (more_trees named rest) argument = IsNamed change named × PassesAlone change parameter rest argument
 
   pub PassesAlone : Called → ℕ → Trees → Tree → Type 0
   PassesAlone change parameter no_trees argument = ⊥
-  PassesAlone change parameter (more_trees first no_trees) argument = (is_set (label_of first) ≡ true) × Agrees change parameter first argument
+  PassesAlone change parameter (more_trees first no_trees) argument = (gives_value (label_of first) ≡ true) × Agrees change parameter first argument
   PassesAlone change parameter (more_trees first (more_trees second rest)) argument = ⊥
 
 -- ---- programs

@@ -101,6 +101,11 @@ abbrev pub on_value : Result → (Value → Did) → Did
 on_value (of_value value) next = next value
 on_value (designates at) next = ill
 
+-- a value that was set; in no typed tree is one used that wasn't
+abbrev pub on_set : Result → (Value → Did) → Did
+on_set (of_value value) next = if is_unset value then ill else next value
+on_set (designates at) next = ill
+
 abbrev pub on_place : Result → (At → Did) → Did
 on_place (of_value value) next = ill
 on_place (designates at) next = next at
@@ -171,7 +176,7 @@ converted world kind value = plain world value
 -- what is converted to void is dropped (6.3.2.2)
 abbrev pub convert_bare : World → CType → Result → Did
 convert_bare world void result = plain world unset
-convert_bare world kind result = on_value result (converted world kind)
+convert_bare world kind result = on_set result (converted world kind)
 
 abbrev pub convert_to : World → CType → Result → Did
 convert_to world kind result = convert_bare world (bare kind) result
@@ -365,7 +370,7 @@ operate scene world locks (unary sign) kind operands = on_one operands (λ a. on
 operate scene world locks (binary op) kind operands =
     on_two operands (λ a b. on_value a.result (λ x. on_value b.result (combined scene world kind a.kind op x)))
 operate scene world locks store kind operands =
-    on_two operands (λ a b. on_place a.result (λ at. on_value b.result (store_at scene world locks kind at)))
+    on_two operands (λ a b. on_place a.result (λ at. on_set b.result (store_at scene world locks kind at)))
 operate scene world locks (update op works) kind operands =
     on_two operands (λ a b. on_place a.result (λ at. on_value b.result (update_at scene world locks kind op works at)))
 operate scene world locks (count plus before) kind operands = on_one operands (λ a. on_place a.result (count_at scene world locks kind plus before))

@@ -1,10 +1,11 @@
 -- The steps of a state: the one definition of what may happen next (5.1.2.3).
 --     next names program state      the states that a step may lead to, where new objects get these names
 --     Step program state other      a step may lead from one state to another
-use Rattle.std.specs.Prelude.{ℕ, suc, Bool, true, false, List, [], ◌∷◌, ◌++◌, map, length, Option, Some, None, pos, bytes_eq, codes, if◌then◌else◌}
+use Rattle.std.specs.Prelude.{ℕ, suc, Bool, true, false, not, ◌&&◌, List, [], ◌∷◌, ◌++◌, map, length, Option, Some, None, pos, bytes_eq, codes, if◌then◌else◌}
 use Rattle.dm_token.specs.declared.place.Place.{Place}
 use Rattle.dm_int.specs.declared.Kind.TheVariants.{Int}
-use Rattle.dm_type.specs.CTypes.{CType, void, function as function_type}
+use Rattle.dm_type.specs.CTypes.{CType, void, function as function_type, bare}
+use Rattle.dm_tree.specs.Scenes.{is_void}
 use Rattle.dm_tree.specs.Trees.{parts_of}
 use Rattle.dm_tree.specs.Units.{Declaration}
 use Rattle.dm_meaning.specs.declared.cause.Cause.TheVariants.{NoValue, External}
@@ -13,6 +14,7 @@ use Rattle.dm_meaning.specs.Machines.{Standing, going, exited, undefined}
 use Rattle.dm_meaning.specs.Values.{Value, integer_value, unset}
 use Rattle.dm_meaning.specs.Memory.{Memory, new_block, killed, IsFresh}
 use Rattle.dm_meaning.specs.Primitives.{byte_in}
+use Rattle.dm_meaning.specs.Causes.{is_unset}
 use Rattle.dm_meaning.specs.Programs.{Program, Definition, layout, declaration_of, definition_of}
 use Rattle.dm_meaning.specs.Operations.{of_value, Scene}
 use Rattle.dm_meaning.specs.Running.{Run, done, to_do, Hole, filled_in, locks_in}
@@ -67,14 +69,23 @@ abbrev pub status_of : Value → ℕ
 status_of (integer_value kind z) = byte_in z
 status_of value = 0
 
--- a function returns a value: its objects die (6.2.4p5), and the one that called it goes on, or the program ends (5.1.2.2.3)
-abbrev pub handed_back : State → Value → List Caller → State
-handed_back state value [] = record state { standing = exited (status_of value) }
-handed_back state value (caller ∷ callers) = record state {
+-- a function gave no value to a call whose type isn't void (6.9.1p12); no typed function does, since its closing brace is undefined there
+abbrev pub lacks_value : CType → Value → Bool
+lacks_value kind value = not (is_void (bare kind)) && is_unset value
+
+-- the one that called the function goes on, and the function's objects die (6.2.4p5)
+abbrev pub gone_back : State → Value → Caller → List Caller → State
+gone_back state value caller callers = record state {
   frame = resumed caller value;
   callers = callers;
   world = record state.world { memory = killed (map (λ entry. entry.1) state.frame.objects) state.world.memory };
 }
+
+-- a function returns a value to the one that called it, or the program ends (5.1.2.2.3)
+abbrev pub handed_back : State → Value → List Caller → State
+handed_back state value [] = record state { standing = exited (status_of value) }
+handed_back state value (caller ∷ callers) =
+    if lacks_value caller.kind value then record state { standing = undefined NoValue caller.place } else gone_back state value caller callers
 
 -- ---- the closing brace of a body
 
