@@ -4,7 +4,7 @@ use Rattle.std.proofs.Common.{arith, ap, sym, ◌∙◌, inl, inr}
 use Rattle.dm_meaning.specs.Called.{new_of, IsSame, Agrees, IsCalling}
 use Rattle.dm_meaning.specs.CalledWith as passed
 use Rattle.dm_meaning.specs.CalledWith.{Holds, IsCallingWith}
-use Rattle.dm_meaning.specs.Examples.{beyond_third, called_add, calling_twice, stored_there, reading, summed, doubled, called_with, beyond_two, calling_with_twice}
+use Rattle.dm_meaning.specs.Examples.{beyond_third, called_add, calling_twice, stored_there, reading, summed, doubled, counted, called_with, beyond_two, calling_with_twice, called_double, beyond_main, calling_double}
 use Rattle.dm_meaning.specs.Programs.{declaration_of}
 use Rattle.dm_meaning.specs.Replaced.{facts_of}
 
@@ -39,7 +39,7 @@ told (suc (suc zero)) = refl
 told (suc (suc (suc d))) = refl
 
 -- the expression in the function and in the old program
-same_expression : IsSame beyond_third calling_twice.body calling_twice.body
+same_expression : IsSame calling_twice calling_twice.body calling_twice.body
 same_expression = (refl, refl, refl, ((refl, refl, refl, ((refl, refl, refl, ((refl, refl, refl, tt), tt)), tt)), ((refl, refl, refl, tt), tt)))
 
 called_here : Agrees calling_twice called_add calling_twice.body
@@ -89,6 +89,12 @@ apart_with (suc zero) e = omega (arith, e)
 apart_with (suc (suc zero)) e = omega (arith, e)
 apart_with (suc (suc (suc d))) e = omega (arith, e)
 
+own_with : (d : ℕ) → beyond_two d ≡ 4 → ⊥
+own_with zero e = omega (arith, e)
+own_with (suc zero) e = omega (arith, e)
+own_with (suc (suc zero)) e = omega (arith, e)
+own_with (suc (suc (suc d))) e = omega (arith, e)
+
 told_with : (d : ℕ) → option_map facts_of (declaration_of (new_of calling_with_twice) (beyond_two d)) ≡ option_map facts_of (declaration_of calling_with_twice.old d)
 told_with zero = refl
 told_with (suc zero) = refl
@@ -96,7 +102,7 @@ told_with (suc (suc zero)) = refl
 told_with (suc (suc (suc d))) = refl
 
 -- the expression has the argument where the function reads its parameter
-same_update : IsSame beyond_two (stored_there 2) (stored_there 2)
+same_update : IsSame calling_with_twice (stored_there 2) (stored_there 2)
 same_update = (refl, refl, refl, ((refl, refl, refl, ((refl, refl, refl, ((refl, refl, refl, tt), tt)), tt)), ((refl, refl, refl, tt), tt)))
 
 holds_read : Holds calling_with_twice 4 (summed (reading 4)) (summed (reading 3)) (reading 3)
@@ -121,6 +127,7 @@ pub premises_with : IsCallingWith calling_with_twice 4
 premises_with = record {
   injective = injective_with;
   apart = apart_with;
+  own = own_with;
   told = told_with;
   functions = inr (
     (refl, refl, (inl (refl, refl, tt, (inl (refl, refl, tt, (inl (refl, refl, tt, tt), tt)), tt)), tt)),
@@ -137,6 +144,65 @@ premises_with = record {
     ),
   );
   statics = ((refl, refl, (inl (refl, refl, tt), tt)), tt);
+  not_main = refl;
+  parameters = refl;
+  return_kind = _;
+  return_spans = _;
+  returns = refl;
+  value = refl;
+}
+
+-- ---- a call in the argument of another one
+
+without_main : ℕ → ℕ
+without_main zero = 0
+without_main (suc zero) = 0
+without_main (suc (suc zero)) = 0
+without_main (suc (suc (suc d))) = suc d
+
+without_beyond_main : (d : ℕ) → without_main (beyond_main d) ≡ d
+unfolding without_main
+without_beyond_main zero = refl
+without_beyond_main (suc d) = refl
+
+injective_double : (c d : ℕ) → beyond_main c ≡ beyond_main d → c ≡ d
+injective_double c d e = sym (without_beyond_main c) ∙ ap without_main e ∙ without_beyond_main d
+
+apart_double : (d : ℕ) → beyond_main d ≡ 1 → ⊥
+apart_double zero e = omega (arith, e)
+apart_double (suc d) e = omega (arith, e)
+
+own_double : (d : ℕ) → beyond_main d ≡ 2 → ⊥
+own_double zero e = omega (arith, e)
+own_double (suc d) e = omega (arith, e)
+
+told_double : (d : ℕ) → option_map facts_of (declaration_of (new_of calling_double) (beyond_main d)) ≡ option_map facts_of (declaration_of calling_double.old d)
+told_double zero = refl
+told_double (suc d) = refl
+
+holds_count : Holds calling_double 2 (doubled (reading 2)) (doubled (counted 1)) (counted 1)
+holds_count = (refl, refl, refl, inl (refl, inl (record { spans = _; named_kind = _; named_spans = _; is = refl; own = refl; stands = refl }), ((refl, refl, refl, tt), tt)))
+
+holds_double : Holds calling_double 2 (doubled (reading 2)) (doubled (doubled (counted 1))) (doubled (counted 1))
+holds_double = (refl, refl, refl, inl (refl, inl (record { spans = _; named_kind = _; named_spans = _; is = refl; own = refl; stands = refl }), ((refl, refl, refl, tt), tt)))
+
+count_agrees : passed.Agrees calling_double 2 (counted 3) (counted 1)
+count_agrees = inl (refl, refl, tt, (inl (refl, refl, tt, tt), tt))
+
+call_of_count : passed.Agrees calling_double 2 (called_double (counted 3)) (doubled (counted 1))
+call_of_count = inr (counted 1, record { is = refl; typed = refl; holds = holds_count; solid = refl }, (record { kind = _; spans = _; is = refl }, (refl, count_agrees)))
+
+call_of_call : passed.Agrees calling_double 2 (called_double (called_double (counted 3))) (doubled (doubled (counted 1)))
+call_of_call = inr (doubled (counted 1), record { is = refl; typed = refl; holds = holds_double; solid = refl }, (record { kind = _; spans = _; is = refl }, (refl, call_of_count)))
+
+pub premises_double : IsCallingWith calling_double 2
+premises_double = record {
+  injective = injective_double;
+  apart = apart_double;
+  own = own_double;
+  told = told_double;
+  functions = inl (refl, ((refl, refl, (inl (refl, refl, tt, (inl (refl, refl, tt, tt), tt)), (inl (refl, refl, tt, (call_of_call, tt)), tt))), tt));
+  statics = tt;
   not_main = refl;
   parameters = refl;
   return_kind = _;

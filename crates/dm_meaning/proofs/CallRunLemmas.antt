@@ -10,12 +10,12 @@ use Rattle.dm_tree.specs.Units.{Declaration}
 use Rattle.dm_meaning.specs.Among.{IsAmong}
 use Rattle.dm_meaning.specs.Values.{At, Value}
 use Rattle.dm_meaning.specs.Primitives.{Answer, answers, stops, refuses, Prim}
-use Rattle.dm_meaning.specs.Programs.{Definition, layout, declaration_of, definition_in, definition_of}
+use Rattle.dm_meaning.specs.Programs.{Program, Definition, layout, declaration_of, definition_in, definition_of}
 use Rattle.dm_meaning.specs.Operations.{of_value, Operand, World, Objects, Scene, Did, gives, breaks, ends_with, typed, Truth, holds, untold, truth_of, enumerator_number, number_of_sort, enumerator_in, object_named, designated, operate}
 use Rattle.dm_meaning.specs.Running.{Doing, evaluates, gives_truth, gives_value, Run, done, to_do, Runs, no_runs, more_runs, begun, all_begun, locks_in, locks_in_all, Open, first_open, others_open, open_of, open_parts, first_result, operands_in, Hole, here, within, Holes, in_first, in_others, filled_in, all_filled_in, IsOpen, AreOpen}
 use Rattle.dm_meaning.specs.Expressions.{Move, goes, calls, fails, exits, lifted, as_move, by_truth, on_operand, value_of, nth_run, both_chosen, either_chosen, function_in, function_named, answered, undefined_called, called, call_step, kind_of_run, form_step, node_step, own_or_inner, where_open, moves, moves_in}
 use Rattle.dm_meaning.specs.Replaced.{relabelled, Zipped, facts_of}
-use Rattle.dm_meaning.specs.Called.{Called, new_of, gives_value as root_gives_value, is_object, IsSame, AreSame, Agrees, AllAgree, DefinitionAgrees, FunctionsAgree, IsCalling}
+use Rattle.dm_meaning.specs.Called.{Called, new_of, gives_value as root_gives_value, is_static_number, means_the_same, IsSame, AreSame, Agrees, AllAgree, DefinitionAgrees, FunctionsAgree, IsCalling}
 use Rattle.dm_meaning.proofs.AmongLemmas.{among_left, among_right, among_either, among-map, among-map_from}
 use Rattle.dm_meaning.proofs.MoveLemmas.{inner_steps, open_steps}
 use Rattle.dm_meaning.proofs.OptionLemmas.{none_is_some}
@@ -26,10 +26,10 @@ use Rattle.dm_meaning.proofs.RunLemmas.{redone, same_renamed, OptionAgrees}
 
 -- ---- how trees, and trees with a part left out, agree
 
--- in the added function no object has a name
-abbrev pub may_stand : Bool → Doing → Bool
-may_stand true (evaluates (object d)) = false
-may_stand inside doing = true
+-- in the added function no objects have names but those of static storage duration
+abbrev pub may_stand : Program → Bool → Doing → Bool
+may_stand program true (evaluates (object d)) = is_static_number program.statics d
+may_stand program inside doing = true
 
 -- a call of the added function that isn't evaluated yet, where the old program has the expression
 pub record IsCallRun (change : Called) (inside : Bool) (doing : Doing) (kind : CType) (parts : Runs) (other : Run) : Type 0 where
@@ -41,7 +41,7 @@ pub record IsCallRun (change : Called) (inside : Bool) (doing : Doing) (kind : C
   pub alone : parts ≡ more_runs (to_do (evaluates (function change.added.function)) named_kind named_place no_runs) no_runs
   pub untouched : other ≡ begun tree
   pub typed : kind ≡ kind_of tree
-  pub same : IsSame change.rename change.body tree
+  pub same : IsSame change change.body tree
 
 abbrev mutual
   -- in the added function, or elsewhere
@@ -50,7 +50,7 @@ abbrev mutual
   RunAgrees change inside (done kind result locks) (to_do doing other_kind place parts) = ⊥
   RunAgrees change inside (to_do doing kind place parts) (done other_kind result locks) = ⊥
   RunAgrees change inside (to_do doing kind place parts) (to_do other other_kind other_place others) =
-      ((doing ≡ redone change.rename other) × (kind ≡ other_kind) × (may_stand inside other ≡ true) × RunsAgree change inside parts others)
+      ((doing ≡ redone change.rename other) × (kind ≡ other_kind) × (may_stand change.old inside other ≡ true) × RunsAgree change inside parts others)
       ⊎ IsCallRun change inside doing kind parts (to_do other other_kind other_place others)
 
   pub RunsAgree : Called → Bool → Runs → Runs → Type 0
@@ -63,7 +63,7 @@ abbrev mutual
   pub HoleAgrees : Called → Bool → Hole → Hole → Type 0
   HoleAgrees change inside here here = Unit {0}
   HoleAgrees change inside (within doing kind place holes) (within other other_kind other_place others) =
-      (doing ≡ redone change.rename other) × (kind ≡ other_kind) × (may_stand inside other ≡ true) × HolesAgree change inside holes others
+      (doing ≡ redone change.rename other) × (kind ≡ other_kind) × (may_stand change.old inside other ≡ true) × HolesAgree change inside holes others
   HoleAgrees change inside here (within other other_kind other_place others) = ⊥
   HoleAgrees change inside (within doing kind place holes) here = ⊥
 
@@ -205,16 +205,16 @@ mutual
   all_begun_agree change no_trees (more_trees other others) h = absurd h
   all_begun_agree change (more_trees first rest) no_trees h = absurd h
 
-pub stands_inside : (label : Label) → is_object label ≡ false → may_stand true (evaluates label) ≡ true
-stands_inside (object d) e = absurd (cc)
-stands_inside label e = refl
+pub stands_inside : (program : Program) (label : Label) → means_the_same program label ≡ true → may_stand program true (evaluates label) ≡ true
+stands_inside program (object d) e = e
+stands_inside program label e = refl
 
 mutual
-  pub begun_same : (change : Called) (tree other : Tree) → IsSame change.rename tree other → RunAgrees change true (begun tree) (begun other)
+  pub begun_same : (change : Called) (tree other : Tree) → IsSame change tree other → RunAgrees change true (begun tree) (begun other)
   begun_same change (node label kind spans parts) (node other other_kind other_spans others) h =
-      inl (ap evaluates h.0, h.1, stands_inside other h.2, all_begun_same change parts others h.3)
+      inl (ap evaluates h.0, h.1, stands_inside change.old other h.2, all_begun_same change parts others h.3)
 
-  pub all_begun_same : (change : Called) (trees others : Trees) → AreSame change.rename trees others → RunsAgree change true (all_begun trees) (all_begun others)
+  pub all_begun_same : (change : Called) (trees others : Trees) → AreSame change trees others → RunsAgree change true (all_begun trees) (all_begun others)
   all_begun_same change no_trees no_trees h = tt
   all_begun_same change (more_trees first rest) (more_trees other others) h = (begun_same change first other h.0, all_begun_same change rest others h.1)
   all_begun_same change no_trees (more_trees other others) h = absurd h
@@ -290,10 +290,10 @@ relabelled_gives rename (enumerator d) = refl
 relabelled_gives rename label = refl
 
 -- the expression gives a value in the old program too
-pub old_gives : (change : Called) → IsCalling change → (other : Tree) → IsSame change.rename change.body other → root_gives_value (label_of other) ≡ true
+pub old_gives : (change : Called) → IsCalling change → (other : Tree) → IsSame change change.body other → root_gives_value (label_of other) ≡ true
 old_gives change calling other h = sym (relabelled_gives change.rename (label_of other)) ∙ sym (ap root_gives_value (label_same change.body other h)) ∙ calling.value
   where
-    label_same : (tree other : Tree) → IsSame change.rename tree other → label_of tree ≡ relabelled change.rename (label_of other)
+    label_same : (tree other : Tree) → IsSame change tree other → label_of tree ≡ relabelled change.rename (label_of other)
     label_same (node label kind spans parts) other h = h.0
 
 pub same_function : (change : Called) (calling : IsCalling change) (inside : Bool) (run other : Run) → RunAgrees change inside run other → function_named run ≡ option_map change.rename (function_named other)
@@ -361,18 +361,18 @@ pub kind_fact : Option (List ℕ × Sort × CType) → CType
 kind_fact None = void
 kind_fact (Some facts) = facts.2
 
-pub stands_always : (inside : Bool) → may_stand inside gives_value ≡ true
-stands_always true = refl
-stands_always false = refl
+pub stands_always : (program : Program) (inside : Bool) → may_stand program inside gives_value ≡ true
+stands_always program true = refl
+stands_always program false = refl
 
-pub truth_stands : (inside : Bool) → may_stand inside gives_truth ≡ true
-truth_stands true = refl
-truth_stands false = refl
+pub truth_stands : (program : Program) (inside : Bool) → may_stand program inside gives_truth ≡ true
+truth_stands program true = refl
+truth_stands program false = refl
 
 -- A step of the new program beside its own locks and objects, and one of the old program beside at least these locks; in the added function
 -- the objects may be others.
 module _ (change : Called) (calling : IsCalling change) (inside : Bool) (objects others : Objects)
-    (same_objects : (d : ℕ) → may_stand inside (evaluates (object d)) ≡ true → object_named objects (change.rename d) ≡ object_named others d)
+    (same_objects : (d : ℕ) → may_stand change.old inside (evaluates (object d)) ≡ true → object_named objects (change.rename d) ≡ object_named others d)
     (world : World) (fewer locks : List At) (among : AreAmong fewer locks) where
   abbrev new_scene : Scene
   new_scene = record { program = new_of change; objects = objects }
@@ -417,30 +417,30 @@ module _ (change : Called) (calling : IsCalling change) (inside : Bool) (objects
   same_enumerator : (d : ℕ) → enumerator_number (new_of change) (change.rename d) ≡ enumerator_number change.old d
   same_enumerator d = enumerator_fact (declaration_of (new_of change) (change.rename d)) ∙ ap number_fact (calling.told d) ∙ sym (enumerator_fact (declaration_of change.old d))
 
-  operate_same : (label : Label) (kind : CType) (operands : List Operand) → may_stand inside (evaluates label) ≡ true
+  operate_same : (label : Label) (kind : CType) (operands : List Operand) → may_stand change.old inside (evaluates label) ≡ true
       → operate new_scene world fewer (relabelled change.rename label) kind operands ≡ operate old_scene world fewer label kind operands
   operate_same (enumerator d) kind operands stands = ap (λ z. gives world (of_value (typed kind z)) []) (same_enumerator d)
   operate_same (object d) kind operands stands = ap (designated world) (same_objects d stands)
   operate_same label kind operands stands = refl
 
-  form_agrees : (label : Label) (kind : CType) (place at : Place) (parts other_parts : Runs) (operands : List Operand) → RunsAgree change inside parts other_parts → may_stand inside (evaluates label) ≡ true
+  form_agrees : (label : Label) (kind : CType) (place at : Place) (parts other_parts : Runs) (operands : List Operand) → RunsAgree change inside parts other_parts → may_stand change.old inside (evaluates label) ≡ true
       → RunMoveAgrees change inside (form_step new_scene world fewer (relabelled change.rename label) kind place parts operands) (form_step old_scene world locks label kind at other_parts operands)
   form_agrees both kind place at parts other_parts operands h stands =
       on_operand_agrees change inside place at operands _ _ (λ a. by_truth_agrees change inside world place at (truth_of world.memory (value_of a.result)) _ _ (both_agrees))
     where
       both_agrees : (b : Bool) → RunAgrees change inside (both_chosen kind place parts b) (both_chosen kind at other_parts b)
-      both_agrees true = inl (refl, refl, truth_stands inside, (nth_agrees change inside 1 parts other_parts h, tt))
+      both_agrees true = inl (refl, refl, truth_stands change.old inside, (nth_agrees change inside 1 parts other_parts h, tt))
       both_agrees false = (refl, refl, λ lock k. k)
   form_agrees either kind place at parts other_parts operands h stands =
       on_operand_agrees change inside place at operands _ _ (λ a. by_truth_agrees change inside world place at (truth_of world.memory (value_of a.result)) _ _ (either_agrees))
     where
       either_agrees : (b : Bool) → RunAgrees change inside (either_chosen kind place parts b) (either_chosen kind at other_parts b)
       either_agrees true = (refl, refl, λ lock k. k)
-      either_agrees false = inl (refl, refl, truth_stands inside, (nth_agrees change inside 1 parts other_parts h, tt))
+      either_agrees false = inl (refl, refl, truth_stands change.old inside, (nth_agrees change inside 1 parts other_parts h, tt))
   form_agrees choose kind place at parts other_parts operands h stands =
       on_operand_agrees change inside place at operands _ _ (λ a. by_truth_agrees change inside world place at (truth_of world.memory (value_of a.result)) _ _
-      (λ b. inl (refl, refl, stands_always inside, (nth_agrees change inside (if b then 1 else 2) parts other_parts h, tt))))
-  form_agrees comma kind place at parts other_parts operands h stands = (refl, inl (refl, refl, stands_always inside, (nth_agrees change inside 1 parts other_parts h, tt)))
+      (λ b. inl (refl, refl, stands_always change.old inside, (nth_agrees change inside (if b then 1 else 2) parts other_parts h, tt))))
+  form_agrees comma kind place at parts other_parts operands h stands = (refl, inl (refl, refl, stands_always change.old inside, (nth_agrees change inside 1 parts other_parts h, tt)))
   form_agrees call kind place at parts other_parts operands h stands =
       subst (λ named. RunMoveAgrees change inside (call_step new_scene world kind place (map (λ a. value_of a.result) operands) named) (call_step old_scene world kind at (map (λ a. value_of a.result) operands) (function_named (nth_run 0 other_parts))))
       (sym (same_function change calling inside (nth_run 0 parts) (nth_run 0 other_parts) (nth_agrees change inside 0 parts other_parts h)))
@@ -453,7 +453,7 @@ module _ (change : Called) (calling : IsCalling change) (inside : Bool) (objects
       (did_agrees change inside kind place at (locks_in_all parts) (locks_in_all other_parts) (operate old_scene world locks label kind operands) (operate old_scene world fewer label kind operands)
       (operate_fewer old_scene world locks fewer among label kind operands) (fewer_locks_all change inside parts other_parts h))
 
-  node_agrees : (doing : Doing) (kind : CType) (place at : Place) (parts other_parts : Runs) (operands : List Operand) → RunsAgree change inside parts other_parts → may_stand inside doing ≡ true
+  node_agrees : (doing : Doing) (kind : CType) (place at : Place) (parts other_parts : Runs) (operands : List Operand) → RunsAgree change inside parts other_parts → may_stand change.old inside doing ≡ true
       → RunMoveAgrees change inside (node_step new_scene world fewer (redone change.rename doing) kind place parts operands) (node_step old_scene world locks doing kind at other_parts operands)
   node_agrees (evaluates label) kind place at parts other_parts operands h stands = form_agrees label kind place at parts other_parts operands h stands
   node_agrees gives_truth kind place at parts other_parts operands h stands =
@@ -469,16 +469,16 @@ module _ (change : Called) (calling : IsCalling change) (inside : Bool) (objects
   Matched other m =
       ((n : Move Run Hole) × IsAmong n (moves old_scene world locks other) × RunMoveAgrees change inside m n)
       ⊎ ((inside ≡ false) × (tree : Tree) × (hole other_hole : Hole) × (m ≡ calls change.added.function [] (kind_of tree) hole) × HoleAgrees change inside hole other_hole × IsOpen other_hole
-      × (other ≡ filled_in other_hole (begun tree)) × IsSame change.rename change.body tree)
+      × (other ≡ filled_in other_hole (begun tree)) × IsSame change change.body tree)
 
   abbrev MatchedIn : Open → Runs → Move Runs Holes → Type 0
   MatchedIn opens other_parts m =
       ((n : Move Runs Holes) × IsAmong n (moves_in old_scene world locks opens other_parts) × MoveAgrees change.rename (RunsAgree change inside) (HolesAgree change inside) m n)
       ⊎ ((inside ≡ false) × (tree : Tree) × (holes other_holes : Holes) × (m ≡ calls change.added.function [] (kind_of tree) holes) × HolesAgree change inside holes other_holes × AreOpen opens other_holes
-      × (other_parts ≡ all_filled_in other_holes (begun tree)) × IsSame change.rename change.body tree)
+      × (other_parts ≡ all_filled_in other_holes (begun tree)) × IsSame change change.body tree)
 
   -- the step of a node whose operands are evaluated, or one of its operands
-  by_operands : (doing : Doing) (kind : CType) (place at : Place) (parts other_parts : Runs) → RunsAgree change inside parts other_parts → may_stand inside doing ≡ true
+  by_operands : (doing : Doing) (kind : CType) (place at : Place) (parts other_parts : Runs) → RunsAgree change inside parts other_parts → may_stand change.old inside doing ≡ true
       → (o : Option (List Operand)) → operands_in (open_parts doing) other_parts ≡ o
       → ((m : Move Runs Holes) → IsAmong m (moves_in new_scene world fewer (open_parts doing) parts) → MatchedIn (open_parts doing) other_parts m)
       → (m : Move Run Hole) → IsAmong m (own_or_inner o (node_step new_scene world fewer (redone change.rename doing) kind place parts)
@@ -519,7 +519,7 @@ module _ (change : Called) (calling : IsCalling change) (inside : Bool) (objects
           )
 
   -- a node of the same form
-  node_matched : (doing other : Doing) (kind other_kind : CType) (place at : Place) (parts other_parts : Runs) → doing ≡ redone change.rename other → kind ≡ other_kind → may_stand inside other ≡ true → RunsAgree change inside parts other_parts
+  node_matched : (doing other : Doing) (kind other_kind : CType) (place at : Place) (parts other_parts : Runs) → doing ≡ redone change.rename other → kind ≡ other_kind → may_stand change.old inside other ≡ true → RunsAgree change inside parts other_parts
       → ((opens : Open) (m : Move Runs Holes) → IsAmong m (moves_in new_scene world fewer opens parts) → MatchedIn opens other_parts m)
       → (m : Move Run Hole) → IsAmong m (moves new_scene world fewer (to_do doing kind place parts)) → Matched (to_do other other_kind at other_parts) m
   node_matched doing other kind other_kind place at parts other_parts e f stands h inner m k =

@@ -15,6 +15,7 @@ use Rattle.dm_meaning.specs.Units.{static_numbers, statics_memory, argv_kind, ar
 use Rattle.dm_meaning.specs.Replaced.{Zipped, StaticAgrees, IsReplacement}
 use Rattle.dm_meaning.specs.Called.{Called, new_of, DefinitionAgrees, FunctionsAgree, statics_of, IsCalling}
 use Rattle.dm_meaning.proofs.OptionLemmas.{none_is_some, some_is_some}
+use Rattle.dm_meaning.proofs.KnownLemmas.{AreKnown, begins_known, known_later}
 use Rattle.dm_meaning.proofs.RunLemmas.{OptionAgrees, renamed_objects}
 use Rattle.dm_meaning.proofs.StartLemmas as plain
 use Rattle.dm_meaning.proofs.StaticLemmas.{statics_memory_same}
@@ -118,7 +119,7 @@ module _ (change : Called) (calling : IsCalling change) where
   -- ---- the simulation
 
   Relates : ℕ → State → State → Type 0
-  Relates w state other = Related change w state other
+  Relates w state other = Related change w state other × AreKnown change.old other.statics
 
   goes_nothing : (program : Program) (t : State) → Goes (machine_of program) 0 t t
   unfolding Goes
@@ -139,17 +140,17 @@ module _ (change : Called) (calling : IsCalling change) where
   simulation : IsSimulation (machine_of (new_of change)) (machine_of change.old) Relates 4 4
   unfolding Relates
   simulation = record {
-    begins = λ input s b. let t = begins_agrees input s b in (4, t.0, omega arith, t.1, inl (omega arith, t.2));
-    steps = λ w s s' t h step. met w s' t (step_met change calling w s s' t h step);
-    going_on = λ w s t h e. inr (sym (same_standing w s t h) ∙ e, same_output w s t h);
-    ending = λ w s t status h e. inr (0, t, goes_nothing change.old t, sym (same_standing w s t h) ∙ e, same_output w s t h);
-    wrong = λ w s t cause place h e. (0, t, goes_nothing change.old t, cause, place, sym (same_standing w s t h) ∙ e);
+    begins = λ input s b. let t = begins_agrees input s b in (4, t.0, omega arith, t.1, (inl (omega arith, t.2), begins_known change.old input t.0 t.1));
+    steps = λ w s s' t h step. met w s' t h.1 (step_met change calling w s s' t h.0 h.1 step);
+    going_on = λ w s t h e. inr (sym (same_standing w s t h.0) ∙ e, same_output w s t h.0);
+    ending = λ w s t status h e. inr (0, t, goes_nothing change.old t, sym (same_standing w s t h.0) ∙ e, same_output w s t h.0);
+    wrong = λ w s t cause place h e. (0, t, goes_nothing change.old t, cause, place, sym (same_standing w s t h.0) ∙ e);
   }
     where
-      met : (w : ℕ) (s' t : State) → Met change w t s' → GoesWrong (machine_of change.old) t ⊎ Meets (machine_of (new_of change)) (machine_of change.old) (Related change) 4 w s' t
-      met w s' t (inl k) = inl k
-      met w s' t (inr (inl k)) = inr (1, 4, k.0, goes_once change.old t k.0 k.1, omega arith, k.2)
-      met w s' t (inr (inr k)) = inr (0, k.0, t, goes_nothing change.old t, omega (arith, k.1), k.2)
+      met : (w : ℕ) (s' t : State) → AreKnown change.old t.statics → Met change w t s' → GoesWrong (machine_of change.old) t ⊎ Meets (machine_of (new_of change)) (machine_of change.old) Relates 4 w s' t
+      met w s' t known (inl k) = inl k
+      met w s' t known (inr (inl k)) = inr (1, 4, k.0, goes_once change.old t k.0 k.1, omega arith, (k.2, known_later change.old t k.0 k.1 known))
+      met w s' t known (inr (inr k)) = inr (0, k.0, t, goes_nothing change.old t, omega (arith, k.1), (k.2, known))
 
 -- A program that calls the added function refines the program that has its expression in place.
 pub called_refines : (change : Called) → IsCalling change → Refines (machine_of (new_of change)) (machine_of change.old)

@@ -33,6 +33,7 @@ use Rattle.dm_meaning.proofs.YieldLemmas.{Yields, HoleYields, MoveYields, filled
 use Rattle.dm_meaning.proofs.StatementLemmas.{map_append, numbers_renamed, named_from_renamed, length_renamed}
 use Rattle.dm_meaning.proofs.CallStatementLemmas.{UseAgrees, TasksAgree, TurnedAgrees, listed_agrees, same_type, declared_in_agrees, made_from_agrees, items_agree, statement_begins, declarator_begins, initialiser_begins, conclusion_agrees, unfolded_agree, ended_agrees, break_agrees, continue_agrees}
 use Rattle.dm_meaning.proofs.OptionLemmas.{none_is_some, some_is_some}
+use Rattle.dm_meaning.proofs.KnownLemmas.{AreKnown, same_static}
 
 -- ---- how states agree
 
@@ -89,7 +90,7 @@ pub record Beginning (change : Called) (w : ℕ) (tasks : List Task) (kind : CTy
   pub tree : Tree
   pub untouched : run ≡ begun tree
   pub typed : kind ≡ kind_of tree
-  pub same : IsSame change.rename change.body tree
+  pub same : IsSame change change.body tree
   pub left : 1 ≤ w
 
 abbrev pub Left : ℕ → Run → Type 0
@@ -485,7 +486,7 @@ module _ (change : Called) (calling : IsCalling change) where
       moved_met (exits status) (calls g others other_kind other_hole) h among = absurd h
 
       -- the added function is called: the old program stays where it is
-      added_met : (tree : Tree) (hole other_hole : Hole) → HoleAgrees change false hole other_hole → IsOpen other_hole → IsSame change.rename change.body tree
+      added_met : (tree : Tree) (hole other_hole : Hole) → HoleAgrees change false hole other_hole → IsOpen other_hole → IsSame change change.body tree
           → unfolded other.frame.tasks ≡ evaluates at (filled_in other_hole (begun tree)) other_use ∷ other_rest
           → (definition : Option Definition) → definition ≡ Some change.added
           → Met change w other (opened (new_of change) names now rest place use_of (kind_of tree) hole [] definition)
@@ -533,20 +534,20 @@ module _ (change : Called) (calling : IsCalling change) where
           let run = to_do doing kind spot parts in
           let other_run = to_do other_doing other_kind there others in
           let from = among-map_from (moved (new_of change) names now rest place use_of) state _ k in
-          let objects = renamed_objects change.rename other.frame.objects ++ renamed_objects change.rename other.statics in
+          let objects = renamed_objects change.rename other.statics ++ renamed_objects change.rename other.frame.objects in
           subst (Met change w other) (sym from.2)
           (by_match from.0
-          (run_matched change calling false objects (other.frame.objects ++ other.statics) (λ d stands'. same_objects d) other.world (locks_in run) (locks_in other_run) (fewer_locks change false run other_run h) run other_run h from.0 from.1))
+          (run_matched change calling false objects (other.statics ++ other.frame.objects) (λ d stands'. same_objects d) other.world (locks_in run) (locks_in other_run) (fewer_locks change false run other_run h) run other_run h from.0 from.1))
         where
-          same_objects : (d : ℕ) → object_named (renamed_objects change.rename other.frame.objects ++ renamed_objects change.rename other.statics) (change.rename d) ≡ object_named (other.frame.objects ++ other.statics) d
+          same_objects : (d : ℕ) → object_named (renamed_objects change.rename other.statics ++ renamed_objects change.rename other.frame.objects) (change.rename d) ≡ object_named (other.statics ++ other.frame.objects) d
           same_objects d =
-              ap (λ os. object_named os (change.rename d)) (sym (map_append (λ (entry : ℕ × ℕ). (change.rename entry.0, entry.1)) other.frame.objects other.statics))
-              ∙ object_renamed change.rename calling.injective (other.frame.objects ++ other.statics) d
+              ap (λ os. object_named os (change.rename d)) (sym (map_append (λ (entry : ℕ × ℕ). (change.rename entry.0, entry.1)) other.statics other.frame.objects))
+              ∙ object_renamed change.rename calling.injective (other.statics ++ other.frame.objects) d
 
           by_match : (m : Move Run Hole)
               → ((n : Move Run Hole) × IsAmong n (moves (scene_of change.old other) other.world (locks_in (to_do other_doing other_kind there others)) (to_do other_doing other_kind there others)) × RunMoveAgrees change false m n)
               ⊎ ((false ≡ false) × (tree : Tree) × (hole other_hole : Hole) × (m ≡ calls change.added.function [] (kind_of tree) hole) × HoleAgrees change false hole other_hole × IsOpen other_hole
-              × (to_do other_doing other_kind there others ≡ filled_in other_hole (begun tree)) × IsSame change.rename change.body tree)
+              × (to_do other_doing other_kind there others ≡ filled_in other_hole (begun tree)) × IsSame change change.body tree)
               → Met change w other (moved (new_of change) names now rest place use_of m)
           by_match m (inl (n, among, agrees)) =
               moved_met m n agrees
@@ -616,7 +617,7 @@ module _ (change : Called) (calling : IsCalling change) where
   -- ---- one step in the added function
 
   module _ (names : ℕ → ℕ) (other : State) (fresh : IsFresh names other.world.memory) (stands : other.standing ≡ going)
-      (function : ℕ) (caller : Caller) (others : List Caller) (run : Run) (waits : Waits change caller others other run) (w : ℕ) where
+      (function : ℕ) (caller : Caller) (others : List Caller) (run : Run) (waits : Waits change caller others other run) (w : ℕ) (known : AreKnown change.old other.statics) where
     abbrev in_added : List Task → State
     in_added tasks = record {
       standing = other.standing;
@@ -661,7 +662,7 @@ module _ (change : Called) (calling : IsCalling change) where
     beginning_met tasks h state k =
         at_return (subst (λ ts. IsAmong state (task_steps (new_of change) names (in_added ts) (unfolded ts))) h.is k)
       where
-        tree_kind : (tree other_tree : Tree) → IsSame change.rename tree other_tree → kind_of tree ≡ kind_of other_tree
+        tree_kind : (tree other_tree : Tree) → IsSame change tree other_tree → kind_of tree ≡ kind_of other_tree
         tree_kind (node label kind spans parts) other_tree same = same.1
 
         tree_yields : (tree : Tree) → gives_value (label_of tree) ≡ true → Yields (kind_of tree) (begun tree)
@@ -887,14 +888,15 @@ module _ (change : Called) (calling : IsCalling change) where
         let from = among-map_from (moved (new_of change) names (in_added (evaluates place now returns ∷ [])) [] place returns) state _ k in
         subst (Met change w other) (sym from.2)
         (by_match from.0
-        (move_yields_on (record { program = new_of change; objects = renamed_objects change.rename other.statics }) other.world (locks_in now) caller.kind now yields from.0 from.1)
-        (run_matched change calling true (renamed_objects change.rename other.statics) (other.frame.objects ++ other.statics) (λ d k'. absurd (cc)) other.world (locks_in now) (locks_in whole)
+        (move_yields_on (record { program = new_of change; objects = renamed_objects change.rename other.statics ++ [] }) other.world (locks_in now) caller.kind now yields from.0 from.1)
+        (run_matched change calling true (renamed_objects change.rename other.statics ++ []) (other.statics ++ other.frame.objects)
+        (λ d stands'. same_static change.rename calling.injective other.statics [] other.frame.objects d (known d stands')) other.world (locks_in now) (locks_in whole)
         (λ lock l. locks_lift waits.hole run lock (fewer_locks change true now run agrees lock l)) now run agrees from.0 from.1))
       where
         by_match : (m : Move Run Hole) → MoveYields caller.kind m
             → ((n : Move Run Hole) × IsAmong n (moves (scene_of change.old other) other.world (locks_in whole) run) × RunMoveAgrees change true m n)
             ⊎ ((true ≡ false) × (tree : Tree) × (hole other_hole : Hole) × (m ≡ calls change.added.function [] (kind_of tree) hole) × HoleAgrees change true hole other_hole × IsOpen other_hole
-            × (run ≡ filled_in other_hole (begun tree)) × IsSame change.rename change.body tree)
+            × (run ≡ filled_in other_hole (begun tree)) × IsSame change change.body tree)
             → Met change w other (moved (new_of change) names (in_added (evaluates place (to_do doing kind here_at parts) returns ∷ [])) [] place returns m)
         by_match m y (inl (n, among, h)) =
             inside_moved place (to_do doing kind here_at parts) left agrees yields m n h y
@@ -922,13 +924,13 @@ module _ (change : Called) (calling : IsCalling change) where
   }
 
   -- each step is met
-  pub step_met : (w : ℕ) (state next_state other : State) → Related change w state other → Step (new_of change) state next_state → Met change w other next_state
-  step_met w state next_state other (inl (enough, h)) step =
+  pub step_met : (w : ℕ) (state next_state other : State) → Related change w state other → AreKnown change.old other.statics → Step (new_of change) state next_state → Met change w other next_state
+  step_met w state next_state other (inl (enough, h)) known step =
       let moved_step : Step (new_of change) (built change other state.frame.tasks state.callers) next_state =
       subst (λ s. Step (new_of change) s next_state) (is_built change state other h) step in
       let from = from_steps other.standing _ next_state moved_step.2 in
       tasks_met moved_step.0 other moved_step.1 from.0 state.frame.tasks h.tasks state.callers h.callers w enough (unfolded state.frame.tasks) (unfolded other.frame.tasks) h.tasks refl next_state from.1
-  step_met w state next_state other (inr h) step =
+  step_met w state next_state other (inr h) known step =
       let moved_step = subst (λ s. Step (new_of change) s next_state) (inside_is w state other h) step in
       let from = from_steps other.standing _ next_state moved_step.2 in
-      phase_met moved_step.0 other moved_step.1 from.0 state.frame.function h.caller h.others h.run h.waits w state.frame.tasks h.phase next_state from.1
+      phase_met moved_step.0 other moved_step.1 from.0 state.frame.function h.caller h.others h.run h.waits w known state.frame.tasks h.phase next_state from.1

@@ -30,3 +30,4 @@ mod PassStatementLemmas
 mod ReadLemmas
 mod PassStateLemmas
 mod PassRefineLemmas
+mod KnownLemmas

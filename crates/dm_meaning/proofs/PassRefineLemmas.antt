@@ -22,6 +22,7 @@ use Rattle.dm_meaning.specs.CalledWith.{DefinitionAgrees, FunctionsAgree, IsCall
 use Rattle.dm_meaning.specs.Extending.{HasAll}
 use Rattle.dm_meaning.specs.MoreObjects.{IsSettled, IsSpare, Grown, with_memory, Spared}
 use Rattle.dm_meaning.proofs.OptionLemmas.{none_is_some, some_is_some}
+use Rattle.dm_meaning.proofs.KnownLemmas.{AreKnown, begins_known, known_later}
 use Rattle.dm_meaning.proofs.RunLemmas.{OptionAgrees, renamed_objects}
 use Rattle.dm_meaning.proofs.StartLemmas as plain
 use Rattle.dm_meaning.proofs.StaticLemmas.{statics_memory_same}
@@ -134,6 +135,7 @@ module _ (change : Called) (p : ℕ) (calling : IsCallingWith change p) where
     pub related : Related change p w spare state (with_memory other more)
     pub settled : IsSettled other
     pub has : HasAll more other.world.memory
+    pub known : AreKnown change.old other.statics
     pub spares : AllSpare change p more other.world.memory spare
 
   none_below : (more memory : Memory) (n : ℕ) → HasAll more memory → look_up more n ≡ None → look_up memory n ≡ None
@@ -227,10 +229,10 @@ module _ (change : Called) (p : ℕ) (calling : IsCallingWith change p) where
   unfolding Outcome
   stays_met w v s' t less related = inr (0, v, t, goes_nothing change.old t, omega (arith, less), related)
 
-  met : (w : ℕ) (s' t : State) (more : Memory) (spare : Spare) → IsSettled t → HasAll more t.world.memory → AllSpare change p more t.world.memory spare → Met change p w spare (with_memory t more) s' → Outcome w s' t
+  met : (w : ℕ) (s' t : State) (more : Memory) (spare : Spare) → IsSettled t → HasAll more t.world.memory → AllSpare change p more t.world.memory spare → AreKnown change.old t.statics → Met change p w spare (with_memory t more) s' → Outcome w s' t
   unfolding Outcome
-  met w s' t more spare settled has spares (inl (n, u, goes, cause, place, e)) = inl (wrong_without n change.old more t u settled has goes cause place e)
-  met w s' t more spare settled has spares (inr (inl (last, step, related))) = by_step (spared_steps change.old t last more settled has step)
+  met w s' t more spare settled has spares known (inl (n, u, goes, cause, place, e)) = inl (wrong_without n change.old more t u settled has goes cause place e)
+  met w s' t more spare settled has spares known (inr (inl (last, step, related))) = by_step (spared_steps change.old t last more settled has step)
     where
       by_step : GoesWrong (machine_of change.old) t ⊎ Spared change.old t last more → Outcome w s' t
       by_step (inl wrong) = inl wrong
@@ -247,12 +249,13 @@ module _ (change : Called) (p : ℕ) (calling : IsCallingWith change p) where
               related = subst (Related change p 6 spare s') spared.is related;
               settled = spared.settled;
               has = spared.grown.has;
+              known = known_later change.old t spared.next spared.step known;
               spares = kept more t.world.memory spared.after spared.next.world.memory spared.grown spare spares;
             },
           )
-  met w s' t more spare settled has spares (inr (inr (inl (v, less, related)))) =
-      stays_met w v s' t less (record { more = more; spare = spare; related = related; settled = settled; has = has; spares = spares })
-  met w s' t more spare settled has spares (inr (inr (inr (inl h)))) =
+  met w s' t more spare settled has spares known (inr (inr (inl (v, less, related)))) =
+      stays_met w v s' t less (record { more = more; spare = spare; related = related; settled = settled; has = has; known = known; spares = spares })
+  met w s' t more spare settled has spares known (inr (inr (inr (inl h)))) =
       let block = parameter_block change p h.value in
       let apart = others_apart more t.world.memory h.n h.fresh spare spares in
       stays_met w h.left s' t h.less (record {
@@ -261,13 +264,14 @@ module _ (change : Called) (p : ℕ) (calling : IsCallingWith change p) where
         related = h.related;
         settled = settled;
         has = has_one_more more t.world.memory h.n block has h.fresh;
+        known = known;
         spares = (
           (ap (λ b. if b then Some block else look_up more h.n) (equal_is h.n h.n refl), none_below more t.world.memory h.n has h.fresh),
           apart,
           added_apart more t.world.memory h.n block spare apart spares,
         );
       })
-  met w s' t more spare settled has spares (inr (inr (inr (inr h)))) =
+  met w s' t more spare settled has spares known (inr (inr (inr (inr h)))) =
       let all = subst (AllSpare change p more t.world.memory) h.is spares in
       stays_met w h.left s' t h.less (record {
         more = killed (h.first.0 ∷ []) more;
@@ -275,14 +279,15 @@ module _ (change : Called) (p : ℕ) (calling : IsCallingWith change p) where
         related = h.related;
         settled = settled;
         has = has_one_less more t.world.memory h.first.0 has all.0.1;
+        known = known;
         spares = killed_apart more t.world.memory h.first.0 h.rest all.1 all.2;
       })
 
   steps_met : (w : ℕ) (s s' t : State) → Relation w s t → Step (new_of change) s s' → Outcome w s' t
   steps_met w s s' t h step =
-      met w s' t h.more h.spare h.settled h.has h.spares
+      met w s' t h.more h.spare h.settled h.has h.spares h.known
       (step_met change p calling w h.spare s s' (with_memory t h.more) h.related t.world.memory h.spares
-      (unfolded_settled t.world.memory t.frame.tasks h.settled.frame.1) step)
+      (unfolded_settled t.world.memory t.frame.tasks h.settled.frame.1) h.known step)
 
   begins_related : (input : List ℕ) (s : State) → Begins (new_of change) input s → (w : ℕ) × (t : State) × (w ≤ 6) × Begins change.old input t × Relation w s t
   begins_related input s b =
@@ -297,6 +302,7 @@ module _ (change : Called) (p : ℕ) (calling : IsCallingWith change p) where
           related = inl (omega arith, t.2);
           settled = settled_beginnings change.old input t.0 t.1;
           has = λ n block e. e;
+          known = begins_known change.old input t.0 t.1;
           spares = tt;
         },
       )

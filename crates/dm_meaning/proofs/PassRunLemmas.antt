@@ -17,7 +17,7 @@ use Rattle.dm_meaning.specs.Operations.{Result, of_value, Operand, World, Object
 use Rattle.dm_meaning.specs.Running.{Doing, evaluates, gives_truth, gives_value, Run, done, to_do, Runs, no_runs, more_runs, begun, all_begun, locks_in, locks_in_all, Open, first_open, others_open, open_of, open_parts, first_result, operands_in, Hole, here, within, Holes, in_first, in_others, filled_in, all_filled_in, IsOpen, AreOpen, hole_in, holes_in}
 use Rattle.dm_meaning.specs.Expressions.{Move, goes, calls, fails, exits, lifted, as_move, by_truth, on_operand, value_of, nth_run, both_chosen, either_chosen, function_in, function_named, answered, undefined_called, called, call_step, kind_of_run, form_step, node_step, own_or_inner, where_open, moves, moves_in}
 use Rattle.dm_meaning.specs.Replaced.{relabelled, Zipped, facts_of}
-use Rattle.dm_meaning.specs.Called.{Called, new_of, gives_value as root_gives_value, is_object, IsSame, AreSame}
+use Rattle.dm_meaning.specs.Called.{Called, new_of, gives_value as root_gives_value, IsSame, AreSame}
 use Rattle.dm_meaning.specs.CalledWith.{IsParameter, Holds, HoldsBelow, IsNamed, Agrees, AllAgree, Passes, PassesAlone, DefinitionAgrees, FunctionsAgree, IsCallingWith}
 use Rattle.dm_meaning.specs.Extending.{AreAmong}
 use Rattle.dm_meaning.specs.Steps.{lacks_value}
@@ -126,7 +126,7 @@ abbrev mutual
   RunAgrees change p inside (done kind result locks) (to_do doing other_kind place parts) = ⊥
   RunAgrees change p inside (to_do doing kind place parts) (done other_kind result locks) = ⊥
   RunAgrees change p inside (to_do doing kind place parts) (to_do other other_kind other_place others) =
-      ((doing ≡ redone change.rename other) × (kind ≡ other_kind) × (may_stand inside other ≡ true) × RunsAgree change p inside parts others)
+      ((doing ≡ redone change.rename other) × (kind ≡ other_kind) × (may_stand change.old inside other ≡ true) × RunsAgree change p inside parts others)
       ⊎ ((inner : Run) × (passed : IsPassed change p inside doing kind (to_do other other_kind other_place others) inner) × PassesRun change p inside (kind_of passed.argument) parts inner)
 
   pub RunsAgree : Called → ℕ → Bool → Runs → Runs → Type 0
@@ -150,7 +150,7 @@ abbrev mutual
   pub HoleAgrees : Called → ℕ → Bool → CType → Hole → Hole → Type 0
   HoleAgrees change p inside filler here here = Unit {0}
   HoleAgrees change p inside filler (within doing kind place holes) (within other other_kind other_place others) =
-      ((doing ≡ redone change.rename other) × (kind ≡ other_kind) × (may_stand inside other ≡ true) × HolesAgree change p inside filler holes others)
+      ((doing ≡ redone change.rename other) × (kind ≡ other_kind) × (may_stand change.old inside other ≡ true) × HolesAgree change p inside filler holes others)
       ⊎ ((inner : Hole) × (passed : IsPassedHole change p inside doing kind (within other other_kind other_place others) inner) × PassesHole change p inside filler (kind_of passed.argument) holes inner)
   HoleAgrees change p inside filler here (within other other_kind other_place others) = ⊥
   HoleAgrees change p inside filler (within doing kind place holes) here = ⊥
@@ -306,11 +306,11 @@ mutual
   begun_passes_alone change p (more_trees first (more_trees second rest)) argument h = absurd h
 
 mutual
-  pub begun_same : (change : Called) (p : ℕ) (tree other : Tree) → IsSame change.rename tree other → RunAgrees change p true (begun tree) (begun other)
+  pub begun_same : (change : Called) (p : ℕ) (tree other : Tree) → IsSame change tree other → RunAgrees change p true (begun tree) (begun other)
   begun_same change p (node label kind spans parts) (node other other_kind other_spans others) h =
-      inl (ap evaluates h.0, h.1, stands_inside other h.2, all_begun_same change p parts others h.3)
+      inl (ap evaluates h.0, h.1, stands_inside change.old other h.2, all_begun_same change p parts others h.3)
 
-  pub all_begun_same : (change : Called) (p : ℕ) (trees others : Trees) → AreSame change.rename trees others → RunsAgree change p true (all_begun trees) (all_begun others)
+  pub all_begun_same : (change : Called) (p : ℕ) (trees others : Trees) → AreSame change trees others → RunsAgree change p true (all_begun trees) (all_begun others)
   all_begun_same change p no_trees no_trees h = tt
   all_begun_same change p (more_trees first rest) (more_trees other others) h = (begun_same change p first other h.0, all_begun_same change p rest others h.1)
   all_begun_same change p no_trees (more_trees other others) h = absurd h
@@ -559,7 +559,7 @@ calls_yields kind m h f arguments called_kind hole e = subst (MoveYields kind) e
 -- A step of the new program beside its own locks and objects, and one of the old program beside at least these locks; in the added function
 -- the objects may be others.
 module _ (change : Called) (p : ℕ) (calling : IsCallingWith change p) (inside : Bool) (objects others : Objects)
-    (same_objects : (d : ℕ) → may_stand inside (evaluates (object d)) ≡ true → object_named objects (change.rename d) ≡ object_named others d)
+    (same_objects : (d : ℕ) → may_stand change.old inside (evaluates (object d)) ≡ true → object_named objects (change.rename d) ≡ object_named others d)
     (world : World) (fewer locks : List At) (among : AreAmong fewer locks) where
   abbrev new_scene : Scene
   new_scene = record { program = new_of change; objects = objects }
@@ -604,30 +604,30 @@ module _ (change : Called) (p : ℕ) (calling : IsCallingWith change p) (inside 
   same_enumerator : (d : ℕ) → enumerator_number (new_of change) (change.rename d) ≡ enumerator_number change.old d
   same_enumerator d = enumerator_fact (declaration_of (new_of change) (change.rename d)) ∙ ap number_fact (calling.told d) ∙ sym (enumerator_fact (declaration_of change.old d))
 
-  operate_same : (label : Label) (kind : CType) (operands : List Operand) → may_stand inside (evaluates label) ≡ true
+  operate_same : (label : Label) (kind : CType) (operands : List Operand) → may_stand change.old inside (evaluates label) ≡ true
       → operate new_scene world fewer (relabelled change.rename label) kind operands ≡ operate old_scene world fewer label kind operands
   operate_same (enumerator d) kind operands stands = ap (λ z. gives world (of_value (typed kind z)) []) (same_enumerator d)
   operate_same (object d) kind operands stands = ap (designated world) (same_objects d stands)
   operate_same label kind operands stands = refl
 
-  form_agrees : (label : Label) (kind : CType) (place at : Place) (parts other_parts : Runs) (operands : List Operand) → RunsAgree change p inside parts other_parts → may_stand inside (evaluates label) ≡ true
+  form_agrees : (label : Label) (kind : CType) (place at : Place) (parts other_parts : Runs) (operands : List Operand) → RunsAgree change p inside parts other_parts → may_stand change.old inside (evaluates label) ≡ true
       → RunMoveAgrees change p inside (form_step new_scene world fewer (relabelled change.rename label) kind place parts operands) (form_step old_scene world locks label kind at other_parts operands)
   form_agrees both kind place at parts other_parts operands h stands =
       on_operand_agrees change p inside place at operands _ _ (λ a. by_truth_agrees change p inside world place at (truth_of world.memory (value_of a.result)) _ _ (both_agrees))
     where
       both_agrees : (b : Bool) → RunAgrees change p inside (both_chosen kind place parts b) (both_chosen kind at other_parts b)
-      both_agrees true = inl (refl, refl, truth_stands inside, (nth_agrees change p inside 1 parts other_parts h, tt))
+      both_agrees true = inl (refl, refl, truth_stands change.old inside, (nth_agrees change p inside 1 parts other_parts h, tt))
       both_agrees false = (refl, refl, λ lock k. k)
   form_agrees either kind place at parts other_parts operands h stands =
       on_operand_agrees change p inside place at operands _ _ (λ a. by_truth_agrees change p inside world place at (truth_of world.memory (value_of a.result)) _ _ (either_agrees))
     where
       either_agrees : (b : Bool) → RunAgrees change p inside (either_chosen kind place parts b) (either_chosen kind at other_parts b)
       either_agrees true = (refl, refl, λ lock k. k)
-      either_agrees false = inl (refl, refl, truth_stands inside, (nth_agrees change p inside 1 parts other_parts h, tt))
+      either_agrees false = inl (refl, refl, truth_stands change.old inside, (nth_agrees change p inside 1 parts other_parts h, tt))
   form_agrees choose kind place at parts other_parts operands h stands =
       on_operand_agrees change p inside place at operands _ _ (λ a. by_truth_agrees change p inside world place at (truth_of world.memory (value_of a.result)) _ _
-      (λ b. inl (refl, refl, stands_always inside, (nth_agrees change p inside (if b then 1 else 2) parts other_parts h, tt))))
-  form_agrees comma kind place at parts other_parts operands h stands = (refl, inl (refl, refl, stands_always inside, (nth_agrees change p inside 1 parts other_parts h, tt)))
+      (λ b. inl (refl, refl, stands_always change.old inside, (nth_agrees change p inside (if b then 1 else 2) parts other_parts h, tt))))
+  form_agrees comma kind place at parts other_parts operands h stands = (refl, inl (refl, refl, stands_always change.old inside, (nth_agrees change p inside 1 parts other_parts h, tt)))
   form_agrees call kind place at parts other_parts operands h stands =
       subst (λ named. RunMoveAgrees change p inside (call_step new_scene world kind place (map (λ a. value_of a.result) operands) named) (call_step old_scene world kind at (map (λ a. value_of a.result) operands) (function_named (nth_run 0 other_parts))))
       (sym (same_function change p calling inside (nth_run 0 parts) (nth_run 0 other_parts) (nth_agrees change p inside 0 parts other_parts h)))
@@ -640,7 +640,7 @@ module _ (change : Called) (p : ℕ) (calling : IsCallingWith change p) (inside 
       (did_agrees change p inside kind place at (locks_in_all parts) (locks_in_all other_parts) (operate old_scene world locks label kind operands) (operate old_scene world fewer label kind operands)
       (operate_fewer old_scene world locks fewer among label kind operands) (fewer_locks_all change p inside parts other_parts h))
 
-  node_agrees : (doing : Doing) (kind : CType) (place at : Place) (parts other_parts : Runs) (operands : List Operand) → RunsAgree change p inside parts other_parts → may_stand inside doing ≡ true
+  node_agrees : (doing : Doing) (kind : CType) (place at : Place) (parts other_parts : Runs) (operands : List Operand) → RunsAgree change p inside parts other_parts → may_stand change.old inside doing ≡ true
       → RunMoveAgrees change p inside (node_step new_scene world fewer (redone change.rename doing) kind place parts operands) (node_step old_scene world locks doing kind at other_parts operands)
   node_agrees (evaluates label) kind place at parts other_parts operands h stands = form_agrees label kind place at parts other_parts operands h stands
   node_agrees gives_truth kind place at parts other_parts operands h stands =
@@ -673,7 +673,7 @@ module _ (change : Called) (p : ℕ) (calling : IsCallingWith change p) (inside 
       ⊎ ((inside ≡ false) × EnteringIn opens other_parts m)
 
   -- the step of a node whose operands are evaluated, or one of its operands
-  by_operands : (doing : Doing) (kind : CType) (place at : Place) (parts other_parts : Runs) → RunsAgree change p inside parts other_parts → may_stand inside doing ≡ true
+  by_operands : (doing : Doing) (kind : CType) (place at : Place) (parts other_parts : Runs) → RunsAgree change p inside parts other_parts → may_stand change.old inside doing ≡ true
       → (o : Option (List Operand)) → operands_in (open_parts doing) other_parts ≡ o
       → ((m : Move Runs Holes) → IsAmong m (moves_in new_scene world fewer (open_parts doing) parts) → MatchedIn (open_parts doing) other_parts m)
       → (m : Move Run Hole) → IsAmong m (own_or_inner o (node_step new_scene world fewer (redone change.rename doing) kind place parts)
@@ -718,7 +718,7 @@ module _ (change : Called) (p : ℕ) (calling : IsCallingWith change p) (inside 
           )
 
   -- a node of the same form
-  node_matched : (doing other : Doing) (kind other_kind : CType) (place at : Place) (parts other_parts : Runs) → doing ≡ redone change.rename other → kind ≡ other_kind → may_stand inside other ≡ true → RunsAgree change p inside parts other_parts
+  node_matched : (doing other : Doing) (kind other_kind : CType) (place at : Place) (parts other_parts : Runs) → doing ≡ redone change.rename other → kind ≡ other_kind → may_stand change.old inside other ≡ true → RunsAgree change p inside parts other_parts
       → ((opens : Open) (m : Move Runs Holes) → IsAmong m (moves_in new_scene world fewer opens parts) → MatchedIn opens other_parts m)
       → (m : Move Run Hole) → IsAmong m (moves new_scene world fewer (to_do doing kind place parts)) → Matched (to_do other other_kind at other_parts) m
   node_matched doing other kind other_kind place at parts other_parts e f stands h inner m k =

@@ -39,7 +39,7 @@ use Rattle.dm_meaning.proofs.YieldLemmas.{Yields, HoleYields, MoveYields, filled
 use Rattle.dm_meaning.proofs.StatementLemmas.{map_append, numbers_renamed, named_from_renamed, length_renamed}
 use Rattle.dm_meaning.proofs.PassStatementLemmas.{UseAgrees, TasksAgree, TurnedAgrees, listed_agrees, same_type, declared_in_agrees, made_from_agrees, items_agree, statement_begins, declarator_begins, initialiser_begins, conclusion_agrees, unfolded_agree, ended_agrees, break_agrees, continue_agrees}
 use Rattle.dm_meaning.proofs.OptionLemmas.{none_is_some, some_is_some}
-use Rattle.dm_meaning.proofs.GrowLemmas.{equal_is}
+use Rattle.dm_meaning.proofs.KnownLemmas.{AreKnown, same_static, own_named}
 
 -- ---- how states agree
 
@@ -613,15 +613,15 @@ module _ (change : Called) (p : ℕ) (calling : IsCallingWith change p) where
           let run = to_do doing kind spot parts in
           let other_run = to_do other_doing other_kind there others in
           let from = among-map_from (moved (new_of change) names now rest place use_of) state _ k in
-          let objects = renamed_objects change.rename other.frame.objects ++ renamed_objects change.rename other.statics in
+          let objects = renamed_objects change.rename other.statics ++ renamed_objects change.rename other.frame.objects in
           subst (Met change p w spare other) (sym from.2)
           (by_match from.0
-          (run_matched change p calling false objects (other.frame.objects ++ other.statics) (λ d stands'. same_objects d) other.world (locks_in run) (locks_in other_run) (fewer_locks change p false run other_run h) run other_run h from.0 from.1))
+          (run_matched change p calling false objects (other.statics ++ other.frame.objects) (λ d stands'. same_objects d) other.world (locks_in run) (locks_in other_run) (fewer_locks change p false run other_run h) run other_run h from.0 from.1))
         where
-          same_objects : (d : ℕ) → object_named (renamed_objects change.rename other.frame.objects ++ renamed_objects change.rename other.statics) (change.rename d) ≡ object_named (other.frame.objects ++ other.statics) d
+          same_objects : (d : ℕ) → object_named (renamed_objects change.rename other.statics ++ renamed_objects change.rename other.frame.objects) (change.rename d) ≡ object_named (other.statics ++ other.frame.objects) d
           same_objects d =
-              ap (λ os. object_named os (change.rename d)) (sym (map_append (λ (entry : ℕ × ℕ). (change.rename entry.0, entry.1)) other.frame.objects other.statics))
-              ∙ object_renamed change.rename calling.injective (other.frame.objects ++ other.statics) d
+              ap (λ os. object_named os (change.rename d)) (sym (map_append (λ (entry : ℕ × ℕ). (change.rename entry.0, entry.1)) other.statics other.frame.objects))
+              ∙ object_renamed change.rename calling.injective (other.statics ++ other.frame.objects) d
 
           by_match : (m : Move Run Hole)
               → ((n : Move Run Hole) × IsAmong n (moves (scene_of change.old other) other.world (locks_in (to_do other_doing other_kind there others)) (to_do other_doing other_kind there others)) × RunMoveAgrees change p false m n)
@@ -697,7 +697,7 @@ module _ (change : Called) (p : ℕ) (calling : IsCallingWith change p) where
   -- ---- one step in the added function
 
   module _ (names : ℕ → ℕ) (other : State) (fresh : IsFresh names other.world.memory) (stands : other.standing ≡ going) (function n : ℕ) (value : Value) (spare : Spare)
-      (caller : Caller) (others : List Caller) (run : Run) (waits : Waits change p spare caller others other run) (set : is_unset value ≡ false) (w : ℕ)
+      (caller : Caller) (others : List Caller) (run : Run) (waits : Waits change p spare caller others other run) (set : is_unset value ≡ false) (w : ℕ) (known : AreKnown change.old other.statics)
       (found : look_up other.world.memory n ≡ Some (parameter_block change p value))
       (free : (locks : List At) → AreAmong locks (locks_in (filled_in waits.hole run)) → overlaps_any (whole (numbered n)) locks ≡ false) where
     abbrev in_added : List Task → State
@@ -716,7 +716,7 @@ module _ (change : Called) (p : ℕ) (calling : IsCallingWith change p) where
     whole_run = filled_in waits.hole run
 
     abbrev inner_objects : Objects
-    inner_objects = (p, n) ∷ renamed_objects change.rename other.statics
+    inner_objects = renamed_objects change.rename other.statics ++ (p, n) ∷ []
 
     among_next : (y : State) → IsAmong y (expression_steps change.old names other waits.rest waits.place waits.use_of whole_run) → IsAmong y (next names change.old other)
     among_next y h =
@@ -990,7 +990,7 @@ module _ (change : Called) (p : ℕ) (calling : IsCallingWith change p) where
 
     -- the parameter's name
     own_name : object_named inner_objects p ≡ Some n
-    own_name = ap (λ b. if b then Some n else object_named (renamed_objects change.rename other.statics) p) (equal_is p p refl)
+    own_name = own_named change.rename other.statics p n calling.own
 
     -- the parameter isn't read yet
     reading_met : (place : Place) (now : Run) → Reading change p w n value now run → Yields caller.kind now
@@ -1002,7 +1002,8 @@ module _ (change : Called) (p : ℕ) (calling : IsCallingWith change p) where
         let fewer : AreAmong (locks_in now) (locks_in whole_run) = λ lock l. locks_lift waits.hole run lock (fewer_read change p n value h.named now run h.reads lock l) in
         subst (Met change p w all_spare other) (sym from.2)
         (by_match from.0 (new_yields now yields from.0 from.1)
-        (reads_matched change p calling inner_objects (other.frame.objects ++ other.statics) other.world (locks_in now) (locks_in whole_run) fewer n value own_name found (free (locks_in now) fewer) set
+        (reads_matched change p calling inner_objects (other.statics ++ other.frame.objects)
+        (λ d stands'. same_static change.rename calling.injective other.statics ((p, n) ∷ []) other.frame.objects d (known d stands')) other.world (locks_in now) (locks_in whole_run) fewer n value own_name found (free (locks_in now) fewer) set
         h.named now run h.reads from.0 from.1))
       where
         left_open : (a b : Run) → RunAgrees change p true a b → IsToDo b → Left 0 a
@@ -1064,7 +1065,7 @@ module _ (change : Called) (p : ℕ) (calling : IsCallingWith change p) where
         let now = to_do doing kind here_at parts in
         let from = among-map_from (moved (new_of change) names (in_added (evaluates place now returns ∷ [])) [] place returns) state _ k in
         let fewer : AreAmong (locks_in now) (locks_in whole_run) = λ lock l. locks_lift waits.hole run lock (fewer_locks change p true now run agrees lock l) in
-        let match = only_left (run_matched change p calling true inner_objects (other.frame.objects ++ other.statics) (λ d k'. absurd (cc)) other.world (locks_in now) (locks_in whole_run) fewer now run agrees from.0 from.1) in
+        let match = only_left (run_matched change p calling true inner_objects (other.statics ++ other.frame.objects) (λ d stands'. same_static change.rename calling.injective other.statics ((p, n) ∷ []) other.frame.objects d (known d stands')) other.world (locks_in now) (locks_in whole_run) fewer now run agrees from.0 from.1) in
         subst (Met change p w all_spare other) (sym from.2)
         (inside_moved place now (inr agrees) yields from.0 match.0
         (weakened change.rename (RunAgrees change p true) (EvalAgrees change p n value) (HoleAgrees change p true) (HoleEval change p n value) (λ t u r. inr r) (λ type a b r. inr r) from.0 match.0 match.2)
@@ -1095,21 +1096,21 @@ module _ (change : Called) (p : ℕ) (calling : IsCallingWith change p) where
 
   -- a step in the added function
   inside_met : (w : ℕ) (first : ℕ × Value) (rest : Spare) (state next_state other : State) → InsideAgrees change p w first.0 first.1 rest state other
-      → (memory : Memory) → AllSpare change p other.world.memory memory (first ∷ rest) → TasksSettled memory (unfolded other.frame.tasks) → Step (new_of change) state next_state → Met change p w (first ∷ rest) other next_state
-  inside_met w first rest state next_state other h memory spares settled step =
+      → (memory : Memory) → AllSpare change p other.world.memory memory (first ∷ rest) → TasksSettled memory (unfolded other.frame.tasks) → AreKnown change.old other.statics → Step (new_of change) state next_state → Met change p w (first ∷ rest) other next_state
+  inside_met w first rest state next_state other h memory spares settled known step =
       let moved_step = subst (λ s. Step (new_of change) s next_state) (inside_is w first.0 first.1 rest state other h) step in
       let from = from_steps other.standing _ next_state moved_step.2 in
       let made = (subst (TasksSettled memory) h.waits.evaluating settled).0.0 in
-      phase_met moved_step.0 other moved_step.1 from.0 state.frame.function first.0 first.1 rest h.caller h.others h.run h.waits h.set w spares.0.0
+      phase_met moved_step.0 other moved_step.1 from.0 state.frame.function first.0 first.1 rest h.caller h.others h.run h.waits h.set w known spares.0.0
       (λ locks among. unlocked memory first.0 spares.0.1 locks (λ lock l. made lock (among lock l))) state.frame.tasks h.phase next_state from.1
 
   -- each step is met
   pub step_met : (w : ℕ) (spare : Spare) (state next_state other : State) → Related change p w spare state other
-      → (memory : Memory) → AllSpare change p other.world.memory memory spare → TasksSettled memory (unfolded other.frame.tasks) → Step (new_of change) state next_state → Met change p w spare other next_state
-  step_met w spare state next_state other (inl (enough, h)) memory spares settled step =
+      → (memory : Memory) → AllSpare change p other.world.memory memory spare → TasksSettled memory (unfolded other.frame.tasks) → AreKnown change.old other.statics → Step (new_of change) state next_state → Met change p w spare other next_state
+  step_met w spare state next_state other (inl (enough, h)) memory spares settled known step =
       let moved_step : Step (new_of change) (built change other state.frame.tasks state.callers) next_state =
       subst (λ s. Step (new_of change) s next_state) (is_built change p spare state other h) step in
       let from = from_steps other.standing _ next_state moved_step.2 in
       tasks_met moved_step.0 other moved_step.1 from.0 spare state.frame.tasks h.tasks state.callers h.callers w enough (unfolded state.frame.tasks) (unfolded other.frame.tasks) h.tasks refl next_state from.1
-  step_met w spare state next_state other (inr (first, rest, is, h)) memory spares settled step =
-      subst (λ s. Met change p w s other next_state) (sym is) (inside_met w first rest state next_state other h memory (subst (AllSpare change p other.world.memory memory) is spares) settled step)
+  step_met w spare state next_state other (inr (first, rest, is, h)) memory spares settled known step =
+      subst (λ s. Met change p w s other next_state) (sym is) (inside_met w first rest state next_state other h memory (subst (AllSpare change p other.world.memory memory) is spares) settled known step)

@@ -52,7 +52,7 @@ abbrev mutual
   Reads change p n value named (done kind result locks) other = ⊥
   Reads change p n value named (to_do doing kind place parts) (done other_kind result locks) = IsReading change p n value named doing kind parts other_kind result
   Reads change p n value named (to_do doing kind place parts) (to_do other other_kind other_place others) =
-      (doing ≡ redone change.rename other) × (kind ≡ other_kind) × (may_stand true other ≡ true) × ReadsIn change p n value named (open_parts other) parts others
+      (doing ≡ redone change.rename other) × (kind ≡ other_kind) × (may_stand change.old true other ≡ true) × ReadsIn change p n value named (open_parts other) parts others
 
   pub ReadsIn : Called → ℕ → ℕ → Value → Bool → Open → Runs → Runs → Type 0
   ReadsIn change p n value named opens no_runs others = ⊥
@@ -67,7 +67,7 @@ abbrev mutual
   HoleReads change p n value named filler here other = ⊥
   HoleReads change p n value named filler (within doing kind place holes) here = ⊥
   HoleReads change p n value named filler (within doing kind place holes) (within other other_kind other_place others) =
-      (doing ≡ redone change.rename other) × (kind ≡ other_kind) × (may_stand true other ≡ true) × HolesRead change p n value named filler (open_parts other) holes others
+      (doing ≡ redone change.rename other) × (kind ≡ other_kind) × (may_stand change.old true other ≡ true) × HolesRead change p n value named filler (open_parts other) holes others
 
   pub HolesRead : Called → ℕ → ℕ → Value → Bool → CType → Open → Holes → Holes → Type 0
   HolesRead change p n value named filler opens (in_first hole rest) (in_first other others) =
@@ -84,7 +84,7 @@ mutual
   pub begun_reads : (change : Called) (p n : ℕ) (value : Value) (locks : List At) (tree other argument : Tree) (h : Holds change p tree other argument)
       → Reads change p n value false (begun tree) (filled_in (hole_of change p tree other argument h) (done (kind_of argument) (of_value value) locks))
   begun_reads change p n value locks (node label kind spans parts) (node other other_kind other_spans others) argument h =
-      (ap evaluates h.0, h.1, stands_inside other h.2, all_begun_read change p n value locks (open_of other) parts others argument h.3)
+      (ap evaluates h.0, h.1, stands_inside change.old other h.2, all_begun_read change p n value locks (open_of other) parts others argument h.3)
 
   all_begun_read : (change : Called) (p n : ℕ) (value : Value) (locks : List At) (opens : Open) (parts others : Trees) (argument : Tree) (h : HoldsBelow change p opens parts others argument)
       → ReadsIn change p n value false opens (all_begun parts) (all_filled_in (holes_of change p opens parts others argument h) (done (kind_of argument) (of_value value) locks))
@@ -185,7 +185,8 @@ unlocked memory n e (lock ∷ locks) h =
 abbrev pub parameter_block : Called → ℕ → Value → Block
 parameter_block change p value = record (new_block (layout change.old) (type_declared (new_of change) p)) { contents = value }
 
-module _ (change : Called) (p : ℕ) (calling : IsCallingWith change p) (objects others : Objects) (world : World) (fewer locks : List At) (among : AreAmong fewer locks)
+module _ (change : Called) (p : ℕ) (calling : IsCallingWith change p) (objects others : Objects)
+    (same_objects : (d : ℕ) → may_stand change.old true (evaluates (object d)) ≡ true → object_named objects (change.rename d) ≡ object_named others d) (world : World) (fewer locks : List At) (among : AreAmong fewer locks)
     (n : ℕ) (value : Value) (named_here : object_named objects p ≡ Some n) (found : look_up world.memory n ≡ Some (parameter_block change p value))
     (free : overlaps_any (whole (numbered n)) fewer ≡ false) (set : is_unset value ≡ false) where
   abbrev new_scene : Scene
@@ -260,12 +261,12 @@ module _ (change : Called) (p : ℕ) (calling : IsCallingWith change p) (objects
       (subst (λ ps. IsAmong m (moves new_scene world fewer (to_do doing kind place ps))) h.stands k))
 
   -- a node above it
-  lifted_progress : (named : Bool) (other : Doing) (kind : CType) (place at : Place) (parts other_parts : Runs) → may_stand true other ≡ true → ProgressIn named (open_parts other) parts other_parts
+  lifted_progress : (named : Bool) (other : Doing) (kind : CType) (place at : Place) (parts other_parts : Runs) → may_stand change.old true other ≡ true → ProgressIn named (open_parts other) parts other_parts
       → Progress named (to_do (redone change.rename other) kind place parts) (to_do other kind at other_parts)
   lifted_progress false other kind place at parts other_parts stands h = (refl, refl, stands, h)
   lifted_progress true other kind place at parts other_parts stands h = inl (refl, refl, stands, h)
 
-  node_met : (named : Bool) (other : Doing) (kind : CType) (place at : Place) (parts other_parts : Runs) → may_stand true other ≡ true → ReadsIn change p n value named (open_parts other) parts other_parts
+  node_met : (named : Bool) (other : Doing) (kind : CType) (place at : Place) (parts other_parts : Runs) → may_stand change.old true other ≡ true → ReadsIn change p n value named (open_parts other) parts other_parts
       → ((m : Move Runs Holes) → IsAmong m (moves_in new_scene world fewer (open_parts other) parts) → ReadMatchedIn named (open_parts other) other_parts m)
       → (m : Move Run Hole)
       → IsAmong m (own_or_inner (operands_in (open_parts other) parts) (node_step new_scene world fewer (redone change.rename other) kind place parts)
@@ -296,7 +297,7 @@ module _ (change : Called) (p : ℕ) (calling : IsCallingWith change p) (objects
             lifted_progress named other kind place at next_parts other_parts stands progress,
           )
 
-  same_node_met : (named : Bool) (doing other : Doing) (kind other_kind : CType) (place at : Place) (parts other_parts : Runs) → doing ≡ redone change.rename other → kind ≡ other_kind → may_stand true other ≡ true
+  same_node_met : (named : Bool) (doing other : Doing) (kind other_kind : CType) (place at : Place) (parts other_parts : Runs) → doing ≡ redone change.rename other → kind ≡ other_kind → may_stand change.old true other ≡ true
       → ReadsIn change p n value named (open_parts other) parts other_parts
       → ((m : Move Runs Holes) → IsAmong m (moves_in new_scene world fewer (open_parts other) parts) → ReadMatchedIn named (open_parts other) other_parts m)
       → (m : Move Run Hole) → IsAmong m (moves new_scene world fewer (to_do doing kind place parts)) → ReadMatched named (to_do other other_kind at other_parts) m
@@ -319,10 +320,10 @@ module _ (change : Called) (p : ℕ) (calling : IsCallingWith change p) (objects
   PlainIn opens other_parts m = (x : Move Runs Holes) × IsAmong x (moves_in old_scene world locks opens other_parts) × MoveAgrees change.rename (RunsAgree change p true) (HolesAgree change p true) m x
 
   plain_met : (run other : Run) → RunAgrees change p true run other → (m : Move Run Hole) → IsAmong m (moves new_scene world fewer run) → Plain other m
-  plain_met run other h m k = only_left (run_matched change p calling true objects others (λ d e. absurd (cc)) world fewer locks among run other h m k)
+  plain_met run other h m k = only_left (run_matched change p calling true objects others same_objects world fewer locks among run other h m k)
 
   plain_in_met : (parts other_parts : Runs) → RunsAgree change p true parts other_parts → (opens : Open) (m : Move Runs Holes) → IsAmong m (moves_in new_scene world fewer opens parts) → PlainIn opens other_parts m
-  plain_in_met parts other_parts h opens m k = only_left (runs_matched change p calling true objects others (λ d e. absurd (cc)) world fewer locks among parts other_parts h opens m k)
+  plain_in_met parts other_parts h opens m k = only_left (runs_matched change p calling true objects others same_objects world fewer locks among parts other_parts h opens m k)
 
   first_progress : (named : Bool) (opens : Open) (run other : Run) (rest others : Runs) → IsTrue (first_open opens) → RunsAgree change p true rest others → Progress named run other
       → ProgressIn named opens (more_runs run rest) (more_runs other others)

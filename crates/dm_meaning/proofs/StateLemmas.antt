@@ -328,9 +328,9 @@ module _ (change : Replaced) (replacement : IsReplacement change) where
           let run = to_do doing kind here parts in
           let other_run = to_do other_doing other_kind there others in
           let from = among-map_from (moved (new_of change) names now rest place use_of) state _ k in
-          let objects = other.frame.objects ++ other.statics in
+          let objects = other.statics ++ other.frame.objects in
           let among : IsAmong from.0 (moves (record { program = new_of change; objects = renamed_objects change.rename objects }) other.world (locks_in run) run) =
-          subst (λ os. IsAmong from.0 (moves (record { program = new_of change; objects = os }) other.world (locks_in run) run)) (sym (map_append (λ (entry : ℕ × ℕ). (change.rename entry.0, entry.1)) other.frame.objects other.statics)) from.1 in
+          subst (λ os. IsAmong from.0 (moves (record { program = new_of change; objects = os }) other.world (locks_in run) run)) (sym (map_append (λ (entry : ℕ × ℕ). (change.rename entry.0, entry.1)) other.statics other.frame.objects)) from.1 in
           subst Met (sym from.2) (by_match run other_run h e from.0 (run_matched change replacement objects other.world (locks_in run) run other_run h from.0 among))
         where
           by_match : (run other_run : Run) → RunAgrees change run other_run → unfolded other.frame.tasks ≡ evaluates at other_run other_use ∷ other_rest → (m : Move Run Hole)

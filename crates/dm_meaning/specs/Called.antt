@@ -3,7 +3,7 @@
 --     Called      the old program, what the new one has, how the numbers of its declarations come of the old ones, and the added function
 --     Agrees change tree other      a tree of the new program and one of the old are the same but for such calls
 --     IsCalling change      the programs are the same but for such calls and the added function
-use Rattle.std.specs.Prelude.{◌≡◌, ◌⊎◌, ℕ, Bool, true, false, List, [], ◌∷◌, map, option_map}
+use Rattle.std.specs.Prelude.{◌≡◌, ◌⊎◌, ℕ, ◌==◌, Bool, true, false, ◌||◌, List, [], ◌∷◌, map, option_map}
 use Rattle.dm_type.specs.CTypes.{CType}
 use Rattle.dm_tree.specs.Trees.{Label, number, enumerator, object, function, read, decay, convert, address, unary, binary, both, either, store, update, count, call, sizeof_tree, sizeof_kind, case, return, Spans, Tree, Trees, node, no_trees, more_trees, label_of, kind_of, trees_of, parts_of}
 use Rattle.dm_tree.specs.Units.{Declaration}
@@ -47,21 +47,26 @@ gives_value sizeof_tree = true
 gives_value (sizeof_kind type) = true
 gives_value label = false
 
--- the name of an object, which may mean another one in another function
-abbrev pub is_object : Label → Bool
-is_object (object d) = true
-is_object label = false
+-- an object of static storage duration that the program defines
+abbrev pub is_static_number : List Static → ℕ → Bool
+is_static_number [] d = false
+is_static_number (static ∷ statics) d = static.declared == d || is_static_number statics d
+
+-- the name of another object may mean another one in another function
+abbrev pub means_the_same : Program → Label → Bool
+means_the_same program (object d) = is_static_number program.statics d
+means_the_same program label = true
 
 abbrev mutual
-  -- the expression of the added function is one of the old program, and names no object
-  pub IsSame : (ℕ → ℕ) → Tree → Tree → Type 0
-  IsSame rename (node label kind spans parts) other =
-      (label ≡ relabelled rename (label_of other)) × (kind ≡ kind_of other) × (is_object (label_of other) ≡ false) × AreSame rename parts (trees_of other)
+  -- the expression of the added function is one of the old program, and names no object but those of static storage duration
+  pub IsSame : Called → Tree → Tree → Type 0
+  IsSame change (node label kind spans parts) other =
+      (label ≡ relabelled change.rename (label_of other)) × (kind ≡ kind_of other) × (means_the_same change.old (label_of other) ≡ true) × AreSame change parts (trees_of other)
 
-  pub AreSame : (ℕ → ℕ) → Trees → Trees → Type 0
-  AreSame rename no_trees no_trees = Unit {0}
-  AreSame rename (more_trees first rest) (more_trees other others) = IsSame rename first other × AreSame rename rest others
-  AreSame rename parts others = ⊥
+  pub AreSame : Called → Trees → Trees → Type 0
+  AreSame change no_trees no_trees = Unit {0}
+  AreSame change (more_trees first rest) (more_trees other others) = IsSame change first other × AreSame change rest others
+  AreSame change parts others = ⊥
 
 -- ---- trees
 
@@ -72,7 +77,7 @@ pub record IsCall (change : Called) (label : Label) (kind : CType) (parts : Tree
   pub is : label ≡ call
   pub alone : parts ≡ more_trees (node (function change.added.function) named_kind named_spans no_trees) no_trees
   pub typed : kind ≡ kind_of other
-  pub same : IsSame change.rename change.body other
+  pub same : IsSame change change.body other
 
 -- the labels `case` of a switch have the same values
 abbrev pub SameCase : Called → Label → Trees → Trees → Type 0

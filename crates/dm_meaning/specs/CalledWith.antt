@@ -15,7 +15,7 @@ use Rattle.dm_meaning.specs.Running.{Open, first_open, others_open, open_of}
 use Rattle.dm_meaning.specs.Statements.{type_declared}
 use Rattle.dm_meaning.specs.Steps.{is_main}
 use Rattle.dm_meaning.specs.Replaced.{relabelled, Zipped, facts_of, StaticAgrees}
-use Rattle.dm_meaning.specs.Called.{Called, new_of, gives_value, is_object, IsSame, AreSame, SameCase, statics_of}
+use Rattle.dm_meaning.specs.Called.{Called, new_of, gives_value, means_the_same, IsSame, AreSame, SameCase, statics_of}
 
 -- ---- the expression
 
@@ -30,18 +30,19 @@ pub record IsParameter (change : Called) (parameter : ℕ) (tree other argument 
 
 abbrev mutual
   -- Below a node the parameter is read once, and first: on the way there each node may evaluate that operand before it picks another one
-  -- or none (6.5.13p4, 6.5.14p4, 6.5.15p4, 6.5.17p2, 6.5.3.4p2). The rest names no object.
+  -- or none (6.5.13p4, 6.5.14p4, 6.5.15p4, 6.5.17p2, 6.5.3.4p2). The rest names no object
+  -- but those of static storage duration.
   pub Holds : Called → ℕ → Tree → Tree → Tree → Type 0
   Holds change parameter (node label kind spans parts) other argument =
-      (label ≡ relabelled change.rename (label_of other)) × (kind ≡ kind_of other) × (is_object (label_of other) ≡ false)
+      (label ≡ relabelled change.rename (label_of other)) × (kind ≡ kind_of other) × (means_the_same change.old (label_of other) ≡ true)
       × HoldsBelow change parameter (open_of (label_of other)) parts (trees_of other) argument
 
   pub HoldsBelow : Called → ℕ → Open → Trees → Trees → Tree → Type 0
   HoldsBelow change parameter opens no_trees others argument = ⊥
   HoldsBelow change parameter opens (more_trees first rest) no_trees argument = ⊥
   HoldsBelow change parameter opens (more_trees first rest) (more_trees other others) argument =
-      (IsTrue (first_open opens) × (IsParameter change parameter first other argument ⊎ Holds change parameter first other argument) × AreSame change.rename rest others)
-      ⊎ (IsSame change.rename first other × HoldsBelow change parameter (others_open opens) rest others argument)
+      (IsTrue (first_open opens) × (IsParameter change parameter first other argument ⊎ Holds change parameter first other argument) × AreSame change rest others)
+      ⊎ (IsSame change first other × HoldsBelow change parameter (others_open opens) rest others argument)
 
 -- ---- trees
 
@@ -96,11 +97,12 @@ FunctionsAgree change parameter (definition ∷ definitions) (other ∷ others) 
     ⊎ (DefinitionAgrees change parameter definition other × FunctionsAgree change parameter definitions others)
 
 -- The programs differ in such calls and in the added function alone: each old declaration has one number among the new ones, with its name,
--- sort and type, and the added function has another; the functions and the static objects agree. The added function has one parameter, isn't
+-- sort and type, and the added function and its parameter have others; the functions and the static objects agree. The added function has one parameter, isn't
 -- `main`, and its body is one `return` of an expression that gives a value.
 pub record IsCallingWith (change : Called) (parameter : ℕ) : Type 0 where
   pub injective : (c d : ℕ) → change.rename c ≡ change.rename d → c ≡ d
   pub apart : (d : ℕ) → change.rename d ≡ change.added.function → ⊥
+  pub own : (d : ℕ) → change.rename d ≡ parameter → ⊥
   pub told : (d : ℕ) → option_map facts_of (declaration_of (new_of change) (change.rename d)) ≡ option_map facts_of (declaration_of change.old d)
   pub functions : FunctionsAgree change parameter change.functions change.old.functions
   pub statics : Zipped (StaticAgrees (statics_of change)) change.statics change.old.statics

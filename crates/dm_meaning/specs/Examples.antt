@@ -56,7 +56,7 @@ assigned n kind left right = tree n store kind (left ∷ right ∷ [])
 abbrev set_to : ℕ → Tree → Tree
 set_to d right = assigned 0 int (named int d) right
 
-abbrev counted : ℕ → Tree
+abbrev pub counted : ℕ → Tree
 counted d = tree 0 (count true false) int (named int d ∷ [])
 
 abbrev operated : ℕ → Op → Tree → Tree → Tree
@@ -448,4 +448,34 @@ calling_with_twice = record {
   rename = beyond_two;
   added = record { function = 3; parameters = 4 ∷ []; body = summing };
   body = summed (reading 4);
+}
+
+-- int main(void) { int k = 4; return k++ * 2 * 2; }
+abbrev pub doubled_count : Program
+doubled_count = alone (local (codes "k") int ∷ []) (declared_as 1 (constant 4) ∷ returned (doubled (doubled (counted 1))) ∷ [])
+
+-- int twice(int x) { return x * 2; } int main(void) { int k = 4; return twice(twice(k++)); }
+abbrev pub called_double : Tree → Tree
+called_double argument = called 0 1 int (argument ∷ [])
+
+abbrev pub called_count : Program
+called_count =
+    program (of_function (codes "twice") int_of_int ∷ local (codes "x") int ∷ local (codes "k") int ∷ [])
+    (defined 1 (2 ∷ []) (returned (doubled (reading 2)) ∷ []) ∷ defined 0 [] (declared_as 3 (constant 4) ∷ returned (called_double (called_double (counted 3))) ∷ []) ∷ [])
+
+-- the numbers of the declarations where a second and a third are added
+abbrev pub beyond_main : ℕ → ℕ
+beyond_main zero = 0
+beyond_main (suc d) = suc (suc (suc d))
+
+-- the change between the two
+abbrev pub calling_double : Called
+calling_double = record {
+  old = doubled_count;
+  declared = called_count.declared;
+  functions = called_count.functions;
+  statics = called_count.statics;
+  rename = beyond_main;
+  added = record { function = 1; parameters = 2 ∷ []; body = tree 9 block void (returned (doubled (reading 2)) ∷ []) };
+  body = doubled (reading 2);
 }

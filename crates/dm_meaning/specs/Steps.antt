@@ -131,9 +131,9 @@ moved program names state rest place use_of (calls f arguments kind hole) =
 moved program names state rest place use_of (fails cause at) = record state { standing = undefined cause at }
 moved program names state rest place use_of (exits status) = record state { standing = exited status }
 
--- the names in a frame: its own objects, and those of static storage duration
+-- the names in a frame: the objects of static storage duration, and its own; no declaration is one of both
 abbrev pub scene_of : Program → State → Scene
-scene_of program state = record { program = program; objects = state.frame.objects ++ state.statics }
+scene_of program state = record { program = program; objects = state.statics ++ state.frame.objects }
 
 -- a full expression: it ends where it is evaluated, and else one of its nodes is
 abbrev pub expression_steps : Program → (ℕ → ℕ) → State → List Task → Place → Use → Run → List State

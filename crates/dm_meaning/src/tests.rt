@@ -121,6 +121,14 @@ fn calls_with_a_parameter_refine()
     ensures refines { Refines (machine_of examples.called_with_twice) (machine_of examples.summed_twice) }
 {}
 
+fn nested_calls_with_a_parameter_refine()
+    ensures doubled { by_choice 0 90 [] examples.doubled_count ≡ Some (exited 16, []) }
+    ensures called { by_choice 0 90 [] examples.called_count ≡ Some (exited 16, []) }
+    ensures new { new_of examples.calling_double ≡ examples.called_count }
+    ensures premises { IsCallingWith examples.calling_double 2 }
+    ensures refines { Refines (machine_of examples.called_count) (machine_of examples.doubled_count) }
+{}
+
 #[test]
 fn examples_come_to_what_c_says() {
     functions_have_frames_of_their_own();
@@ -136,4 +144,5 @@ fn examples_come_to_what_c_says() {
     other_causes_are_met_at_their_nodes();
     calls_of_an_added_function_refine();
     calls_with_a_parameter_refine();
+    nested_calls_with_a_parameter_refine();
 }
