@@ -60,7 +60,7 @@ premises = record {
   return_kind = _;
   return_spans = _;
   returns = refl;
-  value = refl;
+  value = inl refl;
 }
 
 -- ---- with an argument
@@ -118,10 +118,10 @@ doubled_agrees : passed.Agrees calling_with_twice 4 (doubled (reading 5)) (doubl
 doubled_agrees = inl (refl, refl, tt, (read_agrees, (inl (refl, refl, tt, tt), tt)))
 
 call_of_read : passed.Agrees calling_with_twice 4 (called_with (reading 5)) (summed (reading 3))
-call_of_read = inr (reading 3, record { is = refl; typed = refl; holds = holds_read; solid = refl }, (record { kind = _; spans = _; is = refl }, (refl, read_agrees)))
+call_of_read = inr (reading 3, record { is = refl; typed = refl; holds = holds_read; solid = refl }, (record { kind = _; spans = _; is = refl }, (inl refl, read_agrees)))
 
 call_of_doubled : passed.Agrees calling_with_twice 4 (called_with (doubled (reading 5))) (summed (doubled (reading 3)))
-call_of_doubled = inr (doubled (reading 3), record { is = refl; typed = refl; holds = holds_doubled; solid = refl }, (record { kind = _; spans = _; is = refl }, (refl, doubled_agrees)))
+call_of_doubled = inr (doubled (reading 3), record { is = refl; typed = refl; holds = holds_doubled; solid = refl }, (record { kind = _; spans = _; is = refl }, (inl refl, doubled_agrees)))
 
 pub premises_with : IsCallingWith calling_with_twice 4
 premises_with = record {
@@ -149,7 +149,7 @@ premises_with = record {
   return_kind = _;
   return_spans = _;
   returns = refl;
-  value = refl;
+  value = inl refl;
 }
 
 -- ---- a call in the argument of another one
@@ -190,10 +190,10 @@ count_agrees : passed.Agrees calling_double 2 (counted 3) (counted 1)
 count_agrees = inl (refl, refl, tt, (inl (refl, refl, tt, tt), tt))
 
 call_of_count : passed.Agrees calling_double 2 (called_double (counted 3)) (doubled (counted 1))
-call_of_count = inr (counted 1, record { is = refl; typed = refl; holds = holds_count; solid = refl }, (record { kind = _; spans = _; is = refl }, (refl, count_agrees)))
+call_of_count = inr (counted 1, record { is = refl; typed = refl; holds = holds_count; solid = refl }, (record { kind = _; spans = _; is = refl }, (inl refl, count_agrees)))
 
 call_of_call : passed.Agrees calling_double 2 (called_double (called_double (counted 3))) (doubled (doubled (counted 1)))
-call_of_call = inr (doubled (counted 1), record { is = refl; typed = refl; holds = holds_double; solid = refl }, (record { kind = _; spans = _; is = refl }, (refl, call_of_count)))
+call_of_call = inr (doubled (counted 1), record { is = refl; typed = refl; holds = holds_double; solid = refl }, (record { kind = _; spans = _; is = refl }, (inl refl, call_of_count)))
 
 pub premises_double : IsCallingWith calling_double 2
 premises_double = record {
@@ -208,5 +208,5 @@ premises_double = record {
   return_kind = _;
   return_spans = _;
   returns = refl;
-  value = refl;
+  value = inl refl;
 }

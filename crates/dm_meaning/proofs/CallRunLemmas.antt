@@ -15,10 +15,11 @@ use Rattle.dm_meaning.specs.Operations.{of_value, Operand, World, Objects, Scene
 use Rattle.dm_meaning.specs.Running.{Doing, evaluates, gives_truth, gives_value, Run, done, to_do, Runs, no_runs, more_runs, begun, all_begun, locks_in, locks_in_all, Open, first_open, others_open, open_of, open_parts, first_result, operands_in, Hole, here, within, Holes, in_first, in_others, filled_in, all_filled_in, IsOpen, AreOpen}
 use Rattle.dm_meaning.specs.Expressions.{Move, goes, calls, fails, exits, lifted, as_move, by_truth, on_operand, value_of, nth_run, both_chosen, either_chosen, function_in, function_named, answered, undefined_called, called, call_step, kind_of_run, form_step, node_step, own_or_inner, where_open, moves, moves_in}
 use Rattle.dm_meaning.specs.Replaced.{relabelled, Zipped, facts_of}
-use Rattle.dm_meaning.specs.Called.{Called, new_of, gives_value as root_gives_value, is_static_number, means_the_same, IsSame, AreSame, Agrees, AllAgree, DefinitionAgrees, FunctionsAgree, IsCalling}
+use Rattle.dm_meaning.specs.Called.{Called, new_of, is_static_number, means_the_same, IsSame, AreSame, Agrees, AllAgree, DefinitionAgrees, FunctionsAgree, IsCalling}
 use Rattle.dm_meaning.proofs.AmongLemmas.{among_left, among_right, among_either, among-map, among-map_from}
 use Rattle.dm_meaning.proofs.MoveLemmas.{inner_steps, open_steps}
 use Rattle.dm_meaning.proofs.OptionLemmas.{none_is_some}
+use Rattle.dm_meaning.proofs.YieldLemmas.{may_give, given_may}
 use Rattle.dm_meaning.proofs.FewerLemmas.{SameDid, operate_fewer}
 use Rattle.dm_meaning.specs.Extending.{AreAmong}
 use Rattle.dm_meaning.proofs.ConstantLemmas.{kind_begun, own_step}
@@ -281,17 +282,17 @@ nth_agrees change inside zero (more_runs first rest) (more_runs other others) h 
 nth_agrees change inside (suc n) (more_runs first rest) (more_runs other others) h = nth_agrees change inside n rest others h.1
 
 -- the body names no function: its root gives a value
-tree_not_function : (tree : Tree) → root_gives_value (label_of tree) ≡ true → function_named (begun tree) ≡ None
+tree_not_function : (tree : Tree) → may_give (label_of tree) ≡ true → function_named (begun tree) ≡ None
 tree_not_function (node (function d) kind spans parts) h = absurd (cc)
 tree_not_function (node label kind spans parts) h = refl
 
-pub relabelled_gives : (rename : ℕ → ℕ) (label : Label) → root_gives_value (relabelled rename label) ≡ root_gives_value label
+pub relabelled_gives : (rename : ℕ → ℕ) (label : Label) → may_give (relabelled rename label) ≡ may_give label
 relabelled_gives rename (enumerator d) = refl
 relabelled_gives rename label = refl
 
 -- the expression gives a value in the old program too
-pub old_gives : (change : Called) → IsCalling change → (other : Tree) → IsSame change change.body other → root_gives_value (label_of other) ≡ true
-old_gives change calling other h = sym (relabelled_gives change.rename (label_of other)) ∙ sym (ap root_gives_value (label_same change.body other h)) ∙ calling.value
+pub old_gives : (change : Called) → IsCalling change → (other : Tree) → IsSame change change.body other → may_give (label_of other) ≡ true
+old_gives change calling other h = sym (relabelled_gives change.rename (label_of other)) ∙ sym (ap may_give (label_same change.body other h)) ∙ given_may change.body calling.value
   where
     label_same : (tree other : Tree) → IsSame change tree other → label_of tree ≡ relabelled change.rename (label_of other)
     label_same (node label kind spans parts) other h = h.0

@@ -24,12 +24,12 @@ use Rattle.dm_meaning.specs.Statements.{place_of, Turned, onward, refused, decla
 use Rattle.dm_meaning.specs.Steps.{given_from, opened_frame, opened_memory, opened, lacks_value, gone_back, handed_back, is_main, gives_nothing, body_place, no_place, closed, turned, moved, scene_of, expression_steps, task_steps, steps_from, next, Step}
 use Rattle.dm_meaning.specs.Units.{machine_of}
 use Rattle.dm_meaning.specs.Replaced.{renamed_declarator, Zipped, facts_of}
-use Rattle.dm_meaning.specs.Called.{Called, new_of, gives_value, IsSame, Agrees, DefinitionAgrees, IsCalling}
+use Rattle.dm_meaning.specs.Called.{Called, new_of, IsSame, Agrees, DefinitionAgrees, IsCalling}
 use Rattle.dm_meaning.proofs.AmongLemmas.{among-map, among-map_from}
 use Rattle.dm_meaning.proofs.MoveLemmas.{move_lifts, locks_lift}
 use Rattle.dm_meaning.proofs.RunLemmas.{OptionAgrees, renamed_objects, object_renamed}
 use Rattle.dm_meaning.proofs.CallRunLemmas.{RunAgrees, HoleAgrees, RunMoveAgrees, definition_agrees, added_found, begun_same, filled_agrees, fewer_locks, run_matched}
-use Rattle.dm_meaning.proofs.YieldLemmas.{Yields, HoleYields, MoveYields, filled_yields, move_yields_on}
+use Rattle.dm_meaning.proofs.YieldLemmas.{begun_yields, Yields, HoleYields, MoveYields, filled_yields, move_yields_on}
 use Rattle.dm_meaning.proofs.StatementLemmas.{map_append, numbers_renamed, named_from_renamed, length_renamed}
 use Rattle.dm_meaning.proofs.CallStatementLemmas.{UseAgrees, TasksAgree, TurnedAgrees, listed_agrees, same_type, declared_in_agrees, made_from_agrees, items_agree, statement_begins, declarator_begins, initialiser_begins, conclusion_agrees, unfolded_agree, ended_agrees, break_agrees, continue_agrees}
 use Rattle.dm_meaning.proofs.OptionLemmas.{none_is_some, some_is_some}
@@ -665,9 +665,6 @@ module _ (change : Called) (calling : IsCalling change) where
         tree_kind : (tree other_tree : Tree) → IsSame change tree other_tree → kind_of tree ≡ kind_of other_tree
         tree_kind (node label kind spans parts) other_tree same = same.1
 
-        tree_yields : (tree : Tree) → gives_value (label_of tree) ≡ true → Yields (kind_of tree) (begun tree)
-        tree_yields (node label kind spans parts) e = (refl, e)
-
         tree_left : (v : ℕ) (tree : Tree) → Left v (begun tree)
         tree_left v (node label kind spans parts) = tt
 
@@ -691,7 +688,7 @@ module _ (change : Called) (calling : IsCalling change) where
                   now = begun change.body;
                   is = refl;
                   agrees = subst (λ r. RunAgrees change true (begun change.body) r) (sym h.untouched) (begun_same change change.body h.tree h.same);
-                  yields = subst (λ t. Yields t (begun change.body)) (tree_kind change.body h.tree h.same ∙ sym h.typed) (tree_yields change.body calling.value);
+                  yields = subst (λ t. Yields t (begun change.body)) (tree_kind change.body h.tree h.same ∙ sym h.typed) (begun_yields change.body calling.value);
                   left = tree_left 0 change.body;
                 }));
                 statics = refl;

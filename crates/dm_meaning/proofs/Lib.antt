@@ -31,3 +31,4 @@ mod ReadLemmas
 mod PassStateLemmas
 mod PassRefineLemmas
 mod KnownLemmas
+mod PassUnitLemmas

@@ -17,7 +17,7 @@ use Rattle.dm_meaning.specs.Operations.{Result, of_value, Operand, World, Object
 use Rattle.dm_meaning.specs.Running.{Doing, evaluates, gives_truth, gives_value, Run, done, to_do, Runs, no_runs, more_runs, begun, all_begun, locks_in, locks_in_all, Open, first_open, others_open, open_of, open_parts, first_result, operands_in, Hole, here, within, Holes, in_first, in_others, filled_in, all_filled_in, IsOpen, AreOpen, hole_in, holes_in}
 use Rattle.dm_meaning.specs.Expressions.{Move, goes, calls, fails, exits, lifted, as_move, by_truth, on_operand, value_of, nth_run, both_chosen, either_chosen, function_in, function_named, answered, undefined_called, called, call_step, kind_of_run, form_step, node_step, own_or_inner, where_open, moves, moves_in}
 use Rattle.dm_meaning.specs.Replaced.{relabelled, Zipped, facts_of}
-use Rattle.dm_meaning.specs.Called.{Called, new_of, gives_value as root_gives_value, IsSame, AreSame}
+use Rattle.dm_meaning.specs.Called.{Called, new_of, IsSame, AreSame}
 use Rattle.dm_meaning.specs.CalledWith.{IsParameter, Holds, HoldsBelow, IsNamed, Agrees, AllAgree, Passes, PassesAlone, DefinitionAgrees, FunctionsAgree, IsCallingWith}
 use Rattle.dm_meaning.specs.Extending.{AreAmong}
 use Rattle.dm_meaning.specs.Steps.{lacks_value}
@@ -28,7 +28,7 @@ use Rattle.dm_meaning.proofs.FewerLemmas.{SameDid, operate_fewer}
 use Rattle.dm_meaning.proofs.ConstantLemmas.{kind_begun, own_step}
 use Rattle.dm_meaning.proofs.RunLemmas.{redone, same_renamed, OptionAgrees}
 use Rattle.dm_meaning.proofs.GrowLemmas.{equal_is, differ_is}
-use Rattle.dm_meaning.proofs.YieldLemmas.{Yields, HoleYields, MoveYields, filled_yields, begun_yields, given_set, move_yields_on}
+use Rattle.dm_meaning.proofs.YieldLemmas.{may_give, given_may, Yields, HoleYields, MoveYields, filled_yields, begun_yields, given_set, move_yields_on}
 use Rattle.dm_meaning.proofs.CallRunLemmas.{may_stand, open_of_relabelled, open_parts_redone, function_in_redone, if_agrees, stands_inside, relabelled_gives, among_nothing, among_joined, stands_always, truth_stands}
 
 -- ---- the argument in the expression
@@ -80,14 +80,14 @@ kind_of_hole change p (node label kind spans parts) (node other other_kind other
 pub hole_to_do : (change : Called) (p : ℕ) (tree other argument : Tree) (h : Holds change p tree other argument) (run : Run) → IsToDo (filled_in (hole_of change p tree other argument h) run)
 hole_to_do change p (node label kind spans parts) (node other other_kind other_spans others) argument h run = tt
 
-not_function : (rename : ℕ → ℕ) (label : Label) → root_gives_value (relabelled rename label) ≡ true → function_in (evaluates label) ≡ None
+not_function : (rename : ℕ → ℕ) (label : Label) → may_give (relabelled rename label) ≡ true → function_in (evaluates label) ≡ None
 not_function rename (function d) e = absurd (cc)
 not_function rename label e = refl
 
 -- and names no function, since it gives a value
-hole_not_function : (change : Called) (p : ℕ) (tree other argument : Tree) (h : Holds change p tree other argument) (run : Run) → root_gives_value (label_of tree) ≡ true
+hole_not_function : (change : Called) (p : ℕ) (tree other argument : Tree) (h : Holds change p tree other argument) (run : Run) → may_give (label_of tree) ≡ true
     → function_named (filled_in (hole_of change p tree other argument h) run) ≡ None
-hole_not_function change p (node label kind spans parts) (node other other_kind other_spans others) argument h run e = not_function change.rename other (sym (ap root_gives_value h.0) ∙ e)
+hole_not_function change p (node label kind spans parts) (node other other_kind other_spans others) argument h run e = not_function change.rename other (sym (ap may_give h.0) ∙ e)
 
 -- ---- how trees, and trees with a part left out, agree
 
@@ -387,8 +387,8 @@ nth_agrees change p inside zero (more_runs first rest) (more_runs other others) 
 nth_agrees change p inside (suc n) (more_runs first rest) (more_runs other others) h = nth_agrees change p inside n rest others h.1
 
 -- the expression gives a value in the old program too
-pub old_gives : (change : Called) (p : ℕ) → IsCallingWith change p → (other argument : Tree) → Holds change p change.body other argument → root_gives_value (label_of other) ≡ true
-old_gives change p calling other argument h = sym (relabelled_gives change.rename (label_of other)) ∙ sym (ap root_gives_value (label_same change.body other h)) ∙ calling.value
+pub old_gives : (change : Called) (p : ℕ) → IsCallingWith change p → (other argument : Tree) → Holds change p change.body other argument → may_give (label_of other) ≡ true
+old_gives change p calling other argument h = sym (relabelled_gives change.rename (label_of other)) ∙ sym (ap may_give (label_same change.body other h)) ∙ given_may change.body calling.value
   where
     label_same : (tree other : Tree) → Holds change p tree other argument → label_of tree ≡ relabelled change.rename (label_of other)
     label_same (node label kind spans parts) other h = h.0
@@ -400,7 +400,7 @@ same_function change p calling inside (to_do doing kind place parts) (done other
 same_function change p calling inside (to_do doing kind place parts) (to_do other other_kind other_place others) (inl h) = ap function_in h.0 ∙ function_in_redone change.rename other
 same_function change p calling inside (to_do doing kind place parts) (to_do other other_kind other_place others) (inr h) =
     ap function_in h.1.is
-    ∙ sym (ap (option_map change.rename) (ap function_named h.1.stands ∙ hole_not_function change p change.body h.1.tree h.1.argument h.1.holds h.0 calling.value))
+    ∙ sym (ap (option_map change.rename) (ap function_named h.1.stands ∙ hole_not_function change p change.body h.1.tree h.1.argument h.1.holds h.0 (given_may change.body calling.value)))
 
 mutual
   -- a part left out of a part left out

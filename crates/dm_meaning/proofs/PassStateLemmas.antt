@@ -26,7 +26,7 @@ use Rattle.dm_meaning.specs.Statements.{place_of, Turned, onward, refused, decla
 use Rattle.dm_meaning.specs.Steps.{given_from, opened_frame, opened_memory, opened, lacks_value, gone_back, handed_back, is_main, gives_nothing, body_place, no_place, closed, turned, moved, scene_of, expression_steps, task_steps, steps_from, next, Step}
 use Rattle.dm_meaning.specs.Units.{machine_of}
 use Rattle.dm_meaning.specs.Replaced.{renamed_declarator, Zipped, facts_of}
-use Rattle.dm_meaning.specs.Called.{Called, new_of, gives_value}
+use Rattle.dm_meaning.specs.Called.{Called, new_of}
 use Rattle.dm_meaning.specs.CalledWith.{Holds, Agrees, DefinitionAgrees, IsCallingWith}
 use Rattle.dm_meaning.specs.Extending.{AreAmong}
 use Rattle.dm_meaning.specs.MoreObjects.{LocksMade, TasksSettled, IsSpare, with_memory}
@@ -35,7 +35,7 @@ use Rattle.dm_meaning.proofs.MoveLemmas.{IsToDo, move_lifts, locks_lift}
 use Rattle.dm_meaning.proofs.RunLemmas.{OptionAgrees, renamed_objects, object_renamed}
 use Rattle.dm_meaning.proofs.PassRunLemmas.{hole_of, hole_to_do, RunAgrees, HoleAgrees, MoveAgrees, RunMoveAgrees, definition_agrees, added_found, filled_agrees, filled_twice, fewer_locks, Entered, weakened, only_left, run_matched}
 use Rattle.dm_meaning.proofs.ReadLemmas.{Reads, HoleReads, begun_reads, filled_reads, AfterRead, parameter_block, unlocked, fewer_read, reads_matched}
-use Rattle.dm_meaning.proofs.YieldLemmas.{Yields, HoleYields, MoveYields, filled_yields, move_yields_on}
+use Rattle.dm_meaning.proofs.YieldLemmas.{begun_yields, Yields, HoleYields, MoveYields, filled_yields, move_yields_on}
 use Rattle.dm_meaning.proofs.StatementLemmas.{map_append, numbers_renamed, named_from_renamed, length_renamed}
 use Rattle.dm_meaning.proofs.PassStatementLemmas.{UseAgrees, TasksAgree, TurnedAgrees, listed_agrees, same_type, declared_in_agrees, made_from_agrees, items_agree, statement_begins, declarator_begins, initialiser_begins, conclusion_agrees, unfolded_agree, ended_agrees, break_agrees, continue_agrees}
 use Rattle.dm_meaning.proofs.OptionLemmas.{none_is_some, some_is_some}
@@ -779,9 +779,6 @@ module _ (change : Called) (p : ℕ) (calling : IsCallingWith change p) where
         tree_kind : (tree other_tree argument : Tree) → Holds change p tree other_tree argument → kind_of tree ≡ kind_of other_tree
         tree_kind (node label kind spans parts) other_tree argument holds = holds.1
 
-        tree_yields : (tree : Tree) → gives_value (label_of tree) ≡ true → Yields (kind_of tree) (begun tree)
-        tree_yields (node label kind spans parts) e = (refl, e)
-
         at_return : IsAmong state (task_steps (new_of change) names (in_added (begins (node return h.return_kind h.return_spans (more_trees change.body no_trees)) ∷ []))
             (begins (node return h.return_kind h.return_spans (more_trees change.body no_trees)) ∷ [])) → Met change p w all_spare other state
         at_return (inl e) =
@@ -798,7 +795,7 @@ module _ (change : Called) (p : ℕ) (calling : IsCallingWith change p) where
                 open_still = subst IsToDo (sym h.entered.is) (hole_to_do change p change.body h.entered.tree h.entered.argument h.entered.holds filler);
                 stage = omega arith;
               });
-              yields = subst (λ t. Yields t (begun change.body)) (tree_kind change.body h.entered.tree h.entered.argument h.entered.holds ∙ sym h.entered.typed) (tree_yields change.body calling.value);
+              yields = subst (λ t. Yields t (begun change.body)) (tree_kind change.body h.entered.tree h.entered.argument h.entered.holds ∙ sym h.entered.typed) (begun_yields change.body calling.value);
             }))))
         at_return (inr e) = absurd e
 

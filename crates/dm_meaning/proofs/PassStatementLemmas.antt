@@ -16,10 +16,11 @@ use Rattle.dm_meaning.specs.Expressions.{value_of}
 use Rattle.dm_meaning.specs.States.{Loop, Use, drops, chooses, selects, repeats, continues, returns, initialises, Task, begins, declares, initials, evaluates, again, tests, ends, ends_switch, leaves, skips, hands_back}
 use Rattle.dm_meaning.specs.Statements.{Turned, onward, refused, evaluation, is_automatic_sort, is_automatic_declaration, is_automatic, automatic_in, declared_by_label, declared_by, declared_in, kind_declared, type_declared, named_from, made_from, named_since, expressions_of, declarator_tasks, item_tasks_by, item_tasks, items_tasks, unlabelled, entered, memory_entered, start_task, start_tasks, as_list, begin_for, on_one_tree, on_first_tree, on_option_tree, on_tree_if, loop_with, returning, begin_form, begin_tree, begin_statement, initial_of, begin_declarator, part_tasks, begin_initialiser, initial_value, is_number, has_case, has_default, from_first, or_items, selected_by, by_test, begins_one, concluded, tested, continued, unfolded, ended, after_break, after_continue}
 use Rattle.dm_meaning.specs.Replaced.{renamed_declarator, relabelled, Zipped, facts_of}
-use Rattle.dm_meaning.specs.Called.{Called, new_of, gives_value, SameCase}
+use Rattle.dm_meaning.specs.Called.{Called, new_of, SameCase}
 use Rattle.dm_meaning.specs.CalledWith.{Agrees, AllAgree, IsCallingWith}
 use Rattle.dm_meaning.proofs.RunLemmas.{renamed_objects, object_renamed, OptionAgrees}
 use Rattle.dm_meaning.proofs.StatementLemmas.{map_append, zipped_append, zipped_take, zipped_drop, since_renamed, named_from_renamed}
+use Rattle.dm_meaning.proofs.YieldLemmas.{may_give}
 use Rattle.dm_meaning.proofs.CallStatementLemmas.{automatic_fact, automatic_is, type_fact, type_is}
 use Rattle.dm_meaning.proofs.PassRunLemmas.{RunAgrees, begun_agrees, old_gives}
 
@@ -100,7 +101,7 @@ module _ (change : Called) (p : ℕ) (calling : IsCallingWith change p) where
   label_declares label = refl
 
   -- an expression that gives a value declares nothing
-  value_declares : (label : Label) → gives_value label ≡ true → declared_by_label change.old label ≡ []
+  value_declares : (label : Label) → may_give label ≡ true → declared_by_label change.old label ≡ []
   value_declares (declare lengths declarators) h = absurd (cc)
   value_declares label h = refl
 
@@ -154,7 +155,7 @@ module _ (change : Called) (p : ℕ) (calling : IsCallingWith change p) where
   item_by_label (declare lengths declarators) tree other trees others h k = declarators_agree declarators (drop lengths trees) (drop lengths others) (zipped_drop (Agrees change p) lengths trees others k)
   item_by_label label tree other trees others h k = (h, tt)
 
-  value_item : (label : Label) (tree : Tree) (trees : List Tree) → gives_value label ≡ true → item_tasks_by tree label trees ≡ begins tree ∷ []
+  value_item : (label : Label) (tree : Tree) (trees : List Tree) → may_give label ≡ true → item_tasks_by tree label trees ≡ begins tree ∷ []
   value_item (declare lengths declarators) tree trees h = absurd (cc)
   value_item label tree trees h = refl
 
@@ -178,7 +179,7 @@ module _ (change : Called) (p : ℕ) (calling : IsCallingWith change p) where
   start_by_label (declare lengths declarators) tree other h = item_agrees tree other h
   start_by_label label tree other h = (evaluation_agrees tree other drops drops h tt, tt)
 
-  value_start : (label : Label) (tree : Tree) → gives_value label ≡ true → start_task tree label ≡ evaluation tree drops ∷ []
+  value_start : (label : Label) (tree : Tree) → may_give label ≡ true → start_task tree label ≡ evaluation tree drops ∷ []
   value_start (declare lengths declarators) tree h = absurd (cc)
   value_start label tree h = refl
 
@@ -234,7 +235,7 @@ module _ (change : Called) (p : ℕ) (calling : IsCallingWith change p) where
   unlabel_by default kind other_kind spans other_spans parts others e c h below = unlabel_default kind other_kind spans other_spans parts others e c h below
   unlabel_by label kind other_kind spans other_spans parts others e c h below = inl (refl, e, c, h)
 
-  value_unlabelled : (label : Label) (kind : CType) (spans : Spans) (parts : Trees) → gives_value label ≡ true → unlabelled (node label kind spans parts) ≡ node label kind spans parts
+  value_unlabelled : (label : Label) (kind : CType) (spans : Spans) (parts : Trees) → may_give label ≡ true → unlabelled (node label kind spans parts) ≡ node label kind spans parts
   value_unlabelled case kind spans parts h = absurd (cc)
   value_unlabelled default kind spans parts h = absurd (cc)
   value_unlabelled label kind spans parts h = refl
@@ -354,7 +355,7 @@ module _ (change : Called) (p : ℕ) (calling : IsCallingWith change p) where
       returning_agrees (Some x) (Some y) k = (refl, (evaluation_agrees x y returns returns k tt, tt), refl)
   begin_by_label names objects rest others memory r label trees other_trees h = (refl, (refl, r), refl)
 
-  value_begins : (names : ℕ → ℕ) (objects : Objects) (rest : List Task) (memory : Memory) (label : Label) (trees : List Tree) → gives_value label ≡ true
+  value_begins : (names : ℕ → ℕ) (objects : Objects) (rest : List Task) (memory : Memory) (label : Label) (trees : List Tree) → may_give label ≡ true
       → begin_form change.old names objects rest memory label trees ≡ onward objects (ends objects ∷ rest) memory
   value_begins names objects rest memory block trees h = absurd (cc)
   value_begins names objects rest memory full trees h = absurd (cc)
@@ -464,7 +465,7 @@ module _ (change : Called) (p : ℕ) (calling : IsCallingWith change p) where
   case_by_label z default kind other_kind spans other_spans parts others c h below = case_default z kind other_kind spans other_spans parts others h below
   case_by_label z label kind other_kind spans other_spans parts others c h below = refl
 
-  value_no_case : (z : ℤ) (label : Label) (kind : CType) (spans : Spans) (parts : Trees) → gives_value label ≡ true → has_case change.old z (node label kind spans parts) ≡ false
+  value_no_case : (z : ℤ) (label : Label) (kind : CType) (spans : Spans) (parts : Trees) → may_give label ≡ true → has_case change.old z (node label kind spans parts) ≡ false
   value_no_case z case kind spans parts h = absurd (cc)
   value_no_case z default kind spans parts h = absurd (cc)
   value_no_case z label kind spans parts h = refl
@@ -496,7 +497,7 @@ module _ (change : Called) (p : ℕ) (calling : IsCallingWith change p) where
   default_by_label case kind other_kind spans other_spans parts others h below = default_case kind other_kind spans other_spans parts others h below
   default_by_label label kind other_kind spans other_spans parts others h below = refl
 
-  value_no_default : (label : Label) (kind : CType) (spans : Spans) (parts : Trees) → gives_value label ≡ true → has_default (node label kind spans parts) ≡ false
+  value_no_default : (label : Label) (kind : CType) (spans : Spans) (parts : Trees) → may_give label ≡ true → has_default (node label kind spans parts) ≡ false
   value_no_default case kind spans parts h = absurd (cc)
   value_no_default default kind spans parts h = absurd (cc)
   value_no_default label kind spans parts h = refl

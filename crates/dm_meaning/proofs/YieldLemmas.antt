@@ -1,11 +1,12 @@
--- The evaluation of an expression that gives a value keeps its type, and comes to a value and to no lvalue.
-use Rattle.std.specs.Prelude.{◌≡◌, refl, ℕ, Bool, true, false, not, ◌&&◌, List, [], ◌∷◌, map, Option, Some, None, ℤ}
+-- The evaluation of an expression that gives a value keeps its type, and comes to a value and to no lvalue, which was set unless the type is
+-- void.
+use Rattle.std.specs.Prelude.{◌≡◌, refl, ◌⊎◌, ℕ, Bool, true, false, not, ◌&&◌, List, [], ◌∷◌, map, Option, Some, None, ℤ}
 use Rattle.std.proofs.Common.{ap, sym, ◌∙◌, subst, inl, inr}
 use Rattle.dm_token.specs.declared.place.Place.{Place}
 use Rattle.dm_int.specs.Operators as operators
 use Rattle.dm_type.specs.CTypes.{CType, void, integer, pointer, array, struct, function as function_type, const, bare}
 use Rattle.dm_tree.specs.Scenes.{is_void}
-use Rattle.dm_tree.specs.Trees.{Label, number, enumerator, read, decay, convert, address, unary, binary, both, either, store, update, count, call, sizeof_tree, sizeof_kind, Tree, node, label_of, kind_of}
+use Rattle.dm_tree.specs.Trees.{Label, number, enumerator, read, decay, convert, address, unary, binary, both, either, choose, comma, store, update, count, call, sizeof_tree, sizeof_kind, Tree, Trees, node, no_trees, more_trees, label_of, kind_of}
 use Rattle.dm_tree.specs.Units.{Declaration}
 use Rattle.dm_meaning.specs.declared.cause.Cause.{Cause}
 use Rattle.dm_meaning.specs.Among.{IsAmong}
@@ -14,11 +15,11 @@ use Rattle.dm_meaning.specs.Causes.{is_unset}
 use Rattle.dm_meaning.specs.Primitives.{Answer, answers, stops, refuses, Prim}
 use Rattle.dm_meaning.specs.Programs.{Definition, layout, declaration_of, definition_of}
 use Rattle.dm_meaning.specs.Operations.{Result, of_value, Operand, World, Scene, Did, gives, breaks, ends_with, on_one, convert_bare, Truth, holds, untold, truth_of, truth_in, typed, operate}
-use Rattle.dm_meaning.specs.Running.{Doing, evaluates, gives_truth, gives_value, Run, done, to_do, Runs, begun, Hole, here, within, Holes, filled_in, locks_in_all, open_parts, operands_in}
-use Rattle.dm_meaning.specs.Expressions.{Move, goes, calls, fails, exits, lifted, as_move, by_truth, on_operand, answered, undefined_called, called, call_step, function_named, nth_run, value_of, both_chosen, either_chosen, form_step, node_step, own_or_inner, moves, moves_in}
+use Rattle.dm_meaning.specs.Running.{Doing, evaluates, gives_truth, gives_value, Run, done, to_do, Runs, no_runs, more_runs, begun, all_begun, Hole, here, within, Holes, in_first, in_others, filled_in, all_filled_in, locks_in_all, open_parts, operands_in}
+use Rattle.dm_meaning.specs.Expressions.{Move, goes, calls, fails, exits, lifted, as_move, by_truth, on_operand, answered, undefined_called, called, call_step, function_named, nth_run, value_of, both_chosen, either_chosen, operand_chosen, form_step, node_step, own_or_inner, moves, moves_in}
 use Rattle.dm_meaning.specs.Steps.{lacks_value}
-use Rattle.dm_meaning.specs.Called.{gives_value as root_gives_value}
-use Rattle.dm_meaning.proofs.AmongLemmas.{among-map_from}
+use Rattle.dm_meaning.specs.Called.{gives_value as root_gives_value, Gives, GivesPicked}
+use Rattle.dm_meaning.proofs.AmongLemmas.{among_either, among-map_from}
 use Rattle.dm_meaning.proofs.SetLemmas.{DidSets, typed_set, set_sets, converted_sets, AnswerSets, prim_sets, is_set, operate_sets}
 
 -- ---- what a step of an operator gives
@@ -86,15 +87,30 @@ doing_gives (evaluates label) = root_gives_value label
 doing_gives gives_truth = true
 doing_gives gives_value = false
 
--- a tree under evaluation comes to a value of this type, which was set unless the type is void
-abbrev pub Yields : CType → Run → Type 0
-Yields kind (done own result locks) = (own ≡ kind) × (value : Value) × (result ≡ of_value value) × (lacks_value own value ≡ false)
-Yields kind (to_do doing own place parts) = (own ≡ kind) × (doing_gives doing ≡ true)
+abbrev mutual
+  -- a tree under evaluation comes to a value of this type, which was set unless the type is void
+  pub Yields : CType → Run → Type 0
+  Yields kind (done own result locks) = (own ≡ kind) × (value : Value) × (result ≡ of_value value) × (lacks_value own value ≡ false)
+  Yields kind (to_do doing own place parts) = (own ≡ kind) × ((doing_gives doing ≡ true) ⊎ PicksYield kind doing parts)
 
--- and does so when a value of the type of the part that is left out stands there
-abbrev pub HoleYields : CType → CType → Hole → Type 0
-HoleYields kind called_kind here = called_kind ≡ kind
-HoleYields kind called_kind (within doing own place holes) = (own ≡ kind) × (doing_gives doing ≡ true)
+  -- by an operand that was picked or may be
+  pub PicksYield : CType → Doing → Runs → Type 0
+  PicksYield kind (evaluates choose) (more_runs condition (more_runs second (more_runs third no_runs))) = Yields kind second × Yields kind third
+  PicksYield kind (evaluates comma) (more_runs first (more_runs second no_runs)) = Yields kind second
+  PicksYield kind gives_value (more_runs picked no_runs) = Yields kind picked
+  PicksYield kind doing parts = ⊥
+
+abbrev mutual
+  -- and does so when a value of the type of the part that is left out stands there
+  pub HoleYields : CType → CType → Hole → Type 0
+  HoleYields kind called_kind here = called_kind ≡ kind
+  HoleYields kind called_kind (within doing own place holes) = (own ≡ kind) × ((doing_gives doing ≡ true) ⊎ HolesPick kind called_kind doing holes)
+
+  pub HolesPick : CType → CType → Doing → Holes → Type 0
+  HolesPick kind called_kind (evaluates choose) (in_first hole (more_runs second (more_runs third no_runs))) = Yields kind second × Yields kind third
+  HolesPick kind called_kind (evaluates comma) (in_first hole (more_runs second no_runs)) = Yields kind second
+  HolesPick kind called_kind gives_value (in_first hole no_runs) = HoleYields kind called_kind hole
+  HolesPick kind called_kind doing holes = ⊥
 
 abbrev pub MoveYields : CType → Move Run Hole → Type 0
 MoveYields kind (goes world run) = Yields kind run
@@ -102,12 +118,48 @@ MoveYields kind (calls f arguments called_kind hole) = HoleYields kind called_ki
 MoveYields kind (fails cause place) = Unit {0}
 MoveYields kind (exits status) = Unit {0}
 
-pub filled_yields : (kind called_kind : CType) (hole : Hole) (run : Run) → HoleYields kind called_kind hole → Yields called_kind run → Yields kind (filled_in hole run)
-filled_yields kind called_kind here run h k = subst (λ t. Yields t run) h k
-filled_yields kind called_kind (within doing own place holes) run h k = h
+mutual
+  pub filled_yields : (kind called_kind : CType) (hole : Hole) (run : Run) → HoleYields kind called_kind hole → Yields called_kind run → Yields kind (filled_in hole run)
+  filled_yields kind called_kind here run h k = subst (λ t. Yields t run) h k
+  filled_yields kind called_kind (within doing own place holes) run (e, inl h) k = (e, inl h)
+  filled_yields kind called_kind (within doing own place holes) run (e, inr h) k = (e, inr (filled_pick kind called_kind doing holes run h k))
 
-pub begun_yields : (tree : Tree) → root_gives_value (label_of tree) ≡ true → Yields (kind_of tree) (begun tree)
-begun_yields (node label kind spans parts) e = (refl, e)
+  filled_pick : (kind called_kind : CType) (doing : Doing) (holes : Holes) (run : Run) → HolesPick kind called_kind doing holes → Yields called_kind run → PicksYield kind doing (all_filled_in holes run)
+  filled_pick kind called_kind (evaluates choose) (in_first hole (more_runs second (more_runs third no_runs))) run h k = h
+  filled_pick kind called_kind (evaluates comma) (in_first hole (more_runs second no_runs)) run h k = h
+  filled_pick kind called_kind gives_value (in_first hole no_runs) run h k = filled_yields kind called_kind hole run h k
+  filled_pick kind called_kind doing holes run h k = absurd h
+
+mutual
+  pub begun_yields : (tree : Tree) → Gives tree → Yields (kind_of tree) (begun tree)
+  begun_yields (node label kind spans parts) (inl e) = (refl, inl e)
+  begun_yields (node label kind spans parts) (inr h) = (refl, inr (begun_pick label kind parts h))
+
+  begun_pick : (label : Label) (kind : CType) (parts : Trees) → GivesPicked label kind parts → PicksYield kind (evaluates label) (all_begun parts)
+  begun_pick choose kind (more_trees condition (more_trees second (more_trees third no_trees))) h =
+      (subst (λ t. Yields t (begun second)) h.0 (begun_yields second h.1), subst (λ t. Yields t (begun third)) h.2 (begun_yields third h.3))
+  begun_pick comma kind (more_trees first (more_trees second no_trees)) h = subst (λ t. Yields t (begun second)) h.0 (begun_yields second h.1)
+  begun_pick label kind parts h = absurd h
+
+-- the forms of which an expression that gives a value is
+abbrev pub may_give : Label → Bool
+may_give choose = true
+may_give comma = true
+may_give label = root_gives_value label
+
+picked_may : (label : Label) (kind : CType) (parts : Trees) → GivesPicked label kind parts → may_give label ≡ true
+picked_may choose kind parts h = refl
+picked_may comma kind parts h = refl
+picked_may label kind parts h = absurd h
+
+value_may : (label : Label) → root_gives_value label ≡ true → may_give label ≡ true
+value_may choose e = refl
+value_may comma e = refl
+value_may label e = e
+
+pub given_may : (tree : Tree) → Gives tree → may_give (label_of tree) ≡ true
+given_may (node label kind spans parts) (inl e) = value_may label e
+given_may (node label kind spans parts) (inr h) = picked_may label kind parts h
 
 -- a value of another type than void was set
 pub given_set : (kind : CType) (value : Value) → lacks_value kind value ≡ false → is_void (bare kind) ≡ false → is_unset value ≡ false
@@ -156,13 +208,13 @@ module _ (scene : Scene) (world : World) (locks : List At) (kind : CType) where
   form_yields both own place parts operands e h = on_operand_yields place operands _ (λ a. by_truth_yields place (truth_of world.memory (value_of a.result)) (both_chosen own place parts) both_yields)
     where
       both_yields : (b : Bool) → Yields kind (both_chosen own place parts b)
-      both_yields true = (e, refl)
+      both_yields true = (e, inl refl)
       both_yields false = typed_yields own kind (operators.truth false) [] e
   form_yields either own place parts operands e h = on_operand_yields place operands _ (λ a. by_truth_yields place (truth_of world.memory (value_of a.result)) (either_chosen own place parts) either_yields)
     where
       either_yields : (b : Bool) → Yields kind (either_chosen own place parts b)
       either_yields true = typed_yields own kind (operators.truth true) [] e
-      either_yields false = (e, refl)
+      either_yields false = (e, inl refl)
   form_yields call own place parts operands e h = call_yields own place _ (function_named (nth_run 0 parts)) e
   form_yields sizeof_tree own place parts operands e h = typed_yields own kind _ [] e
   form_yields (number z) own place parts operands e h = did_yields own place (locks_in_all parts) (operate scene world locks (number z) own operands) e (operate_yields scene world locks (number z) own operands h)
@@ -186,8 +238,8 @@ module _ (scene : Scene) (world : World) (locks : List At) (kind : CType) where
   node_yields gives_value own place parts operands e h = absurd (cc)
 
   lifted_yields : (doing : Doing) (own : CType) (place : Place) (m : Move Runs Holes) → own ≡ kind → doing_gives doing ≡ true → MoveYields kind (lifted (to_do doing own place) (within doing own place) m)
-  lifted_yields doing own place (goes w parts) e h = (e, h)
-  lifted_yields doing own place (calls f arguments called_kind holes) e h = (e, h)
+  lifted_yields doing own place (goes w parts) e h = (e, inl h)
+  lifted_yields doing own place (calls f arguments called_kind holes) e h = (e, inl h)
   lifted_yields doing own place (fails cause at) e h = tt
   lifted_yields doing own place (exits status) e h = tt
 
@@ -199,8 +251,93 @@ module _ (scene : Scene) (world : World) (locks : List At) (kind : CType) where
       let from = among-map_from _ m inner k in
       subst (MoveYields kind) (sym from.2) (lifted_yields doing own place from.0 e h)
 
-  -- each step keeps what a tree comes to
-  pub move_yields_on : (run : Run) → Yields kind run → (m : Move Run Hole) → IsAmong m (moves scene world locks run) → MoveYields kind m
-  move_yields_on (done own result own_locks) h m k = absurd k
-  move_yields_on (to_do doing own place parts) h m k =
-      own_yields doing own place parts h.0 h.1 (operands_in (open_parts doing) parts) (moves_in scene world locks (open_parts doing) parts) m k
+  -- ?: and the comma pick an operand
+  choice_yields : (own : CType) (place : Place) (condition second third : Run) → own ≡ kind → Yields kind second → Yields kind third
+      → (b : Bool) → Yields kind (operand_chosen own place (more_runs condition (more_runs second (more_runs third no_runs))) b)
+  choice_yields own place condition second third e h k true = (e, inr h)
+  choice_yields own place condition second third e h k false = (e, inr k)
+
+  choose_on : (own : CType) (place : Place) (condition second third : Run) → own ≡ kind → Yields kind second → Yields kind third → (m : Move Run Hole)
+      → IsAmong m (moves scene world locks (to_do (evaluates choose) own place (more_runs condition (more_runs second (more_runs third no_runs))))) → MoveYields kind m
+  choose_on own place (done condition_kind result own_locks) second third e h k m (inl f) =
+      subst (MoveYields kind) (sym f) (by_truth_yields place (truth_of world.memory (value_of result)) (operand_chosen own place (more_runs (done condition_kind result own_locks) (more_runs second (more_runs third no_runs))))
+      (choice_yields own place (done condition_kind result own_locks) second third e h k))
+  choose_on own place (done condition_kind result own_locks) second third e h k m (inr f) = absurd f
+  choose_on own place (to_do doing condition_kind at parts) second third e h k m f =
+      let outer = among-map_from (lifted (to_do (evaluates choose) own place) (within (evaluates choose) own place)) m _ f in
+      from_first outer.0 outer.2 (among_either outer.0 _ [] outer.1)
+    where
+      kept : (x : Move Run Hole) → MoveYields kind (lifted (to_do (evaluates choose) own place) (within (evaluates choose) own place)
+          (lifted (λ run. more_runs run (more_runs second (more_runs third no_runs))) (λ hole. in_first hole (more_runs second (more_runs third no_runs))) x))
+      kept (goes after run) = (e, inr (h, k))
+      kept (calls g arguments called_kind hole) = (e, inr (h, k))
+      kept (fails cause at_place) = tt
+      kept (exits status) = tt
+
+      from_first : (x : Move Runs Holes) → m ≡ lifted (to_do (evaluates choose) own place) (within (evaluates choose) own place) x
+          → IsAmong x (map (lifted (λ run. more_runs run (more_runs second (more_runs third no_runs))) (λ hole. in_first hole (more_runs second (more_runs third no_runs)))) (moves scene world locks (to_do doing condition_kind at parts)))
+          ⊎ IsAmong x [] → MoveYields kind m
+      from_first x g (inl l) =
+          let inner = among-map_from (lifted (λ run. more_runs run (more_runs second (more_runs third no_runs))) (λ hole. in_first hole (more_runs second (more_runs third no_runs)))) x _ l in
+          subst (MoveYields kind) (sym (g ∙ ap (lifted (to_do (evaluates choose) own place) (within (evaluates choose) own place)) inner.2)) (kept inner.0)
+      from_first x g (inr l) = absurd l
+
+  comma_on : (own : CType) (place : Place) (first second : Run) → own ≡ kind → Yields kind second → (m : Move Run Hole)
+      → IsAmong m (moves scene world locks (to_do (evaluates comma) own place (more_runs first (more_runs second no_runs)))) → MoveYields kind m
+  comma_on own place (done first_kind result own_locks) second e h m (inl f) = subst (MoveYields kind) (sym f) (e, inr h)
+  comma_on own place (done first_kind result own_locks) second e h m (inr f) = absurd f
+  comma_on own place (to_do doing first_kind at parts) second e h m f =
+      let outer = among-map_from (lifted (to_do (evaluates comma) own place) (within (evaluates comma) own place)) m _ f in
+      from_first outer.0 outer.2 (among_either outer.0 _ [] outer.1)
+    where
+      kept : (x : Move Run Hole) → MoveYields kind (lifted (to_do (evaluates comma) own place) (within (evaluates comma) own place)
+          (lifted (λ run. more_runs run (more_runs second no_runs)) (λ hole. in_first hole (more_runs second no_runs)) x))
+      kept (goes after run) = (e, inr h)
+      kept (calls g arguments called_kind hole) = (e, inr h)
+      kept (fails cause at_place) = tt
+      kept (exits status) = tt
+
+      from_first : (x : Move Runs Holes) → m ≡ lifted (to_do (evaluates comma) own place) (within (evaluates comma) own place) x
+          → IsAmong x (map (lifted (λ run. more_runs run (more_runs second no_runs)) (λ hole. in_first hole (more_runs second no_runs))) (moves scene world locks (to_do doing first_kind at parts)))
+          ⊎ IsAmong x [] → MoveYields kind m
+      from_first x g (inl l) =
+          let inner = among-map_from (lifted (λ run. more_runs run (more_runs second no_runs)) (λ hole. in_first hole (more_runs second no_runs))) x _ l in
+          subst (MoveYields kind) (sym (g ∙ ap (lifted (to_do (evaluates comma) own place) (within (evaluates comma) own place)) inner.2)) (kept inner.0)
+      from_first x g (inr l) = absurd l
+
+  -- the value of the operand that was picked
+  picked_on : (own : CType) (place : Place) (picked : Run) → own ≡ kind → Yields kind picked → ((x : Move Run Hole) → IsAmong x (moves scene world locks picked) → MoveYields kind x) → (m : Move Run Hole)
+      → IsAmong m (moves scene world locks (to_do gives_value own place (more_runs picked no_runs))) → MoveYields kind m
+  picked_on own place (done picked_kind result own_locks) e h later m (inl f) =
+      subst (MoveYields kind) (sym f) (e, h.1, h.2, ap (λ t. lacks_value t h.1) (e ∙ sym h.0) ∙ h.3)
+  picked_on own place (done picked_kind result own_locks) e h later m (inr f) = absurd f
+  picked_on own place (to_do doing picked_kind at parts) e h later m f =
+      let outer = among-map_from (lifted (to_do gives_value own place) (within gives_value own place)) m _ f in
+      from_first outer.0 outer.2 (among_either outer.0 _ [] outer.1)
+    where
+      kept : (x : Move Run Hole) → MoveYields kind x → MoveYields kind (lifted (to_do gives_value own place) (within gives_value own place) (lifted (λ run. more_runs run no_runs) (λ hole. in_first hole no_runs) x))
+      kept (goes after run) k = (e, inr k)
+      kept (calls g arguments called_kind hole) k = (e, inr k)
+      kept (fails cause at_place) k = tt
+      kept (exits status) k = tt
+
+      from_first : (x : Move Runs Holes) → m ≡ lifted (to_do gives_value own place) (within gives_value own place) x
+          → IsAmong x (map (lifted (λ run. more_runs run no_runs) (λ hole. in_first hole no_runs)) (moves scene world locks (to_do doing picked_kind at parts))) ⊎ IsAmong x [] → MoveYields kind m
+      from_first x g (inl l) =
+          let inner = among-map_from (lifted (λ run. more_runs run no_runs) (λ hole. in_first hole no_runs)) x _ l in
+          subst (MoveYields kind) (sym (g ∙ ap (lifted (to_do gives_value own place) (within gives_value own place)) inner.2)) (kept inner.0 (later inner.0 inner.1))
+      from_first x g (inr l) = absurd l
+
+  mutual
+    -- each step keeps what a tree comes to
+    pub move_yields_on : (run : Run) → Yields kind run → (m : Move Run Hole) → IsAmong m (moves scene world locks run) → MoveYields kind m
+    move_yields_on (done own result own_locks) h m k = absurd k
+    move_yields_on (to_do doing own place parts) (e, inl h) m k =
+        own_yields doing own place parts e h (operands_in (open_parts doing) parts) (moves_in scene world locks (open_parts doing) parts) m k
+    move_yields_on (to_do doing own place parts) (e, inr h) m k = pick_yields_on doing own place parts e h m k
+
+    pick_yields_on : (doing : Doing) (own : CType) (place : Place) (parts : Runs) → own ≡ kind → PicksYield kind doing parts → (m : Move Run Hole) → IsAmong m (moves scene world locks (to_do doing own place parts)) → MoveYields kind m
+    pick_yields_on (evaluates choose) own place (more_runs condition (more_runs second (more_runs third no_runs))) e h m k = choose_on own place condition second third e h.0 h.1 m k
+    pick_yields_on (evaluates comma) own place (more_runs first (more_runs second no_runs)) e h m k = comma_on own place first second e h m k
+    pick_yields_on gives_value own place (more_runs picked no_runs) e h m k = picked_on own place picked e h (move_yields_on picked h) m k
+    pick_yields_on doing own place parts e h m k = absurd h

@@ -5,7 +5,7 @@
 --     IsCalling change      the programs are the same but for such calls and the added function
 use Rattle.std.specs.Prelude.{◌≡◌, ◌⊎◌, ℕ, ◌==◌, Bool, true, false, ◌||◌, List, [], ◌∷◌, map, option_map}
 use Rattle.dm_type.specs.CTypes.{CType}
-use Rattle.dm_tree.specs.Trees.{Label, number, enumerator, object, function, read, decay, convert, address, unary, binary, both, either, store, update, count, call, sizeof_tree, sizeof_kind, case, return, Spans, Tree, Trees, node, no_trees, more_trees, label_of, kind_of, trees_of, parts_of}
+use Rattle.dm_tree.specs.Trees.{Label, number, enumerator, object, function, read, decay, convert, address, unary, binary, both, either, choose, comma, store, update, count, call, sizeof_tree, sizeof_kind, case, return, Spans, Tree, Trees, node, no_trees, more_trees, label_of, kind_of, trees_of, parts_of}
 use Rattle.dm_tree.specs.Units.{Declaration}
 use Rattle.dm_meaning.specs.Programs.{Definition, Static, Program, declaration_of, constant_of}
 use Rattle.dm_meaning.specs.Steps.{is_main}
@@ -46,6 +46,18 @@ gives_value call = true
 gives_value sizeof_tree = true
 gives_value (sizeof_kind type) = true
 gives_value label = false
+
+abbrev mutual
+  -- the expression gives a value and no lvalue: by its own step, or by that of the operands of ?: or the comma that may be picked, which have
+  -- its type (6.5.15p4, 6.5.17p2)
+  pub Gives : Tree → Type 0
+  Gives (node label kind spans parts) = (gives_value label ≡ true) ⊎ GivesPicked label kind parts
+
+  pub GivesPicked : Label → CType → Trees → Type 0
+  GivesPicked choose kind (more_trees condition (more_trees second (more_trees third no_trees))) =
+      (kind_of second ≡ kind) × Gives second × (kind_of third ≡ kind) × Gives third
+  GivesPicked comma kind (more_trees first (more_trees second no_trees)) = (kind_of second ≡ kind) × Gives second
+  GivesPicked label kind parts = ⊥
 
 -- an object of static storage duration that the program defines
 abbrev pub is_static_number : List Static → ℕ → Bool
@@ -103,13 +115,15 @@ DefinitionAgrees change definition other =
     (definition.function ≡ change.rename other.function) × (definition.parameters ≡ map change.rename other.parameters)
     × AllAgree change (trees_of definition.body) (trees_of other.body)
 
--- the functions agree one by one, but for the added one, which stands somewhere among them
+-- definitions are related one by one, but for the added one, which stands somewhere among them
+abbrev pub AreRelatedBut : Definition → (Definition → Definition → Type 0) → List Definition → List Definition → Type 0
+AreRelatedBut added R [] others = ⊥
+AreRelatedBut added R (definition ∷ definitions) [] = (definition ≡ added) × (definitions ≡ [])
+AreRelatedBut added R (definition ∷ definitions) (other ∷ others) =
+    ((definition ≡ added) × Zipped R definitions (other ∷ others)) ⊎ (R definition other × AreRelatedBut added R definitions others)
+
 abbrev pub FunctionsAgree : Called → List Definition → List Definition → Type 0
-FunctionsAgree change [] others = ⊥
-FunctionsAgree change (definition ∷ definitions) [] = (definition ≡ change.added) × (definitions ≡ [])
-FunctionsAgree change (definition ∷ definitions) (other ∷ others) =
-    ((definition ≡ change.added) × Zipped (DefinitionAgrees change) definitions (other ∷ others))
-    ⊎ (DefinitionAgrees change definition other × FunctionsAgree change definitions others)
+FunctionsAgree change definitions others = AreRelatedBut change.added (DefinitionAgrees change) definitions others
 
 -- the change without functions: of static objects the programs have the same
 abbrev pub statics_of : Called → Replaced
@@ -129,4 +143,4 @@ pub record IsCalling (change : Called) : Type 0 where
   pub return_kind : CType
   pub return_spans : Spans
   pub returns : parts_of change.added.body ≡ node return return_kind return_spans (more_trees change.body no_trees) ∷ []
-  pub value : gives_value (label_of change.body) ≡ true
+  pub value : Gives change.body

@@ -15,7 +15,7 @@ use Rattle.dm_meaning.specs.Running.{Open, first_open, others_open, open_of}
 use Rattle.dm_meaning.specs.Statements.{type_declared}
 use Rattle.dm_meaning.specs.Steps.{is_main}
 use Rattle.dm_meaning.specs.Replaced.{relabelled, Zipped, facts_of, StaticAgrees}
-use Rattle.dm_meaning.specs.Called.{Called, new_of, gives_value, means_the_same, IsSame, AreSame, SameCase, statics_of}
+use Rattle.dm_meaning.specs.Called.{Called, new_of, Gives, means_the_same, IsSame, AreSame, SameCase, AreRelatedBut, statics_of}
 
 -- ---- the expression
 
@@ -78,7 +78,7 @@ abbrev mutual
 
   pub PassesAlone : Called → ℕ → Trees → Tree → Type 0
   PassesAlone change parameter no_trees argument = ⊥
-  PassesAlone change parameter (more_trees first no_trees) argument = (gives_value (label_of first) ≡ true) × Agrees change parameter first argument
+  PassesAlone change parameter (more_trees first no_trees) argument = Gives first × Agrees change parameter first argument
   PassesAlone change parameter (more_trees first (more_trees second rest)) argument = ⊥
 
 -- ---- programs
@@ -88,13 +88,8 @@ DefinitionAgrees change parameter definition other =
     (definition.function ≡ change.rename other.function) × (definition.parameters ≡ map change.rename other.parameters)
     × AllAgree change parameter (trees_of definition.body) (trees_of other.body)
 
--- the functions agree one by one, but for the added one, which stands somewhere among them
 abbrev pub FunctionsAgree : Called → ℕ → List Definition → List Definition → Type 0
-FunctionsAgree change parameter [] others = ⊥
-FunctionsAgree change parameter (definition ∷ definitions) [] = (definition ≡ change.added) × (definitions ≡ [])
-FunctionsAgree change parameter (definition ∷ definitions) (other ∷ others) =
-    ((definition ≡ change.added) × Zipped (DefinitionAgrees change parameter) definitions (other ∷ others))
-    ⊎ (DefinitionAgrees change parameter definition other × FunctionsAgree change parameter definitions others)
+FunctionsAgree change parameter definitions others = AreRelatedBut change.added (DefinitionAgrees change parameter) definitions others
 
 -- The programs differ in such calls and in the added function alone: each old declaration has one number among the new ones, with its name,
 -- sort and type, and the added function and its parameter have others; the functions and the static objects agree. The added function has one parameter, isn't
@@ -111,4 +106,4 @@ pub record IsCallingWith (change : Called) (parameter : ℕ) : Type 0 where
   pub return_kind : CType
   pub return_spans : Spans
   pub returns : parts_of change.added.body ≡ node return return_kind return_spans (more_trees change.body no_trees) ∷ []
-  pub value : gives_value (label_of change.body) ≡ true
+  pub value : Gives change.body

@@ -22,5 +22,6 @@ pub mod ReplacedUnits
 pub mod MoreObjects
 pub mod Called
 pub mod CalledWith
+pub mod CalledUnits
 pub mod Choices
 pub mod Examples

@@ -6,11 +6,12 @@ ghost use Rattle.dm_meaning.specs.Refinement.{Refines};
 ghost use Rattle.dm_meaning.specs.Replaced.{Replaced, new_of, IsReplacement};
 ghost use Rattle.dm_meaning.specs.Called as called;
 ghost use Rattle.dm_meaning.specs.Called.{Called, IsCalling};
+ghost use Rattle.dm_meaning.specs.CalledUnits.{IsUnitCalling, IsUnitCallingWith};
 ghost use Rattle.dm_meaning.specs.CalledWith.{IsCallingWith};
 ghost use Rattle.dm_meaning.specs.Simulation.{IsSimulation, GoesWrong};
 ghost use Rattle.dm_meaning.specs.Values.{At, Value};
-ghost use Rattle.dm_meaning.specs.Programs.{Program};
-ghost use Rattle.dm_tree.specs.Trees.{Label};
+ghost use Rattle.dm_meaning.specs.Programs.{Definition, Program};
+ghost use Rattle.dm_tree.specs.Trees.{Label, Tree};
 ghost use Rattle.dm_type.specs.CTypes.{CType};
 ghost use Rattle.dm_meaning.specs.Operations.{World, Scene, Operand, operate};
 ghost use Rattle.dm_meaning.specs.Running.{Run, Hole, filled_in, hole_in, IsOpen, locks_in};
@@ -114,8 +115,8 @@ pub fn extended_answers()
 {}
 
 /// A program in which calls of an added function without parameters, whose body is one `return` of an expression, stand in
-/// place of the expression, at any places in any functions, refines the program with the expression. The expression names
-/// no object, its outermost operator is neither `?:` nor a comma, and the values of `case` labels stay the same.
+/// place of the expression, at any places in any functions, refines the program with the expression. The expression gives a
+/// value and names no objects but those of static storage duration, and the values of `case` labels stay the same.
 pub fn called_refines()
     ensures { (change : Called) → IsCalling change → Refines (machine_of (called.new_of change)) (machine_of change.old) }
 {}
@@ -134,9 +135,25 @@ pub fn settled_beginnings()
 
 /// A program in which calls of an added function with one parameter, whose body is one `return` of an expression, stand in
 /// place of the expression with the argument in place of the parameter, at any places in any functions, refines the program
-/// with the expression. The expression reads the parameter once, and first, below its outermost operator, and names no other
-/// object; that operator is neither `?:` nor a comma. The argument's outermost operator is such that its value was set, and the
-/// values of `case` labels stay the same.
+/// with the expression. The expression gives a value, reads the parameter once, and first, below its outermost operator, and
+/// names no other objects but those of static storage duration. The argument gives a value of another type than void; it may
+/// have effects, and calls of the added function in it. The values of `case` labels stay the same.
 pub fn called_with_refines()
     ensures { (change : Called) (parameter : ℕ) → IsCallingWith change parameter → Refines (machine_of (called.new_of change)) (machine_of change.old) }
+{}
+
+/// A translation unit in which calls of an added function without parameters stand in place of its expression refines the unit
+/// with the expression.
+pub fn called_units_refine()
+    ensures { (table : Table) (new old : TypedUnit) (rename : ℕ → ℕ) (added : Definition) (body : Tree)
+        → IsUnitCalling table new old rename added body
+        → Refines (machine_of (program_of table new)) (machine_of (program_of table old)) }
+{}
+
+/// A translation unit in which calls of an added function with one parameter stand in place of its expression, with the
+/// argument in it, refines the unit with the expression.
+pub fn called_with_units_refine()
+    ensures { (table : Table) (new old : TypedUnit) (rename : ℕ → ℕ) (added : Definition) (body : Tree) (parameter : ℕ)
+        → IsUnitCallingWith table new old rename added body parameter
+        → Refines (machine_of (program_of table new)) (machine_of (program_of table old)) }
 {}
