@@ -1,11 +1,16 @@
 pub mod CallLemmas
 pub mod ChoiceLemmas
 pub mod ConversionLemmas
+pub mod ExpressionLemmas
+pub mod GrowthLemmas
 pub mod KindLemmas
+pub mod KnownLemmas
 pub mod MemberLemmas
 pub mod NameLemmas
 pub mod OperandLemmas
+pub mod ParenthesisLemmas
 pub mod RuleLemmas
+pub mod StructLemmas
 pub mod TableLemmas
 pub mod TypeLemmas
 pub mod WriteLemmas

@@ -37,12 +37,14 @@ abbrev pub is_same_span : Span → Span → Bool
 is_same_span a b = (a.first == b.first) && (a.after == b.after)
 
 -- of trees below a node, those that come from the same syntax have the same parentheses round them
-unfoldable pub widened_below : Span → Span → Trees → Trees
-widened_below inner outer no_trees = no_trees
-widened_below inner outer (more_trees (node label kind spans parts) rest) =
-    more_trees
-    (if is_same_span inner spans.inner then node label kind (record spans { outer = outer }) (widened_below inner outer parts) else node label kind spans parts)
-    (widened_below inner outer rest)
+unfoldable mutual
+  pub widened_part : Span → Span → Tree → Tree
+  widened_part inner outer (node label kind spans parts) =
+      if is_same_span inner spans.inner then node label kind (record spans { outer = outer }) (widened_below inner outer parts) else node label kind spans parts
+
+  pub widened_below : Span → Span → Trees → Trees
+  widened_below inner outer no_trees = no_trees
+  widened_below inner outer (more_trees first rest) = more_trees (widened_part inner outer first) (widened_below inner outer rest)
 
 -- a tree with parentheses round it
 abbrev pub widened : Span → Tree → Tree

@@ -1,12 +1,19 @@
 -- What the typing gives is well typed: the words in which the laws say so.
 --     IsSound known tree      the tree is a well-typed expression where this is known, and its type is one that expressions have
 --     IsSoundValue known tree      it is a value too: no lvalue, and its type without const
---     Gives known outcome IsGiven      what is typed, if anything is, adds nothing to what is known, and is such
-use Rattle.std.specs.Prelude.{◌≡◌, ℕ, ◌||◌, not, IsTrue, List, [], ◌∷◌, All, length, ◌<◌, Some, slice_get}
+--     Gives known IsGiven outcome      what is typed, if anything is, adds nothing to what is known, and is such
+--     GivesMore known IsGiven outcome      it may add to what is known, which stays sound
+--     KnowsMore old new      all that was known still is
+use Rattle.std.specs.Prelude.{◌≡◌, ℕ, true, ◌||◌, not, IsTrue, List, [], ◌∷◌, All, length, ◌<◌, ◌≤◌, Some, None, is_some, IsSome, slice_get, suc, if◌then◌else◌}
 use Rattle.dm_token.specs.declared.token.CToken.{CToken}
+use Rattle.dm_type.specs.declared.shape.Content.{Content}
 use Rattle.dm_type.specs.declared.shape.Member.{Member}
+use Rattle.dm_type.specs.declared.shape.Struct.{Struct as StructEntry}
 use Rattle.dm_type.specs.CTypes.{CType, CTypes, void, integer, pointer, array, struct, function as function_type, const, no_types, more_types, bare, is_const}
-use Rattle.dm_type.specs.Tables.{Table, type_of, members_of}
+use Rattle.dm_type.specs.Layouts.{size_of}
+use Rattle.dm_type.specs.Tables.{Table, type_of, content_of, members_of}
+use Rattle.dm_syn.specs.declared.symbol.Symbol.TheVariants as symbol
+use Rattle.dm_syn.specs.Symbols.{symbol_of}
 use Rattle.dm_tree.specs.Trees.{Tree, trees as trees_in, label_of, kind_of, is_statement}
 use Rattle.dm_tree.specs.Scenes.{Scene, is_lvalue, is_array, IsValue, IsConstant}
 use Rattle.dm_tree.specs.Operands.{IsNumber}
@@ -14,7 +21,7 @@ use Rattle.dm_tree.specs.Units.{Declaration}
 use Rattle.dm_tree.specs.Typing.{file_scene, IsEntry, IsWellTyped, AreWellTyped}
 use Rattle.dm_eexpr.specs.Known.{Known, Outcome, given, broken}
 use Rattle.dm_eexpr.specs.Conversions.{element}
-use Rattle.dm_eexpr.specs.Typing.{kind_numbered}
+use Rattle.dm_eexpr.specs.Typing.{kind_numbered, number_if_struct, is_among}
 
 -- ---- types
 
@@ -37,13 +44,17 @@ abbrev mutual
 abbrev pub HasProperTypes : Table → Type 0
 HasProperTypes table = (id : ℕ) → IsProper (type_of table id)
 
--- structs are within one another in layers, the first below as many as there are, so none is a part of itself (6.7.2.1p3)
-abbrev pub AreLayered : Table → Type 0
-AreLayered table =
+-- Structs that have their members are within one another in so many layers, so none is a part of itself (6.7.2.1p3).
+abbrev pub AreLayeredWithin : ℕ → Table → Type 0
+AreLayeredWithin many table =
     (layer : ℕ → ℕ)
     × ((at : ℕ) (members : List Member) (n : ℕ) (one : Member) (inner : ℕ) (others : List Member) → members_of table at ≡ Some members
     → slice_get members n ≡ Some one → element (type_of table one.kind) ≡ struct inner → members_of table inner ≡ Some others → layer inner < layer at)
-    × ((at : ℕ) (members : List Member) → members_of table at ≡ Some members → layer at < length table.structs)
+    × ((at : ℕ) (members : List Member) → members_of table at ≡ Some members → layer at < many)
+
+-- in as many as there are structs
+abbrev pub AreLayered : Table → Type 0
+AreLayered table = AreLayeredWithin (length table.structs) table
 
 -- ---- declarations and tokens
 
@@ -54,6 +65,10 @@ AreEntries known = (at : ℕ) (entry : Declaration) → slice_get known.declared
 -- the kind of a constant is promoted, and has its value (6.4.4.1p5, 6.4.4.4p10)
 abbrev pub IsSoundToken : CToken → Type 0
 IsSoundToken token = IsNumber token.value (integer (kind_numbered token.kind))
+
+-- each constant of a file is sound
+abbrev pub AreSoundTokens : List CToken → Type 0
+AreSoundTokens tokens = (at : ℕ) (token : CToken) → slice_get tokens at ≡ Some token → symbol_of token.class ≡ symbol.Constant → IsSoundToken token
 
 -- ---- trees
 
@@ -81,9 +96,47 @@ AreSound known (value ∷ values) = IsSoundValue known value × AreSound known v
 abbrev pub AreConstants : Known → List Tree → Type 0
 AreConstants known trees = All (IsConstant (scene_of known)) trees × AreWellTyped (scene_of known) (trees_in trees)
 
+-- ---- knowledge
+
+-- the type of each member of a struct that has its members is complete (6.7.2.1p3)
+abbrev pub AreComplete : Table → Type 0
+AreComplete table = (at : ℕ) (members : List Member) → members_of table at ≡ Some members
+    → (n : ℕ) (one : Member) → slice_get members n ≡ Some one → IsSome (size_of table (type_of table one.kind))
+
+-- how many structs have their members
+abbrev pub how_many_complete : List StructEntry → ℕ
+how_many_complete [] = 0
+how_many_complete (entry ∷ structs) = if is_some entry.content then suc (how_many_complete structs) else how_many_complete structs
+
+-- a type is proper, and if it is a struct, it is one of the table
+abbrev pub IsType : Known → CType → Type 0
+IsType known type = IsProper type × ((at : ℕ) → number_if_struct type ≡ Some at → at < length known.types.structs)
+
+-- What is known is sound: entries are those of a unit and have such types, structs have complete members and are layered, those whose
+-- members are being read have none yet, and lengths and enumerator values are constants.
+pub record IsSoundKnown (known : Known) : Type 0 where
+  pub entries : (at : ℕ) (entry : Declaration) → slice_get known.declared at ≡ Some entry → IsEntry entry × IsType known entry.kind
+  pub complete : AreComplete known.types
+  pub layered : AreLayeredWithin (how_many_complete known.types.structs) known.types
+  pub begun : (at : ℕ) → is_among at known.begun ≡ true → (at < length known.types.structs) × (content_of known.types at ≡ None)
+  pub constants : AreConstants known known.constants
+
+-- all that was known still is: the types by number, the structs that have their members, and the declarations
+pub record KnowsMore (old new : Known) : Type 0 where
+  pub shapes : length old.types.shapes ≤ length new.types.shapes
+  pub types : (id : ℕ) → id < length old.types.shapes → type_of new.types id ≡ type_of old.types id
+  pub contents : (at : ℕ) (content : Content) → content_of old.types at ≡ Some content → content_of new.types at ≡ Some content
+  pub structs : length old.types.structs ≤ length new.types.structs
+  pub declared : (at : ℕ) (entry : Declaration) → slice_get old.declared at ≡ Some entry → slice_get new.declared at ≡ Some entry
+
 -- ---- what is given
 
 -- nothing more becomes known, and what is given is such; or a rule is broken
 abbrev pub Gives : Known → (Known → Tree → Type 0) → Outcome Tree → Type 0
 Gives known IsGiven (given behind tree) = (behind ≡ known) × IsGiven known tree
 Gives known IsGiven (broken rule at) = Unit {0}
+
+-- more may become known, which is sound again, and what is given is such where that is known; or a rule is broken
+abbrev pub GivesMore : {A : Type 0} → Known → (Known → A → Type 0) → Outcome A → Type 0
+GivesMore known IsGiven (given behind it) = KnowsMore known behind × IsSoundKnown behind × (behind.begun ≡ known.begun) × IsGiven behind it
+GivesMore known IsGiven (broken rule at) = Unit {0}
