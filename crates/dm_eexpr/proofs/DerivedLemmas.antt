@@ -1,17 +1,18 @@
 -- The types that specifiers name and declarators derive are proper, and those of the table.
-use Rattle.std.specs.Prelude.{◌≡◌, ℕ, ◌==◌, ◌<◌, Bool, true, false, ◌&&◌, ◌||◌, not, if◌then◌else◌, IsTrue, List, [], ◌∷◌, ◌++◌, length, Option, Some, None, is_some, refl}
-use Rattle.std.proofs.Common.{sym, ap, ◌∙◌, subst}
-use Rattle.dm_type.specs.CTypes.{CType, CTypes, void, integer, pointer, array, struct, function as function_type, const, all_of, with_const}
+use Rattle.std.specs.Prelude.{◌≡◌, ℕ, ◌==◌, Bool, true, false, ◌&&◌, ◌||◌, not, if◌then◌else◌, List, [], ◌∷◌, ◌++◌, length, Option, Some, None, refl}
+use Rattle.std.proofs.Common.{sym, subst}
+use Rattle.dm_type.specs.CTypes.{CType, void, integer, pointer, array, struct, function as function_type, const, all_of, with_const}
 use Rattle.dm_scope.specs.Scopes.{Scopes, is_declared}
 use Rattle.dm_syn.specs.Sources.{spelling_at}
 use Rattle.dm_tree.specs.Scenes.{is_function}
-use Rattle.dm_eexpr.specs.Known.{Known, Setting, Outcome, given, broken, after, with_it, declaring}
-use Rattle.dm_eexpr.specs.Specifiers.{Said, nothing_said, with_word, with_type, sets, Row, type_among, are_words, one_type, type_said, Where, are_allowed, with_said_const}
-use Rattle.dm_eexpr.specs.Typing.{number_if_struct, TypedParameter, Step, pointing, arraying, calling, kinds_of, length_fits, is_result, stepped, derived, pointers, adjusted, is_no_parameters, without_void, parameter_entry, parameter_declared, typed_parameter, entered, left, typed_said, TypedName, name_ended}
-use Rattle.dm_eexpr.specs.Sound.{IsProper, AreProper, IsType, IsSoundKnown, KnowsMore, AreConstants, GivesMore}
+use Rattle.dm_eexpr.specs.Known.{Known, Setting, Outcome, given, broken, after, declaring}
+use Rattle.dm_eexpr.specs.Conversions.{is_complete}
+use Rattle.dm_eexpr.specs.Specifiers.{Said, with_word, with_type, sets, Row, type_among, are_words, one_type, type_said, Where, are_allowed, with_said_const}
+use Rattle.dm_eexpr.specs.Typing.{number_if_struct, TypedParameter, Step, pointing, arraying, calling, kinds_of, length_fits, is_result, stepped, derived, pointers, adjusted, is_no_parameters, without_void, parameter_entry, parameter_declared, typed_parameter, entered, left, typed_said, name_ended}
+use Rattle.dm_eexpr.specs.Sound.{AreProper, IsType, IsSoundKnown, KnowsMore, IsTypedName, GivesMore}
 use Rattle.dm_eexpr.proofs.MemberLemmas.{with-const-proper}
 use Rattle.dm_eexpr.proofs.GrowthLemmas.{constants-sound-stay}
-use Rattle.dm_eexpr.proofs.KnownLemmas.{type-stays, stays-so, from-more, after-more, with-more, obeys-more, if-more, knows-entry, sound-entry}
+use Rattle.dm_eexpr.proofs.KnownLemmas.{knows-through, type-stays, stays-so, from-more, after-more, obeys-more, if-more, knows-entry, sound-entry}
 
 -- ---- types
 
@@ -36,7 +37,7 @@ no-struct (struct number) at h = cc
 no-struct (function_type result parameters) at h = cc
 no-struct (const type) at h = cc
 
-said-const-type : (known : Known) (const : Bool) (type : CType) → IsType known type → IsType known (with_said_const const type)
+said-const-type : (known : Known) (qualified : Bool) (type : CType) → IsType known type → IsType known (with_said_const qualified type)
 said-const-type known true type h = (with-const-proper type h.0, λ at e. absurd (no-struct type at e))
 said-const-type known false type h = h
 
@@ -115,7 +116,7 @@ said-more known stands here said sound fits =
 -- ---- declarators
 
 abbrev pub IsStep : Known → Step → Type 0
-IsStep known (pointing at const) = Unit {0}
+IsStep known (pointing at qualified) = Unit {0}
 IsStep known (arraying at n) = Unit {0}
 IsStep known (calling at parameters) = AreTypes known (kinds_of parameters)
 
@@ -124,7 +125,7 @@ AreSteps known [] = Unit {0}
 AreSteps known (step ∷ steps) = IsStep known step × AreSteps known steps
 
 step-stays : (old new : Known) → KnowsMore old new → (step : Step) → IsStep old step → IsStep new step
-step-stays old new more (pointing at const) h = tt
+step-stays old new more (pointing at qualified) h = tt
 step-stays old new more (arraying at n) h = tt
 step-stays old new more (calling at parameters) h = types-stay old new more (kinds_of parameters) h
 
@@ -141,11 +142,12 @@ all-proper known [] h = tt
 all-proper known (type ∷ types) h = (h.0.0, all-proper known types h.1)
 
 stepped-more : (known : Known) (type : CType) (step : Step) → IsSoundKnown known → IsType known type → IsStep known step → GivesMore known IsType (stepped known type step)
-stepped-more known type (pointing at const) sound is fits =
+stepped-more known type (pointing at qualified) sound is fits =
     obeys-more known IsType (not (is_function type)) 5 at _
-    (λ object. stays-so known IsType (with_said_const const (pointer type)) sound (said-const-type known const (pointer type) (is.0, λ number e. absurd (cc))))
+    (λ object. stays-so known IsType (with_said_const qualified (pointer type)) sound (said-const-type known qualified (pointer type) (is.0, λ number e. absurd (cc))))
 stepped-more known type (arraying at n) sound is fits =
-    obeys-more known IsType _ 5 at _ (λ complete. stays-so known IsType (array type n) sound (is.0, λ number e. absurd (cc)))
+    obeys-more known IsType (is_complete known type && length_fits known type n) 5 at (given known (array type n))
+    (λ complete. stays-so known IsType (array type n) sound (is.0, λ number e. absurd (cc)))
 stepped-more known type (calling at parameters) sound is fits =
     obeys-more known IsType (is_result known type) 5 at _
     (λ result. stays-so known IsType (function_type type (all_of (kinds_of parameters))) sound ((is.0, all-proper known (kinds_of parameters) fits), λ number e. absurd (cc)))
@@ -165,7 +167,7 @@ pub declarator-gives : {A : Type 0} (known : Known) (base : CType) (P : Known �
 declarator-gives known base P (given then_known made) next is h step =
     from-more known then_known P (after (derived then_known base made) next) h.0 h.2
     (after-more then_known IsType P (derived then_known base made) next (derived-more then_known base made h.1 (type-stays known then_known h.0 base is) h.3)
-    (λ behind type more sound type-is. step behind type (knows-both known then_known behind h.0 more) sound type-is))
+    (λ behind type more sound type-is. step behind type (knows-through known then_known behind h.0 more) sound type-is))
 declarator-gives known base P (broken rule at) next is h step = tt
 
 -- and alone
@@ -199,14 +201,12 @@ parameter-gives setting known here type name sound is =
     go : not (is_function type) ≡ true → (name : Option ℕ) → GivesMore known IsParameterType (parameter_declared setting known (adjusted type) name)
     go object None = stays-so known IsParameterType (record { kind = adjusted type; declared = None }) sound (adjusted-type known type is)
     go object (Some at) =
-        obeys-more known IsParameterType (not (is_declared known.scopes (spelling_at setting.source at))) 2 at _
-        (λ new. (
-          knows-entry known sound (spelling_at setting.source at) (parameter_entry setting at (adjusted type)),
-          sound-entry known sound (spelling_at setting.source at) (parameter_entry setting at (adjusted type))
-              (adjusted-object type object, (λ linked. absurd (cc))) (adjusted-type known type is),
-          refl,
-          adjusted-type known type is,
-        ))
+        let name = spelling_at setting.source at in
+        let entry = parameter_entry setting at (adjusted type) in
+        let fits = adjusted-type known type is in
+        let fine : GivesMore known IsParameterType (given (declaring known name entry) (record { kind = adjusted type; declared = Some (length known.declared) })) =
+        (knows-entry known sound name entry, sound-entry known sound name entry (adjusted-object type object, (λ linked. absurd (cc))) fits, refl, fits) in
+        obeys-more known IsParameterType (not (is_declared known.scopes name)) 2 at _ (λ new. fine)
 
 pub without-void-fits : (known : Known) (all : List TypedParameter) → AreParameterTypes known all → AreParameterTypes known (without_void all)
 without-void-fits known all h = go (is_no_parameters all)
@@ -233,10 +233,6 @@ left-more known P scopes (given behind it) keeps h = (
 left-more known P scopes (broken rule at) keeps h = tt
 
 -- ---- type names
-
--- the type of a type name is proper, and its lengths and enumerator values are constants
-abbrev pub IsTypedName : Known → TypedName → Type 0
-IsTypedName known named = IsProper named.kind × AreConstants known named.constants
 
 pub name-gives : (known : Known) (outcome : Outcome CType) → IsSoundKnown known → GivesMore (record known { constants = [] }) IsType outcome
     → GivesMore known IsTypedName (name_ended known.constants outcome)

@@ -1,9 +1,8 @@
 -- All parts of an expression are expressions.
-use Rattle.std.specs.Prelude.{◌≡◌, Bool, true, false, ◌&&◌, not, MatchBool, IsTrue, List, [], ◌∷◌, All, refl}
-use Rattle.std.proofs.Common.{sym, ap, subst}
+use Rattle.std.specs.Prelude.{◌≡◌, Bool, true, false, not, MatchBool, IsTrue, List, [], ◌∷◌, All, refl}
+use Rattle.std.proofs.Common.{sym, subst}
 use Rattle.std.proofs.lemmas.List.Elements.{All-head, All-tail}
 use Rattle.dm_type.specs.CTypes.{CType, CTypes, void, function as function_type, no_types, more_types}
-use Rattle.dm_tree.specs.declared.tree.Sign.{Sign}
 use Rattle.dm_tree.specs.declared.tree.Sign.TheVariants as s
 use Rattle.dm_tree.specs.Operands.{FitParameters, FitsCall}
 use Rattle.dm_tree.specs.Scenes.{Scene, designates, is_lvalue, are_lvalues, IsLvalue, IsValue, IsConstant}

@@ -1,5 +1,5 @@
 -- What is well typed stays so as more becomes known.
-use Rattle.std.specs.Prelude.{◌≡◌, ℕ, zero, suc, ◌<◌, ◌*◌, ℤ, pos, Bool, true, false, not, if◌then◌else◌, IsTrue, List, [], ◌∷◌, length, All, Option, Some, None, is_some, IsSome, IfSome, option_and_then, option_map, slice_get, refl}
+use Rattle.std.specs.Prelude.{◌≡◌, ℕ, zero, suc, ◌<◌, ℤ, pos, Bool, true, false, not, if◌then◌else◌, List, [], ◌∷◌, length, All, Option, Some, None, is_some, IsSome, IfSome, option_and_then, option_map, slice_get, refl}
 use Rattle.std.proofs.Common.{sym, ap, ◌∙◌, subst, arith}
 use Rattle.std.proofs.lemmas.List.Elements.{All-head, All-tail, All-weaker}
 use Rattle.dm_int.specs.declared.Kind.{Kind}
@@ -13,15 +13,14 @@ use Rattle.dm_type.specs.CTypes.{CType, void, integer, pointer, array, struct, f
 use Rattle.dm_type.specs.Layouts.{layout_of, size_of, times, if_fits, repeated}
 use Rattle.dm_type.specs.Tables.{Table, at, type_of, content_of, members_of}
 use Rattle.dm_type.specs.TableLaws.{length-types_of}
-use Rattle.dm_tree.specs.declared.tree.Sign.{Sign}
 use Rattle.dm_tree.specs.declared.tree.Sign.TheVariants as s
 use Rattle.dm_tree.specs.Constants.{is_constant_form, constant_value, constant, value_if_enumerator, converted_to, signed_value, operated_value, truth_of}
 use Rattle.dm_tree.specs.Evaluation.{is_true}
-use Rattle.dm_tree.specs.Operands.{Becomes, BecomesPointer, FitsBinary, FitsPointers, UpdateFits, IsCountable, FitsMember}
+use Rattle.dm_tree.specs.Operands.{Becomes, BecomesPointer, FitsBinary, FitsPointers, UpdateFits, FitsMember}
 use Rattle.dm_tree.specs.Scenes.{HasConst, itself, of_element, of_member, member_type, part_type, target, IsComplete, IsModifiable, IsConstant}
 use Rattle.dm_tree.specs.Trees.{Label, Tree, Trees, node, no_trees, more_trees, label_of, kind_of, listed, trees, is_statement}
 use Rattle.dm_tree.specs.Trees as label
-use Rattle.dm_tree.specs.Typing.{FitsStatement, FitsExpression, Fits, IsWellTyped, AreWellTyped}
+use Rattle.dm_tree.specs.Typing.{FitsExpression, IsWellTyped, AreWellTyped}
 use Rattle.dm_tree.specs.Units.{Declaration}
 use Rattle.dm_eexpr.specs.Known.{Known}
 use Rattle.dm_eexpr.specs.Sound.{AreComplete, KnowsMore, scene_of, IsSound, IsSoundValue, AreSound, AreConstants}
@@ -84,7 +83,6 @@ element-complete table (Some count) type h = go (layout_of table type) refl h
 element-complete table None type h = absurd (cc)
 
 module _ (old new : Known) (more : KnowsMore old new) (complete : AreComplete old.types) where
-
   -- ---- types
 
   pub layout-stays : (type : CType) → Stays (layout_of old.types type) (layout_of new.types type)
@@ -286,12 +284,11 @@ module _ (old new : Known) (more : KnowsMore old new) (complete : AreComplete ol
   mutual
     pub typed-stays : (tree : Tree) → not (is_statement (label_of tree)) ≡ true → IsWellTyped (scene_of old) tree → IsWellTyped (scene_of new) tree
     typed-stays (node form kind spans parts) is h =
-        let fits = fits-expression (scene_of old) form kind (listed parts) is h.0 in
-        (
+        let fits = fits-expression (scene_of old) form kind (listed parts) is h.0 in (
           expression-fits (scene_of new) form kind (listed parts) is (fits-stays form kind (listed parts) fits),
           subst (λ scene. AreWellTyped scene parts) (sym (inside-expression new form (listed parts) is))
-          (all-typed-stay parts (expressions-in (scene_of old) form kind (listed parts) fits)
-          (subst (λ scene. AreWellTyped scene parts) (inside-expression old form (listed parts) is) h.1)),
+              (all-typed-stay parts (expressions-in (scene_of old) form kind (listed parts) fits)
+              (subst (λ scene. AreWellTyped scene parts) (inside-expression old form (listed parts) is) h.1)),
         )
 
     all-typed-stay : (parts : Trees) → AreExpressions (listed parts) → AreWellTyped (scene_of old) parts → AreWellTyped (scene_of new) parts

@@ -1,11 +1,12 @@
 -- What is known grows, and stays sound: one part after the other, declarations, and constants.
-use Rattle.std.specs.Prelude.{◌≡◌, ℕ, zero, suc, ◌<◌, ◌≤◌, ◌⊎◌, ℤ, ◌≤ℤ◌, Bool, true, false, ◌&&◌, not, IsTrue, List, [], ◌∷◌, ◌++◌, length, All, Option, Some, None, is_some, option_and_then, slice_get, int_le, refl}
+use Rattle.std.specs.Prelude.{◌≡◌, ℕ, zero, suc, ◌⊎◌, ℤ, ◌≤ℤ◌, Bool, true, false, not, if◌then◌else◌, List, [], ◌∷◌, ◌++◌, Option, Some, None, is_some, option_and_then, slice_get, int_le, refl}
 use Rattle.std.proofs.Common.{sym, ap, ◌∙◌, subst, arith, inl, inr, ⊎_elim}
-use Rattle.std.proofs.lemmas.List.Elements.{All-nil, All-push}
+use Rattle.std.proofs.lemmas.List.Elements.{All-push}
 use Rattle.dm_int.specs.declared.Kind.TheVariants as k
-use Rattle.dm_int.specs.Kinds.{least, greatest, is_in_range, InRange}
-use Rattle.dm_type.specs.CTypes.{CType, integer}
-use Rattle.dm_scope.specs.Scopes.{Scopes, number_of, is_declared}
+use Rattle.dm_int.specs.Kinds.{least, greatest, InRange}
+use Rattle.dm_type.specs.CTypes.{CType}
+use Rattle.dm_scope.specs.Scopes.{number_of, is_declared}
+use Rattle.dm_syn.specs.Sources.{spelling_at}
 use Rattle.dm_tree.specs.Scenes.{IsConstant}
 use Rattle.dm_tree.specs.Trees.{Tree, trees}
 use Rattle.dm_tree.specs.Typing.{IsEntry, IsWellTyped, AreWellTyped}
@@ -13,7 +14,7 @@ use Rattle.dm_tree.specs.Units.{Declaration}
 use Rattle.dm_eexpr.specs.Known.{Known, Setting, Outcome, given, broken, after, with_it, obeys, if_given, meaning_of, declaring}
 use Rattle.dm_eexpr.specs.Conversions.{constant_of}
 use Rattle.dm_eexpr.specs.Typing.{is_int, enumerator_entry, enumerator_declared, enumerator_implied, enumerator_valued, with_constant, natural, length_of}
-use Rattle.dm_eexpr.specs.Sound.{IsType, IsSoundKnown, KnowsMore, scene_of, IsSoundValue, AreConstants, Gives, GivesMore}
+use Rattle.dm_eexpr.specs.Sound.{IsType, IsSoundKnown, KnowsMore, scene_of, IsSoundValue, Gives, GivesMore}
 use Rattle.dm_eexpr.proofs.TypeLemmas.{both-hold}
 use Rattle.dm_eexpr.proofs.GrowthLemmas.{constants-sound-stay}
 
@@ -109,7 +110,7 @@ module _ (known : Known) (sound : IsSoundKnown known) (name : List ℕ) (entry :
   pub sound-entry : IsEntry entry → IsType known entry.kind → IsSoundKnown (declaring known name entry)
   sound-entry is type = record {
     entries = λ at one h.
-    ⊎_elim (λ old. sound.entries at one old) (λ new. subst (λ (it : Declaration). IsEntry it × IsType known it.kind) new (is, type)) (pushed-get known.declared entry at one h);
+        ⊎_elim (λ old. sound.entries at one old) (λ new. subst (λ (it : Declaration). IsEntry it × IsType known it.kind) new (is, type)) (pushed-get known.declared entry at one h);
     complete = sound.complete;
     layered = sound.layered;
     begun = sound.begun;
@@ -196,12 +197,12 @@ in-range value h =
 module _ (setting : Setting) where
   declared-more : (known : Known) (at : ℕ) (value : ℤ) → IsSoundKnown known → is_int value ≡ true → GivesMore known Any (enumerator_declared setting known at value)
   declared-more known at value sound fits =
-      obeys-more known Any _ 2 at _ (λ new. obeys-more known Any _ 36 at _ (λ plain. (
-        knows-entry known sound _ (enumerator_entry setting at value),
-        sound-entry known sound _ (enumerator_entry setting at value) (refl, in-range value fits, refl) (tt, λ number e. absurd (cc)),
-        refl,
-        tt,
-      )))
+      let name = spelling_at setting.source at in
+      let entry = enumerator_entry setting at value in
+      let behind = declaring known name entry in
+      let fine : GivesMore known Any (given behind value) =
+      (knows-entry known sound name entry, sound-entry known sound name entry (refl, in-range value fits, refl) (tt, λ number e. absurd (cc)), refl, tt) in
+      obeys-more known Any (not (is_declared known.scopes name)) 2 at _ (λ new. obeys-more known Any _ 36 at (given behind value) (λ plain. fine))
 
   pub implied-more : (known : Known) (at : ℕ) (value : ℤ) → IsSoundKnown known → GivesMore known Any (enumerator_implied setting known at value)
   implied-more known at value sound = obeys-more known Any (is_int value) 7 at _ (λ fits. declared-more known at value sound fits)

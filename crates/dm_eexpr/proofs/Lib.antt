@@ -1,6 +1,7 @@
 pub mod CallLemmas
 pub mod ChoiceLemmas
 pub mod ConversionLemmas
+pub mod DerivedLemmas
 pub mod ExpressionLemmas
 pub mod GrowthLemmas
 pub mod KindLemmas
@@ -12,5 +13,7 @@ pub mod ParenthesisLemmas
 pub mod RuleLemmas
 pub mod StructLemmas
 pub mod TableLemmas
+pub mod TagLemmas
 pub mod TypeLemmas
+pub mod WholeLemmas
 pub mod WriteLemmas

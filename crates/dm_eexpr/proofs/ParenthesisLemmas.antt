@@ -1,5 +1,5 @@
 -- A well-typed expression with parentheses round it is well typed: only where its nodes stand has changed.
-use Rattle.std.specs.Prelude.{◌≡◌, ℕ, ℤ, pos, Bool, true, false, not, ◌&&◌, if◌then◌else◌, IsTrue, List, [], ◌∷◌, All, Option, Some, None, is_some, IsSome, IfSome, refl}
+use Rattle.std.specs.Prelude.{◌≡◌, Bool, true, false, not, ◌&&◌, if◌then◌else◌, IsTrue, List, ◌∷◌, All, Option, Some, None, is_some, IsSome, refl}
 use Rattle.std.proofs.Common.{sym, ap, ap₂, ◌∙◌, subst, subst₂}
 use Rattle.std.proofs.lemmas.List.Elements.{All-head, All-tail, All-cons}
 use Rattle.dm_token.specs.declared.place.Span.{Span}
@@ -9,7 +9,7 @@ use Rattle.dm_type.specs.Tables.{Table}
 use Rattle.dm_tree.specs.declared.tree.Sign.TheVariants as s
 use Rattle.dm_tree.specs.Constants.{integer_kind, is_constant_form, constant_forms, has_constant_form, constant_value, constant_values, value_at, kinds_in}
 use Rattle.dm_tree.specs.Initialisers.{FitsDecay}
-use Rattle.dm_tree.specs.Operands.{Becomes, BecomesPointer, IsPromoted, FitsBinary, UpdateFits, FitParameters, FitsCall, FitsMember}
+use Rattle.dm_tree.specs.Operands.{Becomes, BecomesPointer, FitsBinary, UpdateFits, FitParameters, FitsCall, FitsMember}
 use Rattle.dm_tree.specs.Scenes.{Scene, designates, is_lvalue, are_lvalues, IsLvalue, IsValue, target, is_scalar, is_array, HasConst, IsComplete, IsModifiable, constant_of, IsConstant}
 use Rattle.dm_tree.specs.Trees.{Label, Spans, Tree, Trees, node, no_trees, more_trees, label_of, kind_of, listed, is_statement}
 use Rattle.dm_tree.specs.Trees as label
@@ -170,20 +170,18 @@ module _ (scene : Scene) (inner outer : Span) where
   fits-widened label.address kind (more_trees a no_trees) h = (lvalue-part a h.0, of-part a (λ it. kind ≡ pointer it) h.1)
   fits-widened label.follow kind (more_trees a no_trees) h = (value-part a h.0, of-part a (λ it. it ≡ pointer kind) h.1, h.2)
   fits-widened (label.member n) kind (more_trees a no_trees) h =
-      let alike = part-alike inner outer a in
-      (
+      let alike = part-alike inner outer a in (
         expression-alike scene a (shown a) alike h.0,
         subst₂ (λ lvalue it. FitsMember scene.types lvalue it n kind) (sym alike.lvalue) (sym alike.kind) h.1,
       )
   fits-widened (label.unary s.Not) kind (more_trees a no_trees) h = (condition-part a h.0, h.1)
   fits-widened (label.unary sign) kind (more_trees a no_trees) h = (value-part a h.0, of-part a (λ it. it ≡ kind) h.1, h.2, h.3)
-  fits-widened (label.binary op) kind (more_trees a (more_trees b no_trees)) h =
-      (
-        value-part a h.0,
-        value-part b h.1,
-        subst₂ (λ x y. FitsBinary scene op x y kind (integer_kind x) (integer_kind y) (target x) (target y))
-            (sym (part-alike inner outer a).kind) (sym (part-alike inner outer b).kind) h.2,
-      )
+  fits-widened (label.binary op) kind (more_trees a (more_trees b no_trees)) h = (
+    value-part a h.0,
+    value-part b h.1,
+    subst₂ (λ x y. FitsBinary scene op x y kind (integer_kind x) (integer_kind y) (target x) (target y))
+        (sym (part-alike inner outer a).kind) (sym (part-alike inner outer b).kind) h.2,
+  )
   fits-widened label.both kind (more_trees a (more_trees b no_trees)) h = (condition-part a h.0, condition-part b h.1, h.2)
   fits-widened label.either kind (more_trees a (more_trees b no_trees)) h = (condition-part a h.0, condition-part b h.1, h.2)
   fits-widened label.choose kind (more_trees a (more_trees b (more_trees c no_trees))) h =
@@ -191,13 +189,12 @@ module _ (scene : Scene) (inner outer : Span) where
   fits-widened label.comma kind (more_trees a (more_trees b no_trees)) h = (value-part a h.0, value-part b h.1, of-part b (λ it. kind ≡ it) h.2)
   fits-widened label.store kind (more_trees a (more_trees b no_trees)) h =
       (modifiable-part a h.0, value-part b h.1, of-part a (λ it. kind ≡ bare it) h.2, of-part b (λ it. it ≡ kind) h.3)
-  fits-widened (label.update op works) kind (more_trees a (more_trees b no_trees)) h =
-      (
-        modifiable-part a h.0,
-        value-part b h.1,
-        of-part a (λ it. kind ≡ bare it) h.2,
-        of-part b (λ it. UpdateFits scene op kind works (integer_kind kind) (integer_kind it)) h.3,
-      )
+  fits-widened (label.update op works) kind (more_trees a (more_trees b no_trees)) h = (
+    modifiable-part a h.0,
+    value-part b h.1,
+    of-part a (λ it. kind ≡ bare it) h.2,
+    of-part b (λ it. UpdateFits scene op kind works (integer_kind kind) (integer_kind it)) h.3,
+  )
   fits-widened (label.count plus before) kind (more_trees a no_trees) h = (modifiable-part a h.0, of-part a (λ it. kind ≡ bare it) h.1, h.2)
   fits-widened label.call kind (more_trees (node (label.function number) type spans no_trees) arguments) h =
       go (is_same_span inner spans.inner)
@@ -222,8 +219,7 @@ module _ (known : Known) (outer : Span) where
   below-typed inner form kind spans parts is parts-typed h here =
       let fits = fits-expression (scene_of known) form kind (listed parts) is h.0 in
       let all = parts-typed (expressions-in (scene_of known) form kind (listed parts) fits)
-      (subst (λ scene. AreWellTyped scene parts) (inside-expression known form (listed parts) is) h.1) in
-      (
+      (subst (λ scene. AreWellTyped scene parts) (inside-expression known form (listed parts) is) h.1) in (
         expression-fits (scene_of known) form kind (listed (widened_below inner outer parts)) is (fits-widened (scene_of known) inner outer form kind parts fits),
         subst (λ scene. AreWellTyped scene (widened_below inner outer parts)) (sym (inside-expression known form (listed (widened_below inner outer parts)) is)) all,
       )
@@ -245,8 +241,7 @@ module _ (known : Known) (outer : Span) where
   pub widened-sound : (tree : Tree) → IsSound known tree → IsSound known (widened outer tree)
   widened-sound (node form kind spans parts) h =
       let here = record spans { outer = outer } in
-      let alike = node-alike form kind spans here parts (widened_below spans.inner outer parts) (all-alike spans.inner outer parts) in
-      (
+      let alike = node-alike form kind spans here parts (widened_below spans.inner outer parts) (all-alike spans.inner outer parts) in (
         h.0,
         (λ no. h.1 (subst (λ lvalue. not lvalue ≡ true) alike.lvalue no)),
         h.2,

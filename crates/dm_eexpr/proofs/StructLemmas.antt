@@ -9,12 +9,11 @@ use Rattle.dm_type.specs.declared.shape.Struct.{Struct as StructEntry}
 use Rattle.dm_type.specs.CTypes.{CType, array, struct}
 use Rattle.dm_type.specs.Layouts.{layout_of, size_of, if_fits, padded, nothing, joined, followed_by, struct_layout, contained}
 use Rattle.dm_type.specs.Tables.{Table, type_of, tag_of, content_of, members_of, with_struct, with_content}
-use Rattle.dm_tree.specs.Scenes.{IsComplete}
 use Rattle.dm_eexpr.specs.Known.{Known}
 use Rattle.dm_eexpr.specs.Conversions.{element}
 use Rattle.dm_eexpr.specs.Typing.{is_among}
-use Rattle.dm_eexpr.specs.Sound.{AreLayeredWithin, AreLayered, AreComplete, how_many_complete, IsType, IsSoundKnown, KnowsMore, AreConstants}
-use Rattle.dm_eexpr.proofs.GrowthLemmas.{Stays, complete-stays, element-complete, some-of, constants-sound-stay}
+use Rattle.dm_eexpr.specs.Sound.{AreLayeredWithin, AreLayered, how_many_complete, IsSoundKnown, KnowsMore}
+use Rattle.dm_eexpr.proofs.GrowthLemmas.{complete-stays, element-complete, constants-sound-stay}
 
 -- ---- the content of a struct among structs
 
@@ -164,7 +163,7 @@ module _ (known : Known) (sound : IsSoundKnown known) (tag : Option (List ℕ)) 
   sound-new = record {
     entries = λ at entry h. let it = sound.entries at entry h in (it.0, (it.1.0, λ number e. let below = it.1.1 number e in omega (arith, longer, below)));
     complete = λ at members e n one s.
-    complete-stays known with-new knows-new sound.complete (type_of known.types one.kind) (sound.complete at members (members-new at members e) n one s);
+        complete-stays known with-new knows-new sound.complete (type_of known.types one.kind) (sound.complete at members (members-new at members e) n one s);
     layered = (
       sound.layered.0,
       (λ at members n one inner others e s is f. sound.layered.1 at members n one inner others (members-new at members e) s is (members-new inner others f)),
@@ -189,7 +188,7 @@ module _ (known : Known) (sound : IsSoundKnown known) (number : ℕ) (below : nu
     shapes = omega arith;
     types = λ id inside. refl;
     contents = λ at content h. set-other known.types.structs number entry at
-    (λ e. none-some content (sym absent ∙ (ap (content_of known.types) (sym e) ∙ h))) ∙ h;
+        (λ e. none-some content (sym absent ∙ (ap (content_of known.types) (sym e) ∙ h))) ∙ h;
     structs = let same = length-set known.types.structs number entry in omega (arith, same);
     declared = λ at one h. h;
   }
@@ -264,7 +263,7 @@ module _ (known : Known) (sound : IsSoundKnown known) (number : ℕ) (below : nu
       record {
         entries = λ at one h. let it = sound.entries at one h in (it.0, (it.1.0, λ n e. let low = it.1.1 n e in omega (arith, same, low)));
         complete = λ at members e n one s.
-        complete-stays known with-members knows-members sound.complete (type_of known.types one.kind) (were-complete at members e n one s);
+            complete-stays known with-members knows-members sound.complete (type_of known.types one.kind) (were-complete at members e n one s);
         layered = (layer, inner-below, (λ at members e. all-below at));
         begun = λ at h. let it = others at h in let low = it.1 in (omega (arith, same, low), set-other known.types.structs number entry at it.0 ∙ it.2);
         constants = constants-sound-stay known with-members knows-members sound.complete known.constants sound.constants;

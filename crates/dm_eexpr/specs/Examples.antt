@@ -13,7 +13,7 @@ use Rattle.dm_type.specs.Tables.{no_type}
 use Rattle.dm_syn.specs.Trees.{Expr}
 use Rattle.dm_syn.specs.Trees as tree
 use Rattle.dm_tree.specs.Trees.{Tree, kind_of}
-use Rattle.dm_eexpr.specs.Known.{Known, Setting, Outcome, given, broken}
+use Rattle.dm_eexpr.specs.Known.{Known, Outcome, given, broken}
 use Rattle.dm_eexpr.specs.Conversions.{constant_of}
 use Rattle.dm_eexpr.specs.Typing.{typed}
 

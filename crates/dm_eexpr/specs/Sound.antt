@@ -21,7 +21,7 @@ use Rattle.dm_tree.specs.Units.{Declaration}
 use Rattle.dm_tree.specs.Typing.{file_scene, IsEntry, IsWellTyped, AreWellTyped}
 use Rattle.dm_eexpr.specs.Known.{Known, Outcome, given, broken}
 use Rattle.dm_eexpr.specs.Conversions.{element}
-use Rattle.dm_eexpr.specs.Typing.{kind_numbered, number_if_struct, is_among}
+use Rattle.dm_eexpr.specs.Typing.{kind_numbered, number_if_struct, is_among, TypedName}
 
 -- ---- types
 
@@ -95,6 +95,10 @@ AreSound known (value ∷ values) = IsSoundValue known value × AreSound known v
 -- the trees of a type name's lengths and enumerator values
 abbrev pub AreConstants : Known → List Tree → Type 0
 AreConstants known trees = All (IsConstant (scene_of known)) trees × AreWellTyped (scene_of known) (trees_in trees)
+
+-- of a type name, the type is proper, and its lengths and enumerator values are constants
+abbrev pub IsTypedName : Known → TypedName → Type 0
+IsTypedName known named = IsProper named.kind × AreConstants known named.constants
 
 -- ---- knowledge
 

@@ -1,17 +1,22 @@
 //! What holds of the typing of expressions.
 
-ghost use Rattle.std.specs.Prelude.{ℕ, Bool, List, Option, ◌≡◌, Some};
+ghost use Rattle.std.specs.Prelude.{ℕ, Bool, List, [], Option, ◌≡◌, Some};
 ghost use Rattle.dm_token.specs.declared.place.Span.{Span};
 ghost use Rattle.dm_token.specs.declared.token.CToken.{CToken};
 ghost use Rattle.dm_type.specs.CTypes.{CType, bare};
+ghost use Rattle.dm_type.specs.Tables.{no_type};
+ghost use Rattle.dm_scope.specs.Scopes.{Scopes};
+ghost use Rattle.dm_syn.specs.declared.declared.Declared.{Declared};
 ghost use Rattle.dm_syn.specs.declared.symbol.Symbol.{Symbol};
-ghost use Rattle.dm_syn.specs.Trees.{Expr};
+ghost use Rattle.dm_syn.specs.Grammar.{IsExpr, IsTypeName, IsSpecifiers};
+ghost use Rattle.dm_syn.specs.Trees.{Expr, TypeName, Specifiers};
 ghost use Rattle.dm_tree.specs.Trees.{Tree};
 ghost use Rattle.dm_tree.specs.Units.{Declaration};
 ghost use Rattle.dm_eexpr.specs.Known.{Known, Setting, meaning_of};
 ghost use Rattle.dm_eexpr.specs.Conversions.{as_value};
-ghost use Rattle.dm_eexpr.specs.Typing.{named, constant_tree, literal_tree, typed_index, typed_member, typed_follow, typed_address, typed_count, typed_prefix, typed_arrow, typed_sign, typed_sizeof, typed_sizeof_name, typed_cast, typed_binary, typed_choice, typed_assignment, typed_call, comma_of};
-ghost use Rattle.dm_eexpr.specs.Sound.{IsProper, AreLayered, AreEntries, IsSoundToken, IsSound, IsSoundValue, AreSound, AreConstants, Gives};
+ghost use Rattle.dm_eexpr.specs.Specifiers.{Where};
+ghost use Rattle.dm_eexpr.specs.Typing.{typed, typed_name, typed_specifiers, named, constant_tree, literal_tree, typed_index, typed_member, typed_follow, typed_address, typed_count, typed_prefix, typed_arrow, typed_sign, typed_sizeof, typed_sizeof_name, typed_cast, typed_binary, typed_choice, typed_assignment, typed_call, comma_of};
+ghost use Rattle.dm_eexpr.specs.Sound.{IsProper, IsType, IsTypedName, IsSoundKnown, AreSoundTokens, GivesMore, AreLayered, AreEntries, IsSoundToken, IsSound, IsSoundValue, AreSound, AreConstants, Gives};
 
 /// On well-typed values the operators that use values alone give well-typed values, or break a rule, and nothing more
 /// becomes known.
@@ -59,6 +64,19 @@ pub fn assignments_give_well_typed_values()
         IsSound known operand → Gives known IsSoundValue (typed_count setting known span operator before operand) }
     ensures prefix { (setting : Setting) (known : Known) (span : Span) → AreLayered known.types → (operator : ℕ) (operand : Tree) (it : Symbol) →
         IsSound known operand → Gives known IsSound (typed_prefix setting known span operator operand it) }
+{}
+
+/// A whole expression is well typed: what the typing gives for an expression of the grammar is a well-typed tree where all is known
+/// that its type names have declared by its end, and that is sound again. So are type names, whose lengths and enumerator values
+/// are constants, and specifiers, wherever they stand.
+pub fn expressions_are_well_typed()
+    ensures expressions { (setting : Setting) → AreSoundTokens setting.source.tokens → (used : Bool) (known : Known) (names : List Declared) (expr : Expr) →
+        IsExpr setting.source names expr → IsSoundKnown known → GivesMore known IsSound (typed setting used known expr) }
+    ensures type_names { (setting : Setting) → AreSoundTokens setting.source.tokens → (used : Bool) (known : Known) (names : List Declared) (name : TypeName) →
+        IsTypeName setting.source names name → IsSoundKnown known → GivesMore known IsTypedName (typed_name setting used known name) }
+    ensures specifiers { (setting : Setting) → AreSoundTokens setting.source.tokens → (used : Bool) (known : Known) (names : List Declared) (stands : Where) (alone : Bool)
+        (specifiers : Specifiers) → IsSpecifiers setting.source names specifiers → IsSoundKnown known → GivesMore known IsType (typed_specifiers setting used stands alone known specifiers) }
+    ensures start { (scopes : Scopes) → IsSoundKnown (record { types = no_type; scopes = scopes; declared = []; begun = []; constants = [] }) }
 {}
 
 /// Names, constants and string literals are well typed where the declarations and tokens are such as C has.

@@ -1,0 +1,14 @@
+use Rattle.dm_eexpr.proofs.WholeLemmas.{sound-start, expr-more, name-more, specifiers-more}
+use Rattle.dm_eexpr.proofs.laws.expressions_are_well_typed.Goals as goal
+
+pub returns-clause-expressions : goal.returns-clause-expressions
+returns-clause-expressions c = expr-more
+
+pub returns-clause-type_names : goal.returns-clause-type_names
+returns-clause-type_names c = name-more
+
+pub returns-clause-specifiers : goal.returns-clause-specifiers
+returns-clause-specifiers c = specifiers-more
+
+pub returns-clause-start : goal.returns-clause-start
+returns-clause-start c = sound-start
