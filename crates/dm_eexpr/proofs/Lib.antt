@@ -10,10 +10,12 @@ pub mod MemberLemmas
 pub mod NameLemmas
 pub mod OperandLemmas
 pub mod ParenthesisLemmas
+pub mod PlaceLemmas
 pub mod RuleLemmas
 pub mod StructLemmas
 pub mod TableLemmas
 pub mod TagLemmas
 pub mod TypeLemmas
 pub mod WholeLemmas
+pub mod WholePlaceLemmas
 pub mod WriteLemmas

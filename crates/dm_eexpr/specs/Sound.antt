@@ -4,6 +4,7 @@
 --     Gives known IsGiven outcome      what is typed, if anything is, adds nothing to what is known, and is such
 --     GivesMore known IsGiven outcome      it may add to what is known, which stays sound
 --     KnowsMore old new      all that was known still is
+--     BreaksWithin first behind outcome      a rule that is broken is so at one of these tokens
 use Rattle.std.specs.Prelude.{◌≡◌, ℕ, true, ◌||◌, not, IsTrue, List, [], ◌∷◌, All, length, ◌<◌, ◌≤◌, Some, None, is_some, IsSome, slice_get, suc, if◌then◌else◌}
 use Rattle.dm_token.specs.declared.token.CToken.{CToken}
 use Rattle.dm_type.specs.declared.shape.Content.{Content}
@@ -144,3 +145,10 @@ Gives known IsGiven (broken rule at) = Unit {0}
 abbrev pub GivesMore : {A : Type 0} → Known → (Known → A → Type 0) → Outcome A → Type 0
 GivesMore known IsGiven (given behind it) = KnowsMore known behind × IsSoundKnown behind × (behind.begun ≡ known.begun) × IsGiven behind it
 GivesMore known IsGiven (broken rule at) = Unit {0}
+
+-- ---- where rules are broken
+
+-- where a rule is broken, that is at one of the tokens from the first on, before another
+abbrev pub BreaksWithin : {A : Type 0} → ℕ → ℕ → Outcome A → Type 0
+BreaksWithin first behind (given known it) = Unit {0}
+BreaksWithin first behind (broken rule at) = (first ≤ at) × (at < behind)

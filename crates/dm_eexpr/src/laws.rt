@@ -9,6 +9,7 @@ ghost use Rattle.dm_scope.specs.Scopes.{Scopes};
 ghost use Rattle.dm_syn.specs.declared.declared.Declared.{Declared};
 ghost use Rattle.dm_syn.specs.declared.symbol.Symbol.{Symbol};
 ghost use Rattle.dm_syn.specs.Grammar.{IsExpr, IsTypeName, IsSpecifiers};
+ghost use Rattle.dm_syn.specs.Spans.{expr_span, type_name_span, specifiers_span};
 ghost use Rattle.dm_syn.specs.Trees.{Expr, TypeName, Specifiers};
 ghost use Rattle.dm_tree.specs.Trees.{Tree};
 ghost use Rattle.dm_tree.specs.Units.{Declaration};
@@ -16,7 +17,7 @@ ghost use Rattle.dm_eexpr.specs.Known.{Known, Setting, meaning_of};
 ghost use Rattle.dm_eexpr.specs.Conversions.{as_value};
 ghost use Rattle.dm_eexpr.specs.Specifiers.{Where};
 ghost use Rattle.dm_eexpr.specs.Typing.{typed, typed_name, typed_specifiers, named, constant_tree, literal_tree, typed_index, typed_member, typed_follow, typed_address, typed_count, typed_prefix, typed_arrow, typed_sign, typed_sizeof, typed_sizeof_name, typed_cast, typed_binary, typed_choice, typed_assignment, typed_call, comma_of};
-ghost use Rattle.dm_eexpr.specs.Sound.{IsProper, IsType, IsTypedName, IsSoundKnown, AreSoundTokens, GivesMore, AreLayered, AreEntries, IsSoundToken, IsSound, IsSoundValue, AreSound, AreConstants, Gives};
+ghost use Rattle.dm_eexpr.specs.Sound.{IsProper, IsType, IsTypedName, IsSoundKnown, AreSoundTokens, GivesMore, BreaksWithin, AreLayered, AreEntries, IsSoundToken, IsSound, IsSoundValue, AreSound, AreConstants, Gives};
 
 /// On well-typed values the operators that use values alone give well-typed values, or break a rule, and nothing more
 /// becomes known.
@@ -77,6 +78,18 @@ pub fn expressions_are_well_typed()
     ensures specifiers { (setting : Setting) → AreSoundTokens setting.source.tokens → (used : Bool) (known : Known) (names : List Declared) (stands : Where) (alone : Bool)
         (specifiers : Specifiers) → IsSpecifiers setting.source names specifiers → IsSoundKnown known → GivesMore known IsType (typed_specifiers setting used stands alone known specifiers) }
     ensures start { (scopes : Scopes) → IsSoundKnown (record { types = no_type; scopes = scopes; declared = []; begun = []; constants = [] }) }
+{}
+
+/// A rule that an expression breaks is broken at one of its own tokens: what is refused is refused at a place inside it. So are the
+/// rules of type names and specifiers.
+pub fn broken_rules_are_inside()
+    ensures expressions { (setting : Setting) (used : Bool) (known : Known) (names : List Declared) (expr : Expr) → IsExpr setting.source names expr →
+        BreaksWithin (expr_span expr).first (expr_span expr).after (typed setting used known expr) }
+    ensures type_names { (setting : Setting) (used : Bool) (known : Known) (names : List Declared) (name : TypeName) → IsTypeName setting.source names name →
+        BreaksWithin (type_name_span name).first (type_name_span name).after (typed_name setting used known name) }
+    ensures specifiers { (setting : Setting) (used : Bool) (known : Known) (names : List Declared) (stands : Where) (alone : Bool) (specifiers : Specifiers) →
+        IsSpecifiers setting.source names specifiers →
+        BreaksWithin (specifiers_span specifiers).first (specifiers_span specifiers).after (typed_specifiers setting used stands alone known specifiers) }
 {}
 
 /// Names, constants and string literals are well typed where the declarations and tokens are such as C has.

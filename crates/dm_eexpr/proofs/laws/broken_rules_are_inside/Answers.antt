@@ -1,0 +1,18 @@
+use Rattle.dm_syn.specs.Spans.{expr_span, type_name_span, specifiers_span}
+use Rattle.dm_eexpr.specs.Typing.{typed, typed_name, typed_specifiers}
+use Rattle.dm_eexpr.proofs.PlaceLemmas.{Plain, within-places}
+use Rattle.dm_eexpr.proofs.WholePlaceLemmas.{expr-placed, name-placed, specifiers-placed}
+use Rattle.dm_eexpr.proofs.laws.broken_rules_are_inside.Goals as goal
+
+pub returns-clause-expressions : goal.returns-clause-expressions
+returns-clause-expressions c setting used known names expr is =
+    within-places (expr_span expr).first (expr_span expr).after Plain (typed setting used known expr) ((expr-placed setting names expr is).1 used known)
+
+pub returns-clause-type_names : goal.returns-clause-type_names
+returns-clause-type_names c setting used known names name is =
+    within-places (type_name_span name).first (type_name_span name).after Plain (typed_name setting used known name) ((name-placed setting names name is).1 used known)
+
+pub returns-clause-specifiers : goal.returns-clause-specifiers
+returns-clause-specifiers c setting used known names stands alone specifiers is =
+    within-places (specifiers_span specifiers).first (specifiers_span specifiers).after Plain (typed_specifiers setting used stands alone known specifiers)
+    ((specifiers-placed setting names stands alone specifiers is).1 used known)
