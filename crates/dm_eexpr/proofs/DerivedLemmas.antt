@@ -2,6 +2,7 @@
 use Rattle.std.specs.Prelude.{◌≡◌, ℕ, ◌==◌, Bool, true, false, ◌&&◌, ◌||◌, not, if◌then◌else◌, List, [], ◌∷◌, ◌++◌, length, Option, Some, None, refl}
 use Rattle.std.proofs.Common.{sym, subst}
 use Rattle.dm_type.specs.CTypes.{CType, void, integer, pointer, array, struct, function as function_type, const, all_of, with_const}
+use Rattle.dm_type.specs.TableLaws.{injected}
 use Rattle.dm_scope.specs.Scopes.{Scopes, is_declared}
 use Rattle.dm_syn.specs.Sources.{spelling_at}
 use Rattle.dm_tree.specs.Scenes.{is_function}
@@ -9,16 +10,13 @@ use Rattle.dm_eexpr.specs.Known.{Known, Setting, Outcome, given, broken, after, 
 use Rattle.dm_eexpr.specs.Conversions.{is_complete}
 use Rattle.dm_eexpr.specs.Specifiers.{Said, with_word, with_type, sets, Row, type_among, are_words, one_type, type_said, Where, are_allowed, with_said_const}
 use Rattle.dm_eexpr.specs.Typing.{number_if_struct, TypedParameter, Step, pointing, arraying, calling, kinds_of, length_fits, is_result, stepped, derived, pointers, adjusted, is_no_parameters, without_void, parameter_entry, parameter_declared, typed_parameter, entered, left, typed_said, name_ended}
-use Rattle.dm_eexpr.specs.Sound.{AreProper, IsType, IsSoundKnown, KnowsMore, IsTypedName, GivesMore}
+use Rattle.dm_eexpr.specs.Sound.{AreTypes, IsStep, AreSteps, AreProper, IsType, IsSoundKnown, KnowsMore, IsTypedName, GivesMore}
+use Rattle.dm_eexpr.proofs.TypeLemmas.{both-hold}
 use Rattle.dm_eexpr.proofs.MemberLemmas.{with-const-proper}
 use Rattle.dm_eexpr.proofs.GrowthLemmas.{constants-sound-stay}
 use Rattle.dm_eexpr.proofs.KnownLemmas.{knows-through, type-stays, stays-so, from-more, after-more, obeys-more, if-more, knows-entry, sound-entry}
 
 -- ---- types
-
-abbrev pub AreTypes : Known → List CType → Type 0
-AreTypes known [] = Unit {0}
-AreTypes known (type ∷ types) = IsType known type × AreTypes known types
 
 pub types-stay : (old new : Known) → KnowsMore old new → (types : List CType) → AreTypes old types → AreTypes new types
 types-stay old new more [] h = tt
@@ -80,23 +78,16 @@ plain-type known void h = (tt, λ at e. absurd (cc))
 plain-type known (integer kind) h = (tt, λ at e. absurd (cc))
 plain-type known type h = absurd (cc)
 
-same-type : (a b : CType) → Some a ≡ Some b → a ≡ b
-same-type a b h = cc
-
-both-plain : (one other : Bool) → (one && other) ≡ true → (one ≡ true) × (other ≡ true)
-both-plain true other h = (refl, h)
-both-plain false other h = absurd (cc)
-
 among-type : (known : Known) (words : List ℕ) (rows : List Row) → are_plain rows ≡ true → (type : CType) → type_among words rows ≡ Some type → IsType known type
 unfolding are_plain
 among-type known words [] plain type h = absurd (cc)
 among-type known words (first ∷ others) plain type h =
-    let parts = both-plain (is_plain first.type) (are_plain others) plain in
+    let parts = both-hold (is_plain first.type) (are_plain others) plain in
     go (λ h. among-type known words others parts.1 type h) parts.0 (are_words words first.words) h
   where
     go : (type_among words others ≡ Some type → IsType known type) → is_plain first.type ≡ true → (test : Bool)
         → (if test then Some first.type else type_among words others) ≡ Some type → IsType known type
-    go rest plain true h = subst (IsType known) (same-type first.type type h) (plain-type known first.type plain)
+    go rest plain true h = subst (IsType known) (injected first.type type h) (plain-type known first.type plain)
     go rest plain false h = rest h
 
 all-plain : are_plain sets ≡ true
@@ -105,7 +96,7 @@ all-plain = refl
 
 one-type : (known : Known) (words : List ℕ) (types : List CType) → AreTypes known types → (type : CType) → one_type words types ≡ Some type → IsType known type
 one-type known words [] fits type h = among-type known words sets all-plain type h
-one-type known [] (first ∷ []) fits type h = subst (IsType known) (same-type first type h) fits.0
+one-type known [] (first ∷ []) fits type h = subst (IsType known) (injected first type h) fits.0
 one-type known words types fits type h = absurd (cc)
 
 pub said-more : (known : Known) (stands : Where) (here : ℕ) (said : Said) → IsSoundKnown known → SaidFits known said → GivesMore known IsType (typed_said known stands here said)
@@ -114,15 +105,6 @@ said-more known stands here said sound fits =
     (λ allowed. stays-so known IsType (with_said_const said.const type) sound (said-const-type known said.const type (one-type known said.words said.types fits type e))))
 
 -- ---- declarators
-
-abbrev pub IsStep : Known → Step → Type 0
-IsStep known (pointing at qualified) = Unit {0}
-IsStep known (arraying at n) = Unit {0}
-IsStep known (calling at parameters) = AreTypes known (kinds_of parameters)
-
-abbrev pub AreSteps : Known → List Step → Type 0
-AreSteps known [] = Unit {0}
-AreSteps known (step ∷ steps) = IsStep known step × AreSteps known steps
 
 step-stays : (old new : Known) → KnowsMore old new → (step : Step) → IsStep old step → IsStep new step
 step-stays old new more (pointing at qualified) h = tt

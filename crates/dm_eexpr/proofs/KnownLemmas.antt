@@ -5,6 +5,7 @@ use Rattle.std.proofs.lemmas.List.Elements.{All-push}
 use Rattle.dm_int.specs.declared.Kind.TheVariants as k
 use Rattle.dm_int.specs.Kinds.{least, greatest, InRange}
 use Rattle.dm_type.specs.CTypes.{CType}
+use Rattle.dm_type.specs.TableLaws.{injected}
 use Rattle.dm_scope.specs.Scopes.{number_of, is_declared}
 use Rattle.dm_syn.specs.Sources.{spelling_at}
 use Rattle.dm_tree.specs.Scenes.{IsConstant}
@@ -87,11 +88,8 @@ get-pushed [] y at x h = absurd (cc)
 get-pushed (first ∷ xs) y zero x h = h
 get-pushed (first ∷ xs) y (suc at) x h = get-pushed xs y at x h
 
-same-some : {A : Type 0} (a b : A) → Some a ≡ Some b → a ≡ b
-same-some a b h = cc
-
 pushed-get : {A : Type 0} (xs : List A) (y : A) (at : ℕ) (x : A) → slice_get (xs ++ y ∷ []) at ≡ Some x → (slice_get xs at ≡ Some x) ⊎ (y ≡ x)
-pushed-get [] y zero x h = inr (same-some y x h)
+pushed-get [] y zero x h = inr (injected y x h)
 pushed-get [] y (suc at) x h = absurd (cc)
 pushed-get (first ∷ xs) y zero x h = inl h
 pushed-get (first ∷ xs) y (suc at) x h = pushed-get xs y at x h

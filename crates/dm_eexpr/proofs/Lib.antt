@@ -2,6 +2,7 @@ pub mod CallLemmas
 pub mod ChoiceLemmas
 pub mod ConversionLemmas
 pub mod DerivedLemmas
+pub mod ExampleLemmas
 pub mod ExpressionLemmas
 pub mod GrowthLemmas
 pub mod KindLemmas

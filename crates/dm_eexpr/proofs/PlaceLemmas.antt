@@ -1,6 +1,6 @@
 -- Where a rule is broken: each form breaks its rules at a token of its own.
 use Rattle.std.specs.Prelude.{◌≡◌, ℕ, ◌<◌, ◌≤◌, ℤ, Bool, true, false, ◌&&◌, not, List, [], ◌∷◌, ◌++◌, length, Option, Some, None, is_some, option_and_then, unwrap_or, codes, bytes_eq, refl}
-use Rattle.std.proofs.Common.{arith}
+use Rattle.std.proofs.Common.{subst, arith}
 use Rattle.dm_token.specs.declared.place.Span.{Span}
 use Rattle.dm_int.specs.declared.Kind.TheVariants as k
 use Rattle.dm_int.specs.declared.Op.{Op}
@@ -22,7 +22,7 @@ use Rattle.dm_eexpr.specs.Conversions.{made, as_value, as_type, is_complete, com
 use Rattle.dm_eexpr.specs.Rules.{named_by_sort, Pair, indexed, member_by_name, is_modifiable, may_be_counted, signed, may_be_cast, operated, rule_of, arms, is_assignable, called, updated}
 use Rattle.dm_eexpr.specs.Specifiers.{Said, type_said, Where, are_allowed, with_said_const}
 use Rattle.dm_eexpr.specs.Typing.{may_be_used, named, index_tree, typed_index, typed_member, typed_arrow, is_plus_plus, typed_count, typed_sign, typed_prefix, typed_sizeof, typed_sizeof_name, typed_cast, typed_operation, typed_logic, typed_binary, typed_choice, typed_update, typed_assignment, is_name, is_function_label, typed_call, comma_of, number_if_struct, struct_named, enum_named, TypedMember, is_named, name_of, typed_field, fields, struct_ended, is_int, is_file_scope, enumerator_entry, enumerator_declared, enumerator_implied, enumerator_valued, with_constant, Step, pointing, arraying, calling, kinds_of, length_fits, is_result, stepped, derived, natural, length_of, adjusted, parameter_entry, parameter_declared, typed_parameter, left, typed_said, name_ended}
-use Rattle.dm_eexpr.specs.Sound.{BreaksWithin}
+use Rattle.dm_eexpr.specs.Sound.{BreaksWithin, step_at, StepsWithin}
 
 -- a rule is broken within these tokens, or what is given is such
 abbrev pub Places : {A : Type 0} → ℕ → ℕ → (A → Type 0) → Outcome A → Type 0
@@ -36,6 +36,14 @@ Plain it = Unit {0}
 pub within-places : {A : Type 0} (first behind : ℕ) (P : A → Type 0) (outcome : Outcome A) → Places first behind P outcome → BreaksWithin first behind outcome
 within-places first behind P (given known it) h = tt
 within-places first behind P (broken rule at) h = h
+
+same-given : {A : Type 0} (known behind : Known) (it made : A) → given known it ≡ given behind made → it ≡ made
+same-given known behind it made h = cc
+
+pub given-places : {A : Type 0} (first behind : ℕ) (P : A → Type 0) (outcome : Outcome A) → Places first behind P outcome
+    → (last : Known) (made : A) → outcome ≡ given last made → P made
+given-places first behind P (given known it) h last made e = subst P (same-given known last it made e) h
+given-places first behind P (broken rule at) h last made e = absurd (cc)
 
 -- ---- one part after the other
 
@@ -231,17 +239,6 @@ length-places known first behind here tree low high =
     if-places first behind Plain (option_and_then natural (constant_of known tree)) 5 here (λ n. given (with_constant known tree) n) low high (λ n. tt)
 
 -- ---- declarators
-
--- the token at which a step begins
-abbrev pub step_at : Step → ℕ
-step_at (pointing at qualified) = at
-step_at (arraying at n) = at
-step_at (calling at parameters) = at
-
--- all steps begin within these tokens
-abbrev pub StepsWithin : ℕ → ℕ → List Step → Type 0
-StepsWithin first behind [] = Unit {0}
-StepsWithin first behind (step ∷ steps) = (first ≤ step_at step) × (step_at step < behind) × StepsWithin first behind steps
 
 pub steps-wider : (first behind less more : ℕ) → less ≤ first → behind ≤ more → (steps : List Step) → StepsWithin first behind steps → StepsWithin less more steps
 steps-wider first behind less more low high [] h = tt

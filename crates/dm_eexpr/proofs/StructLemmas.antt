@@ -2,6 +2,7 @@
 use Rattle.std.specs.Prelude.{◌≡◌, ℕ, zero, suc, ◌+◌, ◌<◌, ◌≤◌, ◌⊎◌, Bool, true, false, if◌then◌else◌, List, [], ◌∷◌, ◌++◌, length, Option, Some, None, is_some, IsSome, option_and_then, option_map, slice_get, slice_set, refl}
 use Rattle.std.proofs.Common.{sym, ap, ◌∙◌, subst, arith, inl, inr, ⊎_elim, length-append}
 use Rattle.std.proofs.lemmas.List.{length-set}
+use Rattle.std.proofs.lemmas.Option.{none-some}
 use Rattle.dm_type.specs.declared.layout.Layout.{Layout}
 use Rattle.dm_type.specs.declared.shape.Content.{Content}
 use Rattle.dm_type.specs.declared.shape.Member.{Member}
@@ -9,6 +10,7 @@ use Rattle.dm_type.specs.declared.shape.Struct.{Struct as StructEntry}
 use Rattle.dm_type.specs.CTypes.{CType, array, struct}
 use Rattle.dm_type.specs.Layouts.{layout_of, size_of, if_fits, padded, nothing, joined, followed_by, struct_layout, contained}
 use Rattle.dm_type.specs.Tables.{Table, type_of, tag_of, content_of, members_of, with_struct, with_content}
+use Rattle.dm_type.specs.TableLaws.{injected}
 use Rattle.dm_eexpr.specs.Known.{Known}
 use Rattle.dm_eexpr.specs.Conversions.{element}
 use Rattle.dm_eexpr.specs.Typing.{is_among}
@@ -19,9 +21,6 @@ use Rattle.dm_eexpr.proofs.GrowthLemmas.{complete-stays, element-complete, const
 
 abbrev content_in : List StructEntry → ℕ → Option Content
 content_in structs number = option_and_then (λ (entry : StructEntry). entry.content) (slice_get structs number)
-
-none-some : {A : Type 0} (it : A) → ◌≡◌ {A = Option A} None (Some it) → ⊥
-none-some it h = cc
 
 pushed : (structs : List StructEntry) (tag : Option (List ℕ)) (number : ℕ)
     → content_in (structs ++ record { tag = tag; content = None } ∷ []) number ≡ content_in structs number
@@ -87,12 +86,9 @@ content-of-members : (table : Table) (at : ℕ) (members : List Member) → memb
     → (content : Content) × (content_of table at ≡ Some content) × (content.members ≡ members)
 content-of-members table at members e = go (content_of table at) refl e
   where
-    same : (a b : List Member) → Some a ≡ Some b → a ≡ b
-    same a b h = cc
-
     go : (found : Option Content) → content_of table at ≡ found → option_map (λ (content : Content). content.members) found ≡ Some members
         → (content : Content) × (content_of table at ≡ Some content) × (content.members ≡ members)
-    go (Some content) f h = (content, f, same content.members members h)
+    go (Some content) f h = (content, f, injected content.members members h)
     go None f h = absurd (none-some members h)
 
 -- the elements of what is complete are complete
@@ -121,15 +117,12 @@ joined-complete table before [] h n one s = absurd (none-some one s)
 joined-complete table before (member ∷ members) h n one s =
     go (λ layout h n s. joined-complete table (followed_by before layout) members h n one s) (layout_of table (type_of table member.kind)) refl h n s
   where
-    same : (a b : Member) → Some a ≡ Some b → a ≡ b
-    same a b e = cc
-
     go : ((layout : Layout) → is_some (joined table (followed_by before layout) members) ≡ true → (n : ℕ) → slice_get members n ≡ Some one → IsSome (size_of table (type_of table one.kind)))
         → (found : Option Layout) → layout_of table (type_of table member.kind) ≡ found
         → is_some (option_and_then (λ layout. joined table (followed_by before layout) members) found) ≡ true
         → (n : ℕ) → slice_get (member ∷ members) n ≡ Some one → IsSome (size_of table (type_of table one.kind))
     go rest (Some layout) e h zero s =
-        subst (λ (it : Member). IsSome (size_of table (type_of table it.kind))) (same member one s)
+        subst (λ (it : Member). IsSome (size_of table (type_of table it.kind))) (injected member one s)
         (ap (λ found. is_some (option_map (λ (layout : Layout). layout.size) found)) e)
     go rest (Some layout) e h (suc n) s = rest layout h n s
     go rest None e h n s = absurd (cc)

@@ -8,6 +8,7 @@ use Rattle.dm_type.specs.declared.shape.Struct.{Struct as StructEntry}
 use Rattle.dm_type.specs.CTypes.{CType, integer, struct}
 use Rattle.dm_type.specs.Layouts.{struct_layout, contained}
 use Rattle.dm_type.specs.Tables.{content_of, members_of, with_content}
+use Rattle.dm_type.specs.TableLaws.{injected}
 use Rattle.dm_scope.specs.Scopes.{is_declared}
 use Rattle.dm_syn.specs.Sources.{spelling_at}
 use Rattle.dm_tree.specs.Scenes.{is_integer}
@@ -62,9 +63,6 @@ module _ (setting : Setting) (known : Known) (sound : IsSoundKnown known) where
   enum-gives span None = tt
   enum-gives span (Some entry) = obeys-more known IsType (is_integer entry.kind) 4 span.first _ (λ whole. stays-so known IsType (integer k.Int) sound int-type)
 
-same-number : (a b : ℕ) → Some a ≡ Some b → a ≡ b
-same-number a b h = cc
-
 -- ---- a new struct
 
 module _ (setting : Setting) (known : Known) (sound : IsSoundKnown known) (tag : Option ℕ) where
@@ -78,7 +76,7 @@ module _ (setting : Setting) (known : Known) (sound : IsSoundKnown known) (tag :
   is-last = let longer = length-append known.types.structs (record { tag = spelled setting tag; content = None } ∷ []) in omega (arith, longer)
 
   new-type : IsType added (struct number)
-  new-type = (tt, λ at e. subst (λ n. n < length added.types.structs) (same-number number at e) is-last)
+  new-type = (tt, λ at e. subst (λ n. n < length added.types.structs) (injected number at e) is-last)
 
   declared-new : Grown added (new_struct setting known tag)
   declared-new = tag-grown setting added (sound-new known sound (spelled setting tag)) tag (struct number) tt new-type
@@ -114,7 +112,7 @@ struct-gives setting known sound span tag None is =
       new.more,
       new.sound,
       new.begun,
-      (tt, λ at e. subst (λ n. n < length (new_struct setting known tag).types.structs) (same-number (length known.types.structs) at e) last),
+      (tt, λ at e. subst (λ n. n < length (new_struct setting known tag).types.structs) (injected (length known.types.structs) at e) last),
     )
 struct-gives setting known sound span tag (Some entry) is =
     obeys-more known IsType (is_some (number_if_struct entry.kind)) 4 span.first _
@@ -132,7 +130,7 @@ pub record Starts (known behind : Known) (number : Option ℕ) : Type 0 where
 neither : (one other : Bool) (number at : ℕ) → (if one || other then None else Some number) ≡ Some at → (one ≡ false) × (other ≡ false) × (number ≡ at)
 neither true other number at h = absurd (cc)
 neither false true number at h = absurd (cc)
-neither false false number at h = (refl, refl, same-number number at h)
+neither false false number at h = (refl, refl, injected number at h)
 
 no-content : (found : Option Content) → is_some (option_map (λ (content : Content). content.members) found) ≡ false → found ≡ None
 no-content (Some content) h = absurd (cc)
@@ -158,9 +156,9 @@ module _ (setting : Setting) (known : Known) (sound : IsSoundKnown known) (tag :
       let last = new-last setting known sound tag in
       let nothing = new-empty setting known sound tag in record {
         grown = new;
-        below = λ at e. subst (λ n. n < length (new_struct setting known tag).types.structs) (same-number (length known.types.structs) at e) last;
-        empty = λ at e. subst (λ n. content_of (new_struct setting known tag).types n ≡ None) (same-number (length known.types.structs) at e) nothing;
-        fresh = λ at e other among same. let under = (sound.begun other among).0 in let last-is = same-number (length known.types.structs) at e in omega (arith, under, same, last-is);
+        below = λ at e. subst (λ n. n < length (new_struct setting known tag).types.structs) (injected (length known.types.structs) at e) last;
+        empty = λ at e. subst (λ n. content_of (new_struct setting known tag).types n ≡ None) (injected (length known.types.structs) at e) nothing;
+        fresh = λ at e other among same. let under = (sound.begun other among).0 in let last-is = injected (length known.types.structs) at e in omega (arith, under, same, last-is);
       }
   struct-starts (Some entry) is = record {
     grown = record { more = knows-itself known; sound = sound; begun = refl };
@@ -217,6 +215,6 @@ struct-ends known behind span (Some at) starts (given last members) h =
           knows-through known last (with-members last h.1 at here.0 here.1 (fields last.types members) fits known.begun) more grown,
           sound-members last h.1 at here.0 here.1 (fields last.types members) fits known.begun others,
           refl,
-          (tt, λ n e. let same = same-number at n e in omega (arith, same, under, longer)),
+          (tt, λ n e. let same = injected at n e in omega (arith, same, under, longer)),
         )
     go false fits = tt

@@ -25,7 +25,7 @@ use Rattle.dm_eexpr.specs.Operators.{keyword_at}
 use Rattle.dm_eexpr.specs.Conversions.{is_complete, widened, as_value}
 use Rattle.dm_eexpr.specs.Specifiers.{Said, nothing_said, with_word, with_type, Where, elsewhere}
 use Rattle.dm_eexpr.specs.Typing.{constant_tree, literal_tree, typed_index, typed_member, typed_arrow, typed_count, typed_prefix, typed_sizeof, typed_sizeof_name, typed_cast, typed_binary, typed_choice, typed_assignment, typed_call, comma_of, tag_declared, tag_inside, tag_seen, with_new_struct, struct_begun, beginning, TypedMember, is_named, name_of, typed_field, TypedParameter, Step, arraying, calling, derived, direct_at, length_of, without_void, typed_parameter, parameter_at, entered, left, TypedName, typed, typed_values, typed_name, typed_specifiers, words_said, word_said, fields_of, fields_declared, fields_with, enumerators_of, enumerator_of, steps_of, direct_steps, parameters_of, parameter_of}
-use Rattle.dm_eexpr.specs.Sound.{IsType, IsSoundKnown, scene_of, AreSoundTokens, IsSound, AreSound, IsTypedName, Gives, GivesMore}
+use Rattle.dm_eexpr.specs.Sound.{AreTypes, AreSteps, IsType, IsSoundKnown, scene_of, AreSoundTokens, IsSound, AreSound, IsTypedName, Gives, GivesMore}
 use Rattle.dm_eexpr.proofs.ConversionLemmas.{bare-again, bare-proper}
 use Rattle.dm_eexpr.proofs.MemberLemmas.{member-gives, arrow-gives}
 use Rattle.dm_eexpr.proofs.TableLemmas.{table-proper}
@@ -38,7 +38,7 @@ use Rattle.dm_eexpr.proofs.GrowthLemmas.{sound-stays, constants-sound-stay}
 use Rattle.dm_eexpr.proofs.ParenthesisLemmas.{widened-sound}
 use Rattle.dm_eexpr.proofs.StructLemmas.{layered-all}
 use Rattle.dm_eexpr.proofs.KnownLemmas.{Any, knows-through, type-stays, stays-so, gives-more, from-more, after-more, with-more, obeys-more, if-more, IsFound, found-entry, meaning-found, length-more, implied-more, valued-more}
-use Rattle.dm_eexpr.proofs.DerivedLemmas.{AreTypes, SaidFits, said-stays, word-fits, type-fits, said-more, AreSteps, steps-stay, pointers-fit, declarator-gives, type-gives, IsParameterType, AreParameterTypes, parameter-gives, without-void-fits, entered-sound, left-more, name-gives}
+use Rattle.dm_eexpr.proofs.DerivedLemmas.{SaidFits, said-stays, word-fits, type-fits, said-more, steps-stay, pointers-fit, declarator-gives, type-gives, IsParameterType, AreParameterTypes, parameter-gives, without-void-fits, entered-sound, left-more, name-gives}
 use Rattle.dm_eexpr.proofs.TagLemmas.{Grown, tag-inside-found, tag-seen-found, enum-grown, enum-gives, struct-gives, struct-starts, beginning-sound, struct-ends}
 
 -- ---- nothing is known

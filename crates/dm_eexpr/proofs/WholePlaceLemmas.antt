@@ -4,6 +4,7 @@ use Rattle.std.proofs.Common.{sym, subst, arith}
 use Rattle.dm_token.specs.declared.place.Span.{Span}
 use Rattle.dm_int.specs.declared.Kind.TheVariants as k
 use Rattle.dm_type.specs.CTypes.{CType, integer, bare}
+use Rattle.dm_type.specs.TableLaws.{injected}
 use Rattle.dm_syn.specs.declared.declared.Declared.{Declared}
 use Rattle.dm_syn.specs.Sources.{symbol_at, spelling_at}
 use Rattle.dm_syn.specs.Spans.{expr_span, exprs_after, type_name_span, specifiers_span, specifier_after, words_after, member_span, members_after, declarator_span, declarators_after, enumerator_span, enumerators_after, parameter_span, parameters_after, pointers_after, direct_after}
@@ -16,8 +17,9 @@ use Rattle.dm_eexpr.specs.Known.{Known, Setting, Outcome, given, after, with_it,
 use Rattle.dm_eexpr.specs.Conversions.{widened, as_value}
 use Rattle.dm_eexpr.specs.Specifiers.{Said, nothing_said, Where, elsewhere}
 use Rattle.dm_eexpr.specs.Typing.{typed_index, typed_member, typed_arrow, typed_count, typed_prefix, typed_sizeof, typed_sizeof_name, typed_cast, typed_binary, typed_choice, typed_assignment, tag_declared, tag_inside, tag_seen, struct_named, with_new_struct, struct_begun, beginning, TypedMember, typed_field, TypedParameter, Step, arraying, calling, derived, pointers, direct_at, length_of, without_void, typed_parameter, parameter_at, entered, left, typed, typed_values, typed_name, typed_specifiers, words_said, word_said, fields_of, fields_declared, fields_with, enumerators_of, enumerator_of, steps_of, direct_steps, parameters_of, parameter_of}
+use Rattle.dm_eexpr.specs.Sound.{StepsWithin}
 use Rattle.dm_eexpr.proofs.GrowthLemmas.{some-of}
-use Rattle.dm_eexpr.proofs.PlaceLemmas.{Places, Plain, wider, after-places, with-places, if-places, named-here, index-here, member-here, arrow-here, count-here, prefix-here, sizeof-here, sizeof-name-here, cast-here, binary-here, choice-here, assignment-here, call-here, comma-here, struct-here, enum-here, ended-here, said-here, enum-ended-here, implied-places, valued-places, length-places, field-places, StepsWithin, steps-wider, derived-places, parameter-places, left-places, name-places}
+use Rattle.dm_eexpr.proofs.PlaceLemmas.{Places, Plain, wider, after-places, with-places, if-places, named-here, index-here, member-here, arrow-here, count-here, prefix-here, sizeof-here, sizeof-name-here, cast-here, binary-here, choice-here, assignment-here, call-here, comma-here, struct-here, enum-here, ended-here, said-here, enum-ended-here, implied-places, valued-places, length-places, field-places, steps-wider, derived-places, parameter-places, left-places, name-places}
 
 -- ---- spans
 
@@ -129,9 +131,6 @@ pub record PlacedDirect (setting : Setting) (at : ℕ) (direct : Direct) : Type 
   pub shown : is_there direct ≡ true → at < direct_after at direct
   pub name : (named : ℕ) → direct_name direct ≡ Some named → (at ≤ named) × (named < direct_after at direct)
   pub steps : (used : Bool) (known : Known) → Places at (direct_after at direct) (StepsWithin at (direct_after at direct)) (direct_steps setting used known at direct)
-
-same-number : (a b : ℕ) → Some a ≡ Some b → a ≡ b
-same-number a b h = cc
 
 -- where a parameter's own rules are broken
 parameter-here : (span : Span) (declarator : Declarator) → span.first < span.after → span.first ≤ (declarator_span declarator).first
@@ -584,7 +583,7 @@ module _ (setting : Setting) where
         let here = h.0 in record {
           on = omega arith;
           shown = λ there. omega arith;
-          name = λ named e. let same = same-number name named e in (omega (arith, here, same), omega (arith, here, same));
+          name = λ named e. let same = injected name named e in (omega (arith, here, same), omega (arith, here, same));
           steps = λ used known. tt;
         }
     direct-placed names of_parameter at (tree.enclosed declarator) h =

@@ -10,6 +10,7 @@ use Rattle.dm_token.specs.declared.token.Class.TheVariants.{Keyword, Punctuator,
 use Rattle.dm_token.specs.declared.token.CToken.{CToken}
 use Rattle.dm_type.specs.CTypes.{CType}
 use Rattle.dm_type.specs.Tables.{no_type}
+use Rattle.dm_syn.specs.Sources.{Source}
 use Rattle.dm_syn.specs.Trees.{Expr}
 use Rattle.dm_syn.specs.Trees as tree
 use Rattle.dm_tree.specs.Trees.{Tree, kind_of}
@@ -42,8 +43,12 @@ constant at = tree.constant (span at (at + 1))
 abbrev nothing : Known
 nothing = record { types = no_type; scopes = map.empty ∷ []; declared = []; begun = []; constants = [] }
 
+-- no name names a type
+abbrev pub source_of : List CToken → Source
+source_of tokens = record { tokens = tokens; outer = λ name. false }
+
 abbrev typing : List CToken → Expr → Outcome Tree
-typing tokens expr = typed (record { source = record { tokens = tokens; outer = λ name. false }; lacks = λ name. false }) true nothing expr
+typing tokens expr = typed (record { source = source_of tokens; lacks = λ name. false }) true nothing expr
 
 abbrev type_in : Outcome Tree → Option CType
 type_in (given known made) = Some (kind_of made)

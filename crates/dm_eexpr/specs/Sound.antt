@@ -22,7 +22,7 @@ use Rattle.dm_tree.specs.Units.{Declaration}
 use Rattle.dm_tree.specs.Typing.{file_scene, IsEntry, IsWellTyped, AreWellTyped}
 use Rattle.dm_eexpr.specs.Known.{Known, Outcome, given, broken}
 use Rattle.dm_eexpr.specs.Conversions.{element}
-use Rattle.dm_eexpr.specs.Typing.{kind_numbered, number_if_struct, is_among, TypedName}
+use Rattle.dm_eexpr.specs.Typing.{kind_numbered, number_if_struct, is_among, TypedName, Step, pointing, arraying, calling, kinds_of}
 
 -- ---- types
 
@@ -97,6 +97,25 @@ AreSound known (value ∷ values) = IsSoundValue known value × AreSound known v
 abbrev pub AreConstants : Known → List Tree → Type 0
 AreConstants known trees = All (IsConstant (scene_of known)) trees × AreWellTyped (scene_of known) (trees_in trees)
 
+-- a type is proper, and if it is a struct, it is one of the table
+abbrev pub IsType : Known → CType → Type 0
+IsType known type = IsProper type × ((at : ℕ) → number_if_struct type ≡ Some at → at < length known.types.structs)
+
+-- such types in order
+abbrev pub AreTypes : Known → List CType → Type 0
+AreTypes known [] = Unit {0}
+AreTypes known (type ∷ types) = IsType known type × AreTypes known types
+
+-- the steps of a declarator: the parameters of functions have such types
+abbrev pub IsStep : Known → Step → Type 0
+IsStep known (pointing at qualified) = Unit {0}
+IsStep known (arraying at n) = Unit {0}
+IsStep known (calling at parameters) = AreTypes known (kinds_of parameters)
+
+abbrev pub AreSteps : Known → List Step → Type 0
+AreSteps known [] = Unit {0}
+AreSteps known (step ∷ steps) = IsStep known step × AreSteps known steps
+
 -- of a type name, the type is proper, and its lengths and enumerator values are constants
 abbrev pub IsTypedName : Known → TypedName → Type 0
 IsTypedName known named = IsProper named.kind × AreConstants known named.constants
@@ -112,10 +131,6 @@ AreComplete table = (at : ℕ) (members : List Member) → members_of table at �
 abbrev pub how_many_complete : List StructEntry → ℕ
 how_many_complete [] = 0
 how_many_complete (entry ∷ structs) = if is_some entry.content then suc (how_many_complete structs) else how_many_complete structs
-
--- a type is proper, and if it is a struct, it is one of the table
-abbrev pub IsType : Known → CType → Type 0
-IsType known type = IsProper type × ((at : ℕ) → number_if_struct type ≡ Some at → at < length known.types.structs)
 
 -- What is known is sound: entries are those of a unit and have such types, structs have complete members and are layered, those whose
 -- members are being read have none yet, and lengths and enumerator values are constants.
@@ -152,3 +167,14 @@ GivesMore known IsGiven (broken rule at) = Unit {0}
 abbrev pub BreaksWithin : {A : Type 0} → ℕ → ℕ → Outcome A → Type 0
 BreaksWithin first behind (given known it) = Unit {0}
 BreaksWithin first behind (broken rule at) = (first ≤ at) × (at < behind)
+
+-- the token at which a step of a declarator begins
+abbrev pub step_at : Step → ℕ
+step_at (pointing at qualified) = at
+step_at (arraying at n) = at
+step_at (calling at parameters) = at
+
+-- all steps begin at such tokens
+abbrev pub StepsWithin : ℕ → ℕ → List Step → Type 0
+StepsWithin first behind [] = Unit {0}
+StepsWithin first behind (step ∷ steps) = (first ≤ step_at step) × (step_at step < behind) × StepsWithin first behind steps

@@ -8,16 +8,17 @@ ghost use Rattle.dm_type.specs.Tables.{no_type};
 ghost use Rattle.dm_scope.specs.Scopes.{Scopes};
 ghost use Rattle.dm_syn.specs.declared.declared.Declared.{Declared};
 ghost use Rattle.dm_syn.specs.declared.symbol.Symbol.{Symbol};
-ghost use Rattle.dm_syn.specs.Grammar.{IsExpr, IsTypeName, IsSpecifiers};
-ghost use Rattle.dm_syn.specs.Spans.{expr_span, type_name_span, specifiers_span};
-ghost use Rattle.dm_syn.specs.Trees.{Expr, TypeName, Specifiers};
+ghost use Rattle.dm_syn.specs.Grammar.{IsExpr, IsTypeName, IsSpecifiers, IsDeclarator};
+ghost use Rattle.dm_syn.specs.Spans.{expr_span, type_name_span, specifiers_span, declarator_span};
+ghost use Rattle.dm_syn.specs.Trees.{Expr, TypeName, Specifiers, Declarator};
 ghost use Rattle.dm_tree.specs.Trees.{Tree};
 ghost use Rattle.dm_tree.specs.Units.{Declaration};
-ghost use Rattle.dm_eexpr.specs.Known.{Known, Setting, meaning_of};
+ghost use Rattle.dm_eexpr.specs.Known.{Known, Setting, given, meaning_of};
 ghost use Rattle.dm_eexpr.specs.Conversions.{as_value};
 ghost use Rattle.dm_eexpr.specs.Specifiers.{Where};
-ghost use Rattle.dm_eexpr.specs.Typing.{typed, typed_name, typed_specifiers, named, constant_tree, literal_tree, typed_index, typed_member, typed_follow, typed_address, typed_count, typed_prefix, typed_arrow, typed_sign, typed_sizeof, typed_sizeof_name, typed_cast, typed_binary, typed_choice, typed_assignment, typed_call, comma_of};
-ghost use Rattle.dm_eexpr.specs.Sound.{IsProper, IsType, IsTypedName, IsSoundKnown, AreSoundTokens, GivesMore, BreaksWithin, AreLayered, AreEntries, IsSoundToken, IsSound, IsSoundValue, AreSound, AreConstants, Gives};
+ghost use Rattle.dm_eexpr.specs.Typing.{typed, typed_name, typed_specifiers, steps_of, Step, derived, named, constant_tree, literal_tree, typed_index, typed_member, typed_follow, typed_address, typed_count, typed_prefix, typed_arrow, typed_sign, typed_sizeof, typed_sizeof_name, typed_cast, typed_binary, typed_choice, typed_assignment, typed_call, comma_of};
+ghost use Rattle.dm_eexpr.specs.Examples.{source_of, sum_tokens, sum};
+ghost use Rattle.dm_eexpr.specs.Sound.{IsProper, IsType, IsTypedName, IsSoundKnown, AreSoundTokens, GivesMore, AreSteps, BreaksWithin, StepsWithin, AreLayered, AreEntries, IsSoundToken, IsSound, IsSoundValue, AreSound, AreConstants, Gives};
 
 /// On well-typed values the operators that use values alone give well-typed values, or break a rule, and nothing more
 /// becomes known.
@@ -69,7 +70,7 @@ pub fn assignments_give_well_typed_values()
 
 /// A whole expression is well typed: what the typing gives for an expression of the grammar is a well-typed tree where all is known
 /// that its type names have declared by its end, and that is sound again. So are type names, whose lengths and enumerator values
-/// are constants, and specifiers, wherever they stand.
+/// are constants, and specifiers and declarators, wherever they stand.
 pub fn expressions_are_well_typed()
     ensures expressions { (setting : Setting) → AreSoundTokens setting.source.tokens → (used : Bool) (known : Known) (names : List Declared) (expr : Expr) →
         IsExpr setting.source names expr → IsSoundKnown known → GivesMore known IsSound (typed setting used known expr) }
@@ -77,11 +78,21 @@ pub fn expressions_are_well_typed()
         IsTypeName setting.source names name → IsSoundKnown known → GivesMore known IsTypedName (typed_name setting used known name) }
     ensures specifiers { (setting : Setting) → AreSoundTokens setting.source.tokens → (used : Bool) (known : Known) (names : List Declared) (stands : Where) (alone : Bool)
         (specifiers : Specifiers) → IsSpecifiers setting.source names specifiers → IsSoundKnown known → GivesMore known IsType (typed_specifiers setting used stands alone known specifiers) }
+    ensures declarators { (setting : Setting) → AreSoundTokens setting.source.tokens → (used : Bool) (known : Known) (names : List Declared) (of_parameter : Bool)
+        (declarator : Declarator) → IsDeclarator setting.source names of_parameter declarator → IsSoundKnown known → GivesMore known AreSteps (steps_of setting used known declarator) }
+    ensures derivations { (known : Known) (type : CType) (steps : List Step) → IsSoundKnown known → IsType known type → AreSteps known steps →
+        GivesMore known IsType (derived known type steps) }
     ensures start { (scopes : Scopes) → IsSoundKnown (record { types = no_type; scopes = scopes; declared = []; begun = []; constants = [] }) }
 {}
 
+/// An example meets the premises of the laws on whole expressions: the tokens and the tree of `'a' + 1u`.
+pub fn an_example_meets_the_premises()
+    ensures tokens { AreSoundTokens sum_tokens }
+    ensures tree { IsExpr (source_of sum_tokens) [] sum }
+{}
+
 /// A rule that an expression breaks is broken at one of its own tokens: what is refused is refused at a place inside it. So are the
-/// rules of type names and specifiers.
+/// rules of type names, specifiers and declarators.
 pub fn broken_rules_are_inside()
     ensures expressions { (setting : Setting) (used : Bool) (known : Known) (names : List Declared) (expr : Expr) → IsExpr setting.source names expr →
         BreaksWithin (expr_span expr).first (expr_span expr).after (typed setting used known expr) }
@@ -90,6 +101,14 @@ pub fn broken_rules_are_inside()
     ensures specifiers { (setting : Setting) (used : Bool) (known : Known) (names : List Declared) (stands : Where) (alone : Bool) (specifiers : Specifiers) →
         IsSpecifiers setting.source names specifiers →
         BreaksWithin (specifiers_span specifiers).first (specifiers_span specifiers).after (typed_specifiers setting used stands alone known specifiers) }
+    ensures declarators { (setting : Setting) (used : Bool) (known : Known) (names : List Declared) (of_parameter : Bool) (declarator : Declarator) →
+        IsDeclarator setting.source names of_parameter declarator →
+        BreaksWithin (declarator_span declarator).first (declarator_span declarator).after (steps_of setting used known declarator) }
+    ensures steps { (setting : Setting) (used : Bool) (known : Known) (names : List Declared) (of_parameter : Bool) (declarator : Declarator) →
+        IsDeclarator setting.source names of_parameter declarator → (behind : Known) (steps : List Step) → steps_of setting used known declarator ≡ given behind steps →
+        StepsWithin (declarator_span declarator).first (declarator_span declarator).after steps }
+    ensures derivations { (known : Known) (first behind : ℕ) (type : CType) (steps : List Step) → StepsWithin first behind steps →
+        BreaksWithin first behind (derived known type steps) }
 {}
 
 /// Names, constants and string literals are well typed where the declarations and tokens are such as C has.

@@ -5,8 +5,9 @@
 mod laws;
 
 pub use laws::{
-    assignments_give_well_typed_values, broken_rules_are_inside, expressions_are_well_typed,
-    leaves_are_well_typed, lvalues_are_well_typed, operators_give_well_typed_values,
+    an_example_meets_the_premises, assignments_give_well_typed_values, broken_rules_are_inside,
+    expressions_are_well_typed, leaves_are_well_typed, lvalues_are_well_typed,
+    operators_give_well_typed_values,
 };
 
 #[cfg(test)]

@@ -1,7 +1,8 @@
-use Rattle.dm_syn.specs.Spans.{expr_span, type_name_span, specifiers_span}
-use Rattle.dm_eexpr.specs.Typing.{typed, typed_name, typed_specifiers}
-use Rattle.dm_eexpr.proofs.PlaceLemmas.{Plain, within-places}
-use Rattle.dm_eexpr.proofs.WholePlaceLemmas.{expr-placed, name-placed, specifiers-placed}
+use Rattle.dm_syn.specs.Spans.{expr_span, type_name_span, specifiers_span, declarator_span}
+use Rattle.dm_eexpr.specs.Typing.{typed, typed_name, typed_specifiers, steps_of, derived}
+use Rattle.dm_eexpr.specs.Sound.{StepsWithin}
+use Rattle.dm_eexpr.proofs.PlaceLemmas.{Plain, within-places, given-places, derived-places}
+use Rattle.dm_eexpr.proofs.WholePlaceLemmas.{expr-placed, name-placed, specifiers-placed, declarator-placed}
 use Rattle.dm_eexpr.proofs.laws.broken_rules_are_inside.Goals as goal
 
 pub returns-clause-expressions : goal.returns-clause-expressions
@@ -16,3 +17,19 @@ pub returns-clause-specifiers : goal.returns-clause-specifiers
 returns-clause-specifiers c setting used known names stands alone specifiers is =
     within-places (specifiers_span specifiers).first (specifiers_span specifiers).after Plain (typed_specifiers setting used stands alone known specifiers)
     ((specifiers-placed setting names stands alone specifiers is).1 used known)
+
+pub returns-clause-declarators : goal.returns-clause-declarators
+returns-clause-declarators c setting used known names of_parameter declarator is =
+    let span = declarator_span declarator in
+    within-places span.first span.after (StepsWithin span.first span.after) (steps_of setting used known declarator)
+    ((declarator-placed setting names of_parameter declarator is).steps used known)
+
+pub returns-clause-steps : goal.returns-clause-steps
+returns-clause-steps c setting used known names of_parameter declarator is behind steps e =
+    let span = declarator_span declarator in
+    given-places span.first span.after (StepsWithin span.first span.after) (steps_of setting used known declarator)
+    ((declarator-placed setting names of_parameter declarator is).steps used known) behind steps e
+
+pub returns-clause-derivations : goal.returns-clause-derivations
+returns-clause-derivations c known first behind type steps within =
+    within-places first behind Plain (derived known type steps) (derived-places known first behind type steps within)
