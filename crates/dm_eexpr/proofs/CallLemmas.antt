@@ -1,7 +1,6 @@
 -- Values that are assigned or passed, calls and casts.
 use Rattle.std.specs.Prelude.{◌≡◌, Bool, true, false, ◌&&◌, ◌||◌, if◌then◌else◌, ◌⊎◌, List, [], ◌∷◌, Option, Some, None, option_map, refl, All}
 use Rattle.std.proofs.Common.{sym, ap, subst, inl, inr, ⊎_elim}
-use Rattle.dm_token.specs.declared.place.Span.{Span}
 use Rattle.dm_int.specs.declared.Kind.TheVariants as k
 use Rattle.dm_type.specs.CTypes.{CType, CTypes, void, integer, pointer, struct, function as function_type, no_types, more_types, bare}
 use Rattle.dm_syn.specs.Trees.{Expr}
@@ -10,6 +9,7 @@ use Rattle.dm_tree.specs.Trees as label
 use Rattle.dm_tree.specs.Scenes.{target, is_void, are_alike, IsConstant}
 use Rattle.dm_tree.specs.Operands.{Becomes, BecomesPointer, FitParameters, FitsCall}
 use Rattle.dm_tree.specs.Typing.{AreWellTyped}
+use Rattle.dm_eexpr.specs.declared.extent.Extent.{Extent}
 use Rattle.dm_eexpr.specs.Known.{Known, Setting}
 use Rattle.dm_eexpr.specs.Conversions.{made, over, is_same, as_type, is_null, is_complete}
 use Rattle.dm_eexpr.specs.Rules.{assignable_to, is_assignable, pointer_assignable, keeps_const, put_before, passed, called, may_be_cast, may_become_pointer}
@@ -94,7 +94,7 @@ passed-fits known (value ∷ values) (more_types type types) all sound proper h 
     go rest-fits false e found p h = absurd (cc)
 passed-fits known values types all sound proper h = absurd (cc)
 
-module _ (setting : Setting) (known : Known) (span : Span) where
+module _ (setting : Setting) (known : Known) (span : Extent) where
   IsCall : CType → Tree → CType × List Tree → Type 0
   IsCall type tree one = FitsCall type one.1 one.0 × AreSound known one.1 × (one.0 ≡ bare one.0) × IsProper one.0
 
@@ -128,8 +128,8 @@ module _ (setting : Setting) (known : Known) (span : Span) where
   pub call-gives : (callee : Expr) (tree : Tree) (values : List Tree) → IsSound known tree → AreSound known values
       → Gives known IsSoundValue (typed_call setting known span callee tree values)
   call-gives callee tree values sound all =
-      obeyed known IsSoundValue (is_name callee && is_function_label (label_of tree)) 10 span.first _
-      (λ h. given-if known IsSoundValue (called known (kind_of tree) values) 10 span.first _
+      obeyed known IsSoundValue (is_name callee && is_function_label (label_of tree)) 10 span.inner.first _
+      (λ h. given-if known IsSoundValue (called known (kind_of tree) values) 10 span.inner.first _
       (λ one e. (refl, call-sound tree values one ((both-hold (is_name callee) (is_function_label (label_of tree)) h).1) sound all e)))
 
   -- ---- casts
@@ -153,7 +153,7 @@ module _ (setting : Setting) (known : Known) (span : Span) where
   pub cast-gives : (type : CType) (lengths : List Tree) (operand : Tree) → type ≡ bare type → IsProper type → AreConstants known lengths → IsSoundValue known operand
       → Gives known IsSoundValue (typed_cast setting known span type lengths operand)
   cast-gives type lengths operand plain proper constants sound =
-      obeyed known IsSoundValue (may_be_cast known operand type) 18 span.first _
+      obeyed known IsSoundValue (may_be_cast known operand type) 18 span.inner.first _
       (λ h. (
         refl,
         (
@@ -166,5 +166,5 @@ module _ (setting : Setting) (known : Known) (span : Span) where
 
   pub sizeof-name-gives : (type : CType) (lengths : List Tree) → AreConstants known lengths → Gives known IsSoundValue (typed_sizeof_name setting known span type lengths)
   sizeof-name-gives type lengths constants =
-      obeyed known IsSoundValue (is_complete known type) 17 span.first _
+      obeyed known IsSoundValue (is_complete known type) 17 span.inner.first _
       (λ h. (refl, (refl, refl, tt, ((h, subst (All (IsConstant (scene_of known))) (sym (listed-trees lengths)) constants.0, refl), constants.1))))

@@ -1,7 +1,6 @@
 -- The arms of ?:.
 use Rattle.std.specs.Prelude.{◌≡◌, ℕ, Bool, true, false, ◌||◌, not, ◌==◌, if◌then◌else◌, Option, Some, None, is_some, option_map, refl}
 use Rattle.std.proofs.Common.{sym, ap, ◌∙◌, subst}
-use Rattle.dm_token.specs.declared.place.Span.{Span}
 use Rattle.dm_int.specs.declared.Kind.{Kind}
 use Rattle.dm_int.specs.Kinds.{number_of, common}
 use Rattle.dm_type.specs.Alike.{are_compatible, match_as_parameters, composite, composite_parameters, lengths_agree, known_length}
@@ -10,6 +9,7 @@ use Rattle.dm_tree.specs.Constants.{integer_kind}
 use Rattle.dm_tree.specs.Trees.{Tree, kind_of}
 use Rattle.dm_tree.specs.Scenes.{target, is_integer, is_scalar, is_void, is_array, are_alike}
 use Rattle.dm_tree.specs.Operands.{BecomesPointer, IsArmType}
+use Rattle.dm_eexpr.specs.declared.extent.Extent.{Extent}
 use Rattle.dm_eexpr.specs.Known.{Known, Setting}
 use Rattle.dm_eexpr.specs.Conversions.{is_null}
 use Rattle.dm_eexpr.specs.Rules.{Pair, pair, both_as, with_const_if, pointer_arms, arms_by_targets, arms_of_types, arms_of_kinds, arms}
@@ -315,12 +315,12 @@ kinds-fit known a b sound other (Some left) (Some right) p q one h =
     inside-arms known (both_as a b (integer (common left right))) one h (both-kinds known left right a b sound other (ap is_some p) (ap is_some q))
 kinds-fit known a b sound other left right p q one h = types-fit known a b sound other (kind_of a) (kind_of b) refl refl one h
 
-pub choice-gives : (setting : Setting) (known : Known) (span : Span) (condition a b : Tree) → IsSoundValue known condition → IsSoundValue known a → IsSoundValue known b
+pub choice-gives : (setting : Setting) (known : Known) (span : Extent) (condition a b : Tree) → IsSoundValue known condition → IsSoundValue known a → IsSoundValue known b
     → Gives known IsSoundValue (typed_choice setting known span condition a b)
 unfolding AllArms IsArms IsArm
 choice-gives setting known span condition a b sound left right =
-    obeyed known IsSoundValue (is_scalar (kind_of condition)) 27 span.first _
-    (λ scalar. given-if known IsSoundValue (arms known a b) 27 span.first _
+    obeyed known IsSoundValue (is_scalar (kind_of condition)) 27 span.inner.first _
+    (λ scalar. given-if known IsSoundValue (arms known a b) 27 span.inner.first _
     (λ one h. let fits = kinds-fit known a b left right (integer_kind (kind_of a)) (integer_kind (kind_of b)) refl refl one h in (
       refl,
       (

@@ -10,7 +10,6 @@ pub mod KnownLemmas
 pub mod MemberLemmas
 pub mod NameLemmas
 pub mod OperandLemmas
-pub mod ParenthesisLemmas
 pub mod PlaceLemmas
 pub mod RuleLemmas
 pub mod StructLemmas

@@ -1,7 +1,6 @@
 -- Members.
 use Rattle.std.specs.Prelude.{◌≡◌, ℕ, suc, ◌+◌, Bool, true, false, not, if◌then◌else◌, IsTrue, List, [], ◌∷◌, Option, Some, None, option_and_then, option_map, slice_get, bytes_eq, refl, IfSome, IsSome}
 use Rattle.std.proofs.Common.{sym, ap, ◌∙◌, subst, arith, zero-add}
-use Rattle.dm_token.specs.declared.place.Span.{Span}
 use Rattle.dm_type.specs.declared.shape.Member.{Member}
 use Rattle.dm_type.specs.CTypes.{CType, void, integer, pointer, array, struct, function as function_type, const, bare, is_const, with_const}
 use Rattle.dm_type.specs.Tables.{Table, type_of, members_of}
@@ -10,6 +9,7 @@ use Rattle.dm_tree.specs.Trees.{Tree, kind_of, trees}
 use Rattle.dm_tree.specs.Trees as label
 use Rattle.dm_tree.specs.Scenes.{is_lvalue, is_array, member_type}
 use Rattle.dm_tree.specs.Operands.{FitsMember}
+use Rattle.dm_eexpr.specs.declared.extent.Extent.{Extent}
 use Rattle.dm_eexpr.specs.Known.{Known, Setting}
 use Rattle.dm_eexpr.specs.Conversions.{made, complete_target}
 use Rattle.dm_eexpr.specs.Rules.{found_in, member_of_struct, member_in, member_by_name}
@@ -94,7 +94,7 @@ value-member table whole n type plain h element =
     let P : Option CType → Type 0 = λ found. IfSome found (λ it. (bare type ≡ bare it) × IsTrue (not (is_array it))) × IsSome found in
     subst P (sym is) ((refl, element), refl)
 
-module _ (setting : Setting) (known : Known) (span : Span) (proper : HasProperTypes known.types) where
+module _ (setting : Setting) (known : Known) (span : Extent) (proper : HasProperTypes known.types) where
   IsMember : Tree → ℕ × CType → Type 0
   IsMember whole one = IsSound known (made setting.source span (label.member one.0) one.1 (whole ∷ []))
 
@@ -147,10 +147,10 @@ module _ (setting : Setting) (known : Known) (span : Span) (proper : HasProperTy
   pub member-gives : (name : ℕ) (whole : Tree) → IsSound known whole → Gives known IsSound (typed_member setting known span name whole)
   unfolding IsMember
   member-gives name whole sound =
-      given-if known IsSound (member_by_name known (spelling_at setting.source name) whole) 12 span.first _
+      given-if known IsSound (member_by_name known (spelling_at setting.source name) whole) 12 span.inner.first _
       (λ one h. (refl, by-name whole (spelling_at setting.source name) sound one h))
 
   pub arrow-gives : (name : ℕ) (pointing : Tree) → IsSoundValue known pointing → Gives known IsSound (typed_arrow setting known span name pointing)
   arrow-gives name pointing sound =
-      given-if known IsSound (complete_target known (kind_of pointing)) 12 span.first _
+      given-if known IsSound (complete_target known (kind_of pointing)) 12 span.inner.first _
       (λ to h. member-gives name (made setting.source span label.follow to (pointing ∷ [])) (follow-sound setting known span pointing to sound h))

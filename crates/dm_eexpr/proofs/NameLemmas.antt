@@ -1,7 +1,6 @@
 -- Names, constants and string literals.
 use Rattle.std.specs.Prelude.{◌≡◌, ℕ, Bool, true, ◌&&◌, IsTrue, List, [], Option, Some, None, option_and_then, unwrap_or, slice_get, refl, IfSome, IsSome}
 use Rattle.std.proofs.Common.{sym, ap, ◌∙◌, subst}
-use Rattle.dm_token.specs.declared.place.Span.{Span}
 use Rattle.dm_token.specs.declared.token.CToken.{CToken}
 use Rattle.dm_int.specs.declared.Kind.TheVariants as k
 use Rattle.dm_type.specs.Alike.{are_compatible}
@@ -15,6 +14,7 @@ use Rattle.dm_tree.specs.Trees.{Label}
 use Rattle.dm_tree.specs.Trees as label
 use Rattle.dm_tree.specs.Typing.{FitsSort, has_linkage}
 use Rattle.dm_tree.specs.Units.{Declaration}
+use Rattle.dm_eexpr.specs.declared.extent.Extent.{Extent}
 use Rattle.dm_eexpr.specs.Known.{Known, Setting, meaning_of}
 use Rattle.dm_eexpr.specs.Conversions.{made}
 use Rattle.dm_eexpr.specs.Rules.{named_by_sort}
@@ -37,7 +37,7 @@ names-it : (known : Known) (at : ℕ) (entry : Declaration) (P : Declaration →
 names-it known at entry P e p =
     let Q : Option Declaration → Type 0 = λ found. IfSome found P × IsSome found in subst Q (sym e) (p, refl)
 
-module _ (setting : Setting) (known : Known) (span : Span) where
+module _ (setting : Setting) (known : Known) (span : Extent) where
   IsName : Label × CType → Type 0
   IsName one = IsSound known (made setting.source span one.0 one.1 [])
 
@@ -76,8 +76,8 @@ module _ (setting : Setting) (known : Known) (span : Span) where
   name-gives entries used name (Some entry) e =
       let at = unwrap_or (number_of known.scopes name) 0 in
       let there = entry-at known (number_of known.scopes name) entry e in
-      given-if known IsSound (named_by_sort entry.sort at entry.kind) 1 span.first _
-      (λ one h. obeyed known IsSound (may_be_used setting used name entry) 37 span.first _
+      given-if known IsSound (named_by_sort entry.sort at entry.kind) 1 span.inner.first _
+      (λ one h. obeyed known IsSound (may_be_used setting used name entry) 37 span.inner.first _
       (λ may. let it = entries at entry there in (refl, sort-sound entry at there entry.sort refl it.0 it.1 one h)))
 
   pub constant-sound : (token : CToken) → IsSoundToken token → IsSoundValue known (constant_tree setting span (Some token))

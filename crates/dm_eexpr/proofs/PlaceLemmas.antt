@@ -21,7 +21,7 @@ use Rattle.dm_eexpr.specs.Operators.{row_at, operator_of_row, operator_of_assign
 use Rattle.dm_eexpr.specs.Conversions.{made, as_value, as_type, is_complete, complete_target, constant_of}
 use Rattle.dm_eexpr.specs.Rules.{named_by_sort, Pair, indexed, member_by_name, is_modifiable, may_be_counted, signed, may_be_cast, operated, rule_of, arms, is_assignable, called, updated}
 use Rattle.dm_eexpr.specs.Specifiers.{Said, type_said, Where, are_allowed, with_said_const}
-use Rattle.dm_eexpr.specs.Typing.{may_be_used, named, index_tree, typed_index, typed_member, typed_arrow, is_plus_plus, typed_count, typed_sign, typed_prefix, typed_sizeof, typed_sizeof_name, typed_cast, typed_operation, typed_logic, typed_binary, typed_choice, typed_update, typed_assignment, is_name, is_function_label, typed_call, comma_of, number_if_struct, struct_named, enum_named, TypedMember, is_named, name_of, typed_field, fields, struct_ended, is_int, is_file_scope, enumerator_entry, enumerator_declared, enumerator_implied, enumerator_valued, with_constant, Step, pointing, arraying, calling, kinds_of, length_fits, is_result, stepped, derived, natural, length_of, adjusted, parameter_entry, parameter_declared, typed_parameter, left, typed_said, name_ended}
+use Rattle.dm_eexpr.specs.Typing.{may_be_used, named, index_tree, typed_index, typed_member, typed_arrow, is_plus_plus, typed_count, typed_sign, typed_prefix, typed_sizeof, typed_sizeof_name, typed_cast, typed_operation, typed_logic, typed_binary, typed_choice, typed_update, typed_assignment, is_name, is_function_label, typed_call, comma_of, number_if_struct, struct_named, enum_named, TypedMember, is_named, name_of, typed_field, fields, struct_ended, is_int, is_file_scope, enumerator_entry, enumerator_declared, enumerator_implied, enumerator_valued, with_constant, Step, pointing, arraying, calling, kinds_of, length_fits, is_result, stepped, derived, natural, length_of, adjusted, parameter_entry, parameter_declared, typed_parameter, left, typed_said, name_ended, extent}
 use Rattle.dm_eexpr.specs.Sound.{BreaksWithin, step_at, StepsWithin}
 
 -- a rule is broken within these tokens, or what is given is such
@@ -91,98 +91,99 @@ module _ (span : Span) (on : span.first < span.after) where
   if-here : {A : Type 0} (B : Type 0) (found : Option A) (rule : ℕ) (next : A → Outcome B) → ((it : A) → Here (next it)) → Here (if_given found rule span.first next)
   if-here B found rule next h = if-places span.first span.after Plain found rule span.first next first-is on h
 
-  module _ (setting : Setting) (known : Known) where
-    pub named-here : (used : Bool) (name : List ℕ) (found : Option Declaration) → Here (named setting used known span name found)
+  module _ (setting : Setting) (known : Known) (outer : Span) where
+    pub named-here : (used : Bool) (name : List ℕ) (found : Option Declaration) → Here (named setting used known (extent span outer) name found)
     named-here used name None = (first-is, on)
     named-here used name (Some entry) =
         if-here Tree (named_by_sort entry.sort (unwrap_or (number_of known.scopes name) 0) entry.kind) 1
-        (λ (form, kind). obeys (may_be_used setting used name entry) 37 span.first (given known (made setting.source span form kind [])))
-        (λ one. obeys-here Tree (may_be_used setting used name entry) 37 (given known (made setting.source span one.0 one.1 [])) tt)
+        (λ (form, kind). obeys (may_be_used setting used name entry) 37 span.first (given known (made setting.source (extent span outer) form kind [])))
+        (λ one. obeys-here Tree (may_be_used setting used name entry) 37 (given known (made setting.source (extent span outer) one.0 one.1 [])) tt)
 
-    pub index-here : (a b : Tree) → Here (typed_index setting known span a b)
-    index-here a b = if-here Tree (indexed known (kind_of a) (kind_of b)) 11 (λ type. given known (index_tree setting span a b type (complete_target known type))) (λ type. tt)
+    pub index-here : (a b : Tree) → Here (typed_index setting known (extent span outer) a b)
+    index-here a b = if-here Tree (indexed known (kind_of a) (kind_of b)) 11 (λ type. given known (index_tree setting (extent span outer) a b type (complete_target known type))) (λ type. tt)
 
-    pub member-here : (name : ℕ) (whole : Tree) → Here (typed_member setting known span name whole)
+    pub member-here : (name : ℕ) (whole : Tree) → Here (typed_member setting known (extent span outer) name whole)
     member-here name whole =
-        if-here Tree (member_by_name known (spelling_at setting.source name) whole) 12 (λ (n, kind). given known (made setting.source span (label.member n) kind (whole ∷ []))) (λ one. tt)
+        if-here Tree (member_by_name known (spelling_at setting.source name) whole) 12 (λ (n, kind). given known (made setting.source (extent span outer) (label.member n) kind (whole ∷ []))) (λ one. tt)
 
-    pub arrow-here : (name : ℕ) (operand : Tree) → Here (typed_arrow setting known span name operand)
+    pub arrow-here : (name : ℕ) (operand : Tree) → Here (typed_arrow setting known (extent span outer) name operand)
     arrow-here name operand =
-        if-here Tree (complete_target known (kind_of operand)) 12 (λ to. typed_member setting known span name (made setting.source span label.follow to (operand ∷ [])))
-        (λ to. member-here name (made setting.source span label.follow to (operand ∷ [])))
+        if-here Tree (complete_target known (kind_of operand)) 12 (λ to. typed_member setting known (extent span outer) name (made setting.source (extent span outer) label.follow to (operand ∷ [])))
+        (λ to. member-here name (made setting.source (extent span outer) label.follow to (operand ∷ [])))
 
-    pub count-here : (operator : ℕ) (before : Bool) (operand : Tree) → Here (typed_count setting known span operator before operand)
+    pub count-here : (operator : ℕ) (before : Bool) (operand : Tree) → Here (typed_count setting known (extent span outer) operator before operand)
     count-here operator before operand =
         obeys-here Tree (may_be_counted known operand) 13
-        (given known (made setting.source span (label.count (is_plus_plus (row_at setting.source operator)) before) (bare (kind_of operand)) (operand ∷ []))) tt
+        (given known (made setting.source (extent span outer) (label.count (is_plus_plus (row_at setting.source operator)) before) (bare (kind_of operand)) (operand ∷ []))) tt
 
-    sign-here : (operator : ℕ) (operand : Tree) → Here (typed_sign setting known span operator operand)
+    sign-here : (operator : ℕ) (operand : Tree) → Here (typed_sign setting known (extent span outer) operator operand)
     sign-here operator operand =
         if-here Tree (option_and_then sign_of_row (row_at setting.source operator)) 16
-        (λ sign. if_given (signed sign operand) 16 span.first (λ (converted, kind). given known (made setting.source span (label.unary sign) kind (converted ∷ []))))
-        (λ sign. if-here Tree (signed sign operand) 16 (λ (converted, kind). given known (made setting.source span (label.unary sign) kind (converted ∷ []))) (λ one. tt))
+        (λ sign. if_given (signed sign operand) 16 span.first (λ (converted, kind). given known (made setting.source (extent span outer) (label.unary sign) kind (converted ∷ []))))
+        (λ sign. if-here Tree (signed sign operand) 16 (λ (converted, kind). given known (made setting.source (extent span outer) (label.unary sign) kind (converted ∷ []))) (λ one. tt))
 
-    pub prefix-here : (operator : ℕ) (operand : Tree) (it : Symbol) → Here (typed_prefix setting known span operator operand it)
+    pub prefix-here : (operator : ℕ) (operand : Tree) (it : Symbol) → Here (typed_prefix setting known (extent span outer) operator operand it)
     prefix-here operator operand symbol.Increment = count-here operator true operand
     prefix-here operator operand symbol.Ampersand =
-        obeys-here Tree (is_lvalue operand) 14 (given known (made setting.source span label.address (pointer (kind_of operand)) (operand ∷ []))) tt
+        obeys-here Tree (is_lvalue operand) 14 (given known (made setting.source (extent span outer) label.address (pointer (kind_of operand)) (operand ∷ []))) tt
     prefix-here operator operand symbol.Star =
-        if-here Tree (complete_target known (kind_of (as_value operand))) 15 (λ to. given known (made setting.source span label.follow to (as_value operand ∷ []))) (λ to. tt)
+        if-here Tree (complete_target known (kind_of (as_value operand))) 15 (λ to. given known (made setting.source (extent span outer) label.follow to (as_value operand ∷ []))) (λ to. tt)
     prefix-here operator operand it = sign-here operator (as_value operand)
 
-    pub sizeof-here : (operand : Tree) → Here (typed_sizeof setting known span operand)
+    pub sizeof-here : (operand : Tree) → Here (typed_sizeof setting known (extent span outer) operand)
     sizeof-here operand =
-        obeys-here Tree (is_complete known (kind_of operand)) 17 (given known (made setting.source span label.sizeof_tree (integer k.ULong) (operand ∷ []))) tt
+        obeys-here Tree (is_complete known (kind_of operand)) 17 (given known (made setting.source (extent span outer) label.sizeof_tree (integer k.ULong) (operand ∷ []))) tt
 
-    pub sizeof-name-here : (type : CType) (lengths : List Tree) → Here (typed_sizeof_name setting known span type lengths)
+    pub sizeof-name-here : (type : CType) (lengths : List Tree) → Here (typed_sizeof_name setting known (extent span outer) type lengths)
     sizeof-name-here type lengths =
-        obeys-here Tree (is_complete known type) 17 (given known (made setting.source span (label.sizeof_kind type) (integer k.ULong) lengths)) tt
+        obeys-here Tree (is_complete known type) 17 (given known (made setting.source (extent span outer) (label.sizeof_kind type) (integer k.ULong) lengths)) tt
 
-    pub cast-here : (type : CType) (lengths : List Tree) (operand : Tree) → Here (typed_cast setting known span type lengths operand)
-    cast-here type lengths operand = obeys-here Tree (may_be_cast known operand type) 18 (given known (made setting.source span label.convert type (operand ∷ lengths))) tt
+    pub cast-here : (type : CType) (lengths : List Tree) (operand : Tree) → Here (typed_cast setting known (extent span outer) type lengths operand)
+    cast-here type lengths operand = obeys-here Tree (may_be_cast known operand type) 18 (given known (made setting.source (extent span outer) label.convert type (operand ∷ lengths))) tt
 
-    operation-here : (a b : Tree) (found : Option Op) → Here (typed_operation setting known span a b found)
+    operation-here : (a b : Tree) (found : Option Op) → Here (typed_operation setting known (extent span outer) a b found)
     operation-here a b None = (first-is, on)
     operation-here a b (Some op) =
-        if-here Tree (operated known op a b) (rule_of op) (λ (pair : Pair). given known (made setting.source span (label.binary op) pair.kind (pair.left ∷ pair.right ∷ []))) (λ one. tt)
+        if-here Tree (operated known op a b) (rule_of op) (λ (pair : Pair). given known (made setting.source (extent span outer) (label.binary op) pair.kind (pair.left ∷ pair.right ∷ []))) (λ one. tt)
 
-    logic-here : (form : Label) (a b : Tree) → Here (typed_logic setting known span form a b)
+    logic-here : (form : Label) (a b : Tree) → Here (typed_logic setting known (extent span outer) form a b)
     logic-here form a b =
-        obeys-here Tree (is_scalar (kind_of a) && is_scalar (kind_of b)) 26 (given known (made setting.source span form (integer k.Int) (a ∷ b ∷ []))) tt
+        obeys-here Tree (is_scalar (kind_of a) && is_scalar (kind_of b)) 26 (given known (made setting.source (extent span outer) form (integer k.Int) (a ∷ b ∷ []))) tt
 
-    pub binary-here : (operator : ℕ) (a b : Tree) (it : Symbol) → Here (typed_binary setting known span operator a b it)
+    pub binary-here : (operator : ℕ) (a b : Tree) (it : Symbol) → Here (typed_binary setting known (extent span outer) operator a b it)
     binary-here operator a b symbol.And = logic-here label.both a b
     binary-here operator a b symbol.Or = logic-here label.either a b
     binary-here operator a b it = operation-here a b (option_and_then operator_of_row (row_at setting.source operator))
 
-    pub choice-here : (condition a b : Tree) → Here (typed_choice setting known span condition a b)
+    pub choice-here : (condition a b : Tree) → Here (typed_choice setting known (extent span outer) condition a b)
     choice-here condition a b =
-        let chosen : Pair → Outcome Tree = λ pair. given known (made setting.source span label.choose pair.kind (condition ∷ pair.left ∷ pair.right ∷ [])) in
+        let chosen : Pair → Outcome Tree = λ pair. given known (made setting.source (extent span outer) label.choose pair.kind (condition ∷ pair.left ∷ pair.right ∷ [])) in
         obeys-here Tree (is_scalar (kind_of condition)) 27 (if_given (arms known a b) 27 span.first chosen) (if-here Tree (arms known a b) 27 chosen (λ one. tt))
 
-    update-here : (object value : Tree) (found : Option Op) → Here (typed_update setting known span object value found)
+    update-here : (object value : Tree) (found : Option Op) → Here (typed_update setting known (extent span outer) object value found)
     update-here object value None = (first-is, on)
     update-here object value (Some op) =
         if-here Tree (updated known op object value) 29
-        (λ (works, converted). given known (made setting.source span (label.update op works) (bare (kind_of object)) (object ∷ converted ∷ []))) (λ one. tt)
+        (λ (works, converted). given known (made setting.source (extent span outer) (label.update op works) (bare (kind_of object)) (object ∷ converted ∷ []))) (λ one. tt)
 
-    pub assignment-here : (operator : ℕ) (object value : Tree) (it : Symbol) → Here (typed_assignment setting known span operator object value it)
+    pub assignment-here : (operator : ℕ) (object value : Tree) (it : Symbol) → Here (typed_assignment setting known (extent span outer) operator object value it)
     assignment-here operator object value symbol.Equals =
         obeys-here Tree (is_modifiable known object && is_assignable known value (kind_of object)) 28
-        (given known (made setting.source span label.store (bare (kind_of object)) (object ∷ as_type (kind_of object) value ∷ []))) tt
+        (given known (made setting.source (extent span outer) label.store (bare (kind_of object)) (object ∷ as_type (kind_of object) value ∷ []))) tt
     assignment-here operator object value it = update-here object value (option_and_then operator_of_assignment (row_at setting.source operator))
 
-    pub call-here : (callee : Expr) (tree : Tree) (values : List Tree) → Here (typed_call setting known span callee tree values)
+    pub call-here : (callee : Expr) (tree : Tree) (values : List Tree) → Here (typed_call setting known (extent span outer) callee tree values)
     call-here callee tree values =
-        let calls : CType × List Tree → Outcome Tree = λ (kind, arguments). given known (made setting.source span label.call kind (tree ∷ arguments)) in
+        let calls : CType × List Tree → Outcome Tree = λ (kind, arguments). given known (made setting.source (extent span outer) label.call kind (tree ∷ arguments)) in
         obeys-here Tree (is_name callee && is_function_label (label_of tree)) 10 (if_given (called known (kind_of tree) values) 10 span.first calls)
         (if-here Tree (called known (kind_of tree) values) 10 calls (λ one. tt))
 
-    pub comma-here : (values : List Tree) → Here (if_given (comma_of setting span values) 1 span.first (λ made. given known made))
-    comma-here values = if-here Tree (comma_of setting span values) 1 (λ made. given known made) (λ made. tt)
+    pub comma-here : (values : List Tree) → Here (if_given (comma_of setting (extent span outer) values) 1 span.first (λ made. given known made))
+    comma-here values = if-here Tree (comma_of setting (extent span outer) values) 1 (λ made. given known made) (λ made. tt)
 
-    -- ---- specifiers
+  -- ---- specifiers
 
+  module _ (setting : Setting) (known : Known) where
     pub struct-here : (tag : Option ℕ) (found : Option Declaration) → Here (struct_named setting known span tag found)
     struct-here tag None = tt
     struct-here tag (Some entry) = obeys-here CType (is_some (number_if_struct entry.kind)) 4 (given known entry.kind) tt
@@ -193,9 +194,11 @@ module _ (span : Span) (on : span.first < span.after) where
 
     pub ended-here : (number : Option ℕ) (begun : List ℕ) (members : List TypedMember) → Here (struct_ended known span number begun members)
     ended-here None begun members = (first-is, on)
-    ended-here (Some at) begun members =
-        obeys-here CType (is_some (struct_layout known.types (fields known.types members))) 5
-        (given (record known { types = with_content known.types at (contained known.types (fields known.types members)); begun = begun }) (struct at)) tt
+    ended-here (Some at) begun [] = (first-is, on)
+    ended-here (Some at) begun (first ∷ others) =
+        let members = fields known.types (first ∷ others) in
+        obeys-here CType (is_some (struct_layout known.types members)) 5
+        (given (record known { types = with_content known.types at (contained known.types members); begun = begun }) (struct at)) tt
 
     pub said-here : (stands : Where) (said : Said) → Here (typed_said known stands span.first said)
     said-here stands said =

@@ -1,7 +1,6 @@
 -- What each rule gives on parts that are well typed is well typed.
 use Rattle.std.specs.Prelude.{◌≡◌, ℕ, Bool, true, false, ◌&&◌, not, if◌then◌else◌, List, [], ◌∷◌, Option, Some, None, is_some, option_and_then, option_map, refl}
 use Rattle.std.proofs.Common.{ap, subst}
-use Rattle.dm_token.specs.declared.place.Span.{Span}
 use Rattle.dm_int.specs.declared.Kind.{Kind}
 use Rattle.dm_int.specs.declared.Kind.TheVariants as k
 use Rattle.dm_int.specs.declared.Op.{Op}
@@ -16,6 +15,7 @@ use Rattle.dm_tree.specs.Constants.{integer_kind}
 use Rattle.dm_tree.specs.Trees.{Tree, label_of, kind_of, is_statement}
 use Rattle.dm_tree.specs.Trees as label
 use Rattle.dm_tree.specs.Scenes.{is_lvalue, is_integer, is_scalar}
+use Rattle.dm_eexpr.specs.declared.extent.Extent.{Extent}
 use Rattle.dm_eexpr.specs.Known.{Known, Setting}
 use Rattle.dm_eexpr.specs.Operators.{row_at, operator_of_row, sign_of_row}
 use Rattle.dm_eexpr.specs.Conversions.{made, is_complete, complete_target, promoted}
@@ -32,23 +32,23 @@ pub value-sound : (known : Known) (tree : Tree) → IsSoundValue known tree → 
 value-sound known tree sound =
     ((both-hold (not (is_lvalue tree)) (not (is_statement (label_of tree))) sound.0).1, (λ h. sound.1), sound.2, sound.3)
 
-module _ (setting : Setting) (known : Known) (span : Span) where
+module _ (setting : Setting) (known : Known) (span : Extent) where
   pub operation-gives : (a b : Tree) (found : Option Op) → IsSoundValue known a → IsSoundValue known b → Gives known IsSoundValue (typed_operation setting known span a b found)
   operation-gives a b None sound other = tt
   operation-gives a b (Some op) sound other =
-      given-if known IsSoundValue (operated known op a b) (rule_of op) span.first _
+      given-if known IsSoundValue (operated known op a b) (rule_of op) span.inner.first _
       (λ one h. let fits = operated-fits known op a b sound other one h in
       (refl, (refl, fits.3, fits.4, ((fits.0.0, fits.1.0, fits.2), (fits.0.3, (fits.1.3, tt))))))
 
   both-gives : (a b : Tree) → IsSoundValue known a → IsSoundValue known b → Gives known IsSoundValue (typed_logic setting known span label.both a b)
   both-gives a b sound other =
-      obeyed known IsSoundValue (is_scalar (kind_of a) && is_scalar (kind_of b)) 26 span.first _
+      obeyed known IsSoundValue (is_scalar (kind_of a) && is_scalar (kind_of b)) 26 span.inner.first _
       (λ h. let parts = both-hold (is_scalar (kind_of a)) (is_scalar (kind_of b)) h in
       (refl, (refl, refl, tt, (((sound.0, parts.0), (other.0, parts.1), refl), (sound.3, (other.3, tt))))))
 
   either-gives : (a b : Tree) → IsSoundValue known a → IsSoundValue known b → Gives known IsSoundValue (typed_logic setting known span label.either a b)
   either-gives a b sound other =
-      obeyed known IsSoundValue (is_scalar (kind_of a) && is_scalar (kind_of b)) 26 span.first _
+      obeyed known IsSoundValue (is_scalar (kind_of a) && is_scalar (kind_of b)) 26 span.inner.first _
       (λ h. let parts = both-hold (is_scalar (kind_of a)) (is_scalar (kind_of b)) h in
       (refl, (refl, refl, tt, (((sound.0, parts.0), (other.0, parts.1), refl), (sound.3, (other.3, tt))))))
 
@@ -67,15 +67,15 @@ module _ (setting : Setting) (known : Known) (span : Span) where
 
   pub follow-gives : (operand : Tree) → IsSoundValue known operand → Gives known IsSound (typed_follow setting known span operand)
   follow-gives operand sound =
-      given-if known IsSound (complete_target known (kind_of operand)) 15 span.first _ (λ to h. (refl, follow-sound operand to sound h))
+      given-if known IsSound (complete_target known (kind_of operand)) 15 span.inner.first _ (λ to h. (refl, follow-sound operand to sound h))
 
   pub address-gives : (operand : Tree) → IsSound known operand → Gives known IsSoundValue (typed_address setting known span operand)
   address-gives operand sound =
-      obeyed known IsSoundValue (is_lvalue operand) 14 span.first _ (λ h. (refl, (refl, refl, sound.2, ((h, refl), (sound.3, tt)))))
+      obeyed known IsSoundValue (is_lvalue operand) 14 span.inner.first _ (λ h. (refl, (refl, refl, sound.2, ((h, refl), (sound.3, tt)))))
 
   pub sizeof-gives : (operand : Tree) → IsSound known operand → Gives known IsSoundValue (typed_sizeof setting known span operand)
   sizeof-gives operand sound =
-      obeyed known IsSoundValue (is_complete known (kind_of operand)) 17 span.first _
+      obeyed known IsSoundValue (is_complete known (kind_of operand)) 17 span.inner.first _
       (λ h. (refl, (refl, refl, tt, ((sound.0, h, refl), (sound.3, tt)))))
 
   indexed-sound : (a b : Tree) (type : CType) (found : Option CType) → IsSoundValue known a → IsSoundValue known b
@@ -88,7 +88,7 @@ module _ (setting : Setting) (known : Known) (span : Span) where
 
   pub index-gives : (a b : Tree) → IsSoundValue known a → IsSoundValue known b → Gives known IsSound (typed_index setting known span a b)
   index-gives a b sound other =
-      given-if known IsSound (indexed known (kind_of a) (kind_of b)) 11 span.first _
+      given-if known IsSound (indexed known (kind_of a) (kind_of b)) 11 span.inner.first _
       (λ type h. (refl, indexed-sound a b type (complete_target known type) sound other refl h))
 
   promoted-sign : (sign : Sign) (operand : Tree) (one : Tree × CType)
@@ -123,8 +123,8 @@ module _ (setting : Setting) (known : Known) (span : Span) where
 
   pub sign-gives : (operator : ℕ) (operand : Tree) → IsSoundValue known operand → Gives known IsSoundValue (typed_sign setting known span operator operand)
   sign-gives operator operand sound =
-      given-if known IsSoundValue (option_and_then sign_of_row (row_at setting.source operator)) 16 span.first _
-      (λ sign e. given-if known IsSoundValue (signed sign operand) 16 span.first _ (λ one h. (refl, signed-sound sign operand one sound h)))
+      given-if known IsSoundValue (option_and_then sign_of_row (row_at setting.source operator)) 16 span.inner.first _
+      (λ sign e. given-if known IsSoundValue (signed sign operand) 16 span.inner.first _ (λ one h. (refl, signed-sound sign operand one sound h)))
 
   comma-sound : (first : Tree) (others : List Tree) → IsSoundValue known first → AreSound known others → IsSoundValue known (comma_tree setting span first others)
   comma-sound first [] sound all = sound

@@ -4,6 +4,7 @@ use Rattle.std.proofs.Common.{sym, ap, ◌∙◌, subst, arith, ⊎_elim, length
 use Rattle.dm_token.specs.declared.place.Span.{Span}
 use Rattle.dm_int.specs.declared.Kind.TheVariants as k
 use Rattle.dm_type.specs.declared.shape.Content.{Content}
+use Rattle.dm_type.specs.declared.shape.Member.{Member}
 use Rattle.dm_type.specs.declared.shape.Struct.{Struct as StructEntry}
 use Rattle.dm_type.specs.CTypes.{CType, integer, struct}
 use Rattle.dm_type.specs.Layouts.{struct_layout, contained}
@@ -187,8 +188,9 @@ pub struct-ends : (known behind : Known) (span : Span) (number : Option ℕ) →
     → GivesMore known IsType (after outcome (λ last members. struct_ended last span number known.begun members))
 struct-ends known behind span number starts (broken rule at) h = tt
 struct-ends known behind span None starts (given last members) h = tt
-struct-ends known behind span (Some at) starts (given last members) h =
-    go (is_some (struct_layout last.types (fields last.types members))) refl
+struct-ends known behind span (Some at) starts (given last []) h = tt
+struct-ends known behind span (Some at) starts (given last (first ∷ rest)) h =
+    go (fields last.types (first ∷ rest)) (is_some (struct_layout last.types (fields last.types (first ∷ rest)))) refl
   where
     among : (other : ℕ) → is_among other (at ∷ behind.begun) ≡ true → (other < length last.types.structs) × (content_of last.types other ≡ None)
     among other is = h.1.begun other (ap (is_among other) h.2 ∙ is)
@@ -204,17 +206,16 @@ struct-ends known behind span (Some at) starts (given last members) h =
         let it = among other (or-right (other == at) (is_among other behind.begun) (ap (is_among other) starts.grown.begun ∙ is)) in
         (starts.fresh at refl other is, it.0, it.1)
 
-    go : (test : Bool) → is_some (struct_layout last.types (fields last.types members)) ≡ test
+    go : (all : List Member) (test : Bool) → is_some (struct_layout last.types all) ≡ test
         → GivesMore known IsType
-        (obeys test 5 span.first
-        (given (record last { types = with_content last.types at (contained last.types (fields last.types members)); begun = known.begun }) (struct at)))
-    go true fits =
-        let grown = knows-members last h.1 at here.0 here.1 (fields last.types members) fits known.begun in
+        (obeys test 5 span.first (given (record last { types = with_content last.types at (contained last.types all); begun = known.begun }) (struct at)))
+    go all true fits =
+        let grown = knows-members last h.1 at here.0 here.1 all fits known.begun in
         let longer = grown.structs in
         let under = here.0 in (
-          knows-through known last (with-members last h.1 at here.0 here.1 (fields last.types members) fits known.begun) more grown,
-          sound-members last h.1 at here.0 here.1 (fields last.types members) fits known.begun others,
+          knows-through known last (with-members last h.1 at here.0 here.1 all fits known.begun) more grown,
+          sound-members last h.1 at here.0 here.1 all fits known.begun others,
           refl,
           (tt, λ n e. let same = injected at n e in omega (arith, same, under, longer)),
         )
-    go false fits = tt
+    go all false fits = tt

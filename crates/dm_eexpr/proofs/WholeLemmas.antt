@@ -20,11 +20,12 @@ use Rattle.dm_syn.specs.Trees as tree
 use Rattle.dm_tree.specs.Scenes.{IsConstant}
 use Rattle.dm_tree.specs.Trees.{Tree}
 use Rattle.dm_tree.specs.Units.{Declaration}
+use Rattle.dm_eexpr.specs.declared.extent.Extent.{Extent}
 use Rattle.dm_eexpr.specs.Known.{Known, Setting, Outcome, given, after, with_it, obeys, if_given, meaning_of}
 use Rattle.dm_eexpr.specs.Operators.{keyword_at}
-use Rattle.dm_eexpr.specs.Conversions.{is_complete, widened, as_value}
+use Rattle.dm_eexpr.specs.Conversions.{is_complete, as_value}
 use Rattle.dm_eexpr.specs.Specifiers.{Said, nothing_said, with_word, with_type, Where, elsewhere}
-use Rattle.dm_eexpr.specs.Typing.{constant_tree, literal_tree, typed_index, typed_member, typed_arrow, typed_count, typed_prefix, typed_sizeof, typed_sizeof_name, typed_cast, typed_binary, typed_choice, typed_assignment, typed_call, comma_of, tag_declared, tag_inside, tag_seen, with_new_struct, struct_begun, beginning, TypedMember, is_named, name_of, typed_field, TypedParameter, Step, arraying, calling, derived, direct_at, length_of, without_void, typed_parameter, parameter_at, entered, left, TypedName, typed, typed_values, typed_name, typed_specifiers, words_said, word_said, fields_of, fields_declared, fields_with, enumerators_of, enumerator_of, steps_of, direct_steps, parameters_of, parameter_of}
+use Rattle.dm_eexpr.specs.Typing.{constant_tree, literal_tree, typed_index, typed_member, typed_arrow, typed_count, typed_prefix, typed_sizeof, typed_sizeof_name, typed_cast, typed_binary, typed_choice, typed_assignment, typed_call, comma_of, tag_declared, tag_inside, tag_seen, with_new_struct, struct_begun, beginning, TypedMember, is_named, name_of, typed_field, TypedParameter, Step, arraying, calling, derived, direct_at, length_of, without_void, typed_parameter, parameter_at, entered, left, TypedName, extent, typed, typed_within, typed_values, typed_name, typed_specifiers, words_said, word_said, fields_of, fields_declared, fields_with, enumerators_of, enumerator_of, steps_of, direct_steps, parameters_of, parameter_of}
 use Rattle.dm_eexpr.specs.Sound.{AreTypes, AreSteps, IsType, IsSoundKnown, scene_of, AreSoundTokens, IsSound, AreSound, IsTypedName, Gives, GivesMore}
 use Rattle.dm_eexpr.proofs.ConversionLemmas.{bare-again, bare-proper}
 use Rattle.dm_eexpr.proofs.MemberLemmas.{member-gives, arrow-gives}
@@ -35,7 +36,6 @@ use Rattle.dm_eexpr.proofs.ChoiceLemmas.{choice-gives}
 use Rattle.dm_eexpr.proofs.RuleLemmas.{value-sound, binary-gives, comma-gives, sizeof-gives, index-gives}
 use Rattle.dm_eexpr.proofs.WriteLemmas.{as-value-sound, gives-sound, assignment-gives, count-gives, prefix-gives}
 use Rattle.dm_eexpr.proofs.GrowthLemmas.{sound-stays, constants-sound-stay}
-use Rattle.dm_eexpr.proofs.ParenthesisLemmas.{widened-sound}
 use Rattle.dm_eexpr.proofs.StructLemmas.{layered-all}
 use Rattle.dm_eexpr.proofs.KnownLemmas.{Any, knows-through, type-stays, stays-so, gives-more, from-more, after-more, with-more, obeys-more, if-more, IsFound, found-entry, meaning-found, length-more, implied-more, valued-more}
 use Rattle.dm_eexpr.proofs.DerivedLemmas.{SaidFits, said-stays, word-fits, type-fits, said-more, steps-stay, pointers-fit, declarator-gives, type-gives, IsParameterType, AreParameterTypes, parameter-gives, without-void-fits, entered-sound, left-more, name-gives}
@@ -59,13 +59,13 @@ seen-constant symbol.Identifier true h = absurd (cc)
 seen-constant symbol.Identifier false h = absurd (cc)
 seen-constant it names_type h = h
 
-constant-stands : (setting : Setting) → AreSoundTokens setting.source.tokens → (known : Known) (span : Span) → symbol_at setting.source span.first ≡ symbol.Constant
-    → IsSound known (constant_tree setting span (slice_get setting.source.tokens span.first))
+constant-stands : (setting : Setting) → AreSoundTokens setting.source.tokens → (known : Known) (span : Extent) (at : ℕ) → symbol_at setting.source at ≡ symbol.Constant
+    → IsSound known (constant_tree setting span (slice_get setting.source.tokens at))
 unfolding symbol_at
-constant-stands setting tokens known span h = go (slice_get setting.source.tokens span.first) refl h
+constant-stands setting tokens known span at h = go (slice_get setting.source.tokens at) refl h
   where
-    go : (found : Option CToken) → slice_get setting.source.tokens span.first ≡ found → symbol_of_token found ≡ symbol.Constant → IsSound known (constant_tree setting span found)
-    go (Some token) e h = value-sound known (constant_tree setting span (Some token)) (constant-sound setting known span token (tokens span.first token e h))
+    go : (found : Option CToken) → slice_get setting.source.tokens at ≡ found → symbol_of_token found ≡ symbol.Constant → IsSound known (constant_tree setting span found)
+    go (Some token) e h = value-sound known (constant_tree setting span (Some token)) (constant-sound setting known span token (tokens at token e h))
     go None e h = absurd (cc)
 
 constant-in : (source : Source) (names : List Declared) (at : ℕ) → symbol_in source names at ≡ symbol.Constant → symbol_at source at ≡ symbol.Constant
@@ -101,7 +101,7 @@ three-give known one other another next h others rest step =
     (step behind first second third fine (sound-stays then_more behind last still.complete first (sound-stays then_known then_more further sound.complete first is))
     (sound-stays then_more behind last still.complete second is-second) is-third))))
 
-call-more : (setting : Setting) (known : Known) (span : Span) (callee : Expr) (one : Outcome Tree) (all : Known → Outcome (List Tree)) → GivesMore known IsSound one
+call-more : (setting : Setting) (known : Known) (span : Extent) (callee : Expr) (one : Outcome Tree) (all : Known → Outcome (List Tree)) → GivesMore known IsSound one
     → ((behind : Known) → IsSoundKnown behind → GivesMore behind AreSound (all behind))
     → GivesMore known IsSound (after one (λ then_known first. after (all then_known) (λ behind values. typed_call setting behind span callee first values)))
 call-more setting known span callee one all h others =
@@ -109,13 +109,13 @@ call-more setting known span callee one all h others =
     (λ behind values further still are. gives-more behind IsSound _ still
     (gives-sound behind _ (call-gives setting behind span callee first values (sound-stays then_known behind further sound.complete first is) are))))
 
-comma-more : (setting : Setting) (known : Known) (span : Span) (all : Outcome (List Tree)) → GivesMore known AreSound all
-    → GivesMore known IsSound (after all (λ behind values. if_given (comma_of setting span values) 1 span.first (λ made. given behind made)))
+comma-more : (setting : Setting) (known : Known) (span : Extent) (all : Outcome (List Tree)) → GivesMore known AreSound all
+    → GivesMore known IsSound (after all (λ behind values. if_given (comma_of setting span values) 1 span.inner.first (λ made. given behind made)))
 comma-more setting known span all h =
-    after-more known AreSound IsSound all _ h (λ behind values more sound are. if-more behind IsSound (comma_of setting span values) 1 span.first _
+    after-more known AreSound IsSound all _ h (λ behind values more sound are. if-more behind IsSound (comma_of setting span values) 1 span.inner.first _
     (λ made e. stays-so behind IsSound made sound (value-sound behind made (comma-gives setting behind span values are made e))))
 
-cast-more : (setting : Setting) (known : Known) (span : Span) (name : Outcome TypedName) (operand : Known → Outcome Tree) → GivesMore known IsTypedName name
+cast-more : (setting : Setting) (known : Known) (span : Extent) (name : Outcome TypedName) (operand : Known → Outcome Tree) → GivesMore known IsTypedName name
     → ((behind : Known) → IsSoundKnown behind → GivesMore behind IsSound (operand behind))
     → GivesMore known IsSound
     (after name (λ then_known named. after (operand then_known) (λ behind made. typed_cast setting behind span (bare named.kind) named.constants (as_value made))))
@@ -125,7 +125,7 @@ cast-more setting known span name operand h others =
     (gives-sound behind _ (cast-gives setting behind span (bare named.kind) named.constants (as_value made) (sym (bare-again named.kind is.0)) (bare-proper named.kind is.0)
     (constants-sound-stay then_known behind further sound.complete named.constants is.1) (as-value-sound behind made is-made)))))
 
-size-more : (setting : Setting) (known : Known) (span : Span) (name : Outcome TypedName) → GivesMore known IsTypedName name
+size-more : (setting : Setting) (known : Known) (span : Extent) (name : Outcome TypedName) → GivesMore known IsTypedName name
     → GivesMore known IsSound (after name (λ behind named. typed_sizeof_name setting behind span named.kind named.constants))
 size-more setting known span name h =
     after-more known IsTypedName IsSound name _ h (λ behind named more sound is. gives-more behind IsSound _ sound
@@ -225,89 +225,89 @@ bared-sound known sound = record { entries = sound.entries; complete = sound.com
 
 module _ (setting : Setting) (tokens : AreSoundTokens setting.source.tokens) where
   mutual
-    unfolding typed typed_values typed_name typed_specifiers words_said word_said fields_of fields_declared fields_with enumerators_of enumerator_of steps_of direct_steps parameters_of parameter_of IsExpr AreArguments AreMoreExprs IsTypeName IsSpecifiers AreWords IsSpecifier AreMembers IsMember AreMoreDeclarators AreMoreEnumerators IsEnumerator IsDeclarator IsDirect AreParameters AreMoreParameters IsParameter
+    unfolding typed_within typed_values typed_name typed_specifiers words_said word_said fields_of fields_declared fields_with enumerators_of enumerator_of steps_of direct_steps parameters_of parameter_of IsExpr AreArguments AreMoreExprs IsTypeName IsSpecifiers AreWords IsSpecifier AreMembers IsMember AreMoreDeclarators AreMoreEnumerators IsEnumerator IsDeclarator IsDirect AreParameters AreMoreParameters IsParameter
 
     -- 6.5
-    pub expr-more : (used : Bool) (known : Known) (names : List Declared) (expr : Expr) → IsExpr setting.source names expr → IsSoundKnown known
-        → GivesMore known IsSound (typed setting used known expr)
-    expr-more used known names (tree.name span) h sound =
+    pub expr-more : (used : Bool) (known : Known) (names : List Declared) (outer : Span) (expr : Expr) → IsExpr setting.source names expr → IsSoundKnown known
+        → GivesMore known IsSound (typed_within setting used known outer expr)
+    expr-more used known names outer (tree.name span) h sound =
         gives-more known IsSound _ sound
-        (named-gives setting known span (λ at entry e. let it = sound.entries at entry e in (it.0, it.1.0)) used (spelling_at setting.source span.first)
+        (named-gives setting known (extent span outer) (λ at entry e. let it = sound.entries at entry e in (it.0, it.1.0)) used (spelling_at setting.source span.first)
         (meaning_of known (spelling_at setting.source span.first)) refl)
-    expr-more used known names (tree.constant span) h sound =
-        stays-so known IsSound (constant_tree setting span (slice_get setting.source.tokens span.first)) sound (constant-stands setting tokens known span (constant-in setting.source names span.first h.0))
-    expr-more used known names (tree.literal span) h sound =
-        stays-so known IsSound (literal_tree setting span (spelling_at setting.source span.first)) sound (literal-sound setting known span (spelling_at setting.source span.first))
-    expr-more used known names (tree.paren span inner) h sound =
-        with-more known IsSound IsSound (typed setting used known inner) (λ behind made. widened span made) (expr-more used known _ inner h.2 sound)
-        (λ behind made more still is. widened-sound behind span made is)
-    expr-more used known names (tree.index span a b) h sound =
+    expr-more used known names outer (tree.constant span) h sound =
+        stays-so known IsSound (constant_tree setting (extent span outer) (slice_get setting.source.tokens span.first)) sound
+        (constant-stands setting tokens known (extent span outer) span.first (constant-in setting.source names span.first h.0))
+    expr-more used known names outer (tree.literal span) h sound =
+        stays-so known IsSound (literal_tree setting (extent span outer) (spelling_at setting.source span.first)) sound
+        (literal-sound setting known (extent span outer) (spelling_at setting.source span.first))
+    expr-more used known names outer (tree.paren span inner) h sound = expr-more used known _ outer inner h.2 sound
+    expr-more used known names outer (tree.index span a b) h sound =
         two-give known (typed setting used known a) (λ then_known. typed setting used then_known b)
-        (λ behind first second. typed_index setting behind span (as_value first) (as_value second)) (expr-more used known _ a h.1 sound)
-        (λ then_known still. expr-more used then_known _ b h.5 still)
-        (λ behind first second still one other. index-gives setting behind span (as_value first) (as_value second) (as-value-sound behind first one) (as-value-sound behind second other))
-    expr-more used known names (tree.call span callee arguments) h sound =
-        call-more setting known span callee (typed setting used known callee) (λ then_known. typed_values setting used then_known arguments)
-        (expr-more used known _ callee h.1 sound) (λ then_known still. arguments-more used then_known _ _ arguments h.4 still)
-    expr-more used known names (tree.member span whole name) h sound =
-        one-gives known (typed setting used known whole) (λ behind made. typed_member setting behind span name made) (expr-more used known _ whole h.1 sound)
-        (λ behind made still is. member-gives setting behind span (table-proper behind.types) name made is)
-    expr-more used known names (tree.arrow span operand name) h sound =
-        one-gives known (typed setting used known operand) (λ behind made. typed_arrow setting behind span name (as_value made)) (expr-more used known _ operand h.1 sound)
-        (λ behind made still is. arrow-gives setting behind span (table-proper behind.types) name (as_value made) (as-value-sound behind made is))
-    expr-more used known names (tree.postfix span operand operator) h sound =
-        one-gives known (typed setting used known operand) (λ behind made. typed_count setting behind span operator false made) (expr-more used known _ operand h.1 sound)
-        (λ behind made still is. gives-sound behind _ (count-gives setting behind span (layered-all behind still) operator false made is))
-    expr-more used known names (tree.prefix span operator operand) h sound =
-        one-gives known (typed setting used known operand) (λ behind made. typed_prefix setting behind span operator made (symbol_at setting.source operator))
-        (expr-more used known _ operand h.2 sound)
-        (λ behind made still is. prefix-gives setting behind span (layered-all behind still) operator made (symbol_at setting.source operator) is)
-    expr-more used known names (tree.sizeof_expr span operand) h sound =
-        one-gives known (typed setting false known operand) (λ behind made. typed_sizeof setting behind span made) (expr-more false known _ operand h.2 sound)
-        (λ behind made still is. gives-sound behind _ (sizeof-gives setting behind span made is))
-    expr-more used known names (tree.sizeof_name span name) h sound =
-        size-more setting known span (typed_name setting false known name) (name-more false known _ name h.3 sound)
-    expr-more used known names (tree.cast span name operand) h sound =
-        cast-more setting known span (typed_name setting used known name) (λ then_known. typed setting used then_known operand) (name-more used known _ name h.2 sound)
-        (λ then_known still. expr-more used then_known _ operand h.5 still)
-    expr-more used known names (tree.binary span a operator b) h sound =
+        (λ behind first second. typed_index setting behind (extent span outer) (as_value first) (as_value second)) (expr-more used known _ (expr_span a) a h.1 sound)
+        (λ then_known still. expr-more used then_known _ (expr_span b) b h.5 still)
+        (λ behind first second still one other. index-gives setting behind (extent span outer) (as_value first) (as_value second) (as-value-sound behind first one) (as-value-sound behind second other))
+    expr-more used known names outer (tree.call span callee arguments) h sound =
+        call-more setting known (extent span outer) callee (typed setting used known callee) (λ then_known. typed_values setting used then_known arguments)
+        (expr-more used known _ (expr_span callee) callee h.1 sound) (λ then_known still. arguments-more used then_known _ _ arguments h.4 still)
+    expr-more used known names outer (tree.member span whole name) h sound =
+        one-gives known (typed setting used known whole) (λ behind made. typed_member setting behind (extent span outer) name made) (expr-more used known _ (expr_span whole) whole h.1 sound)
+        (λ behind made still is. member-gives setting behind (extent span outer) (table-proper behind.types) name made is)
+    expr-more used known names outer (tree.arrow span operand name) h sound =
+        one-gives known (typed setting used known operand) (λ behind made. typed_arrow setting behind (extent span outer) name (as_value made)) (expr-more used known _ (expr_span operand) operand h.1 sound)
+        (λ behind made still is. arrow-gives setting behind (extent span outer) (table-proper behind.types) name (as_value made) (as-value-sound behind made is))
+    expr-more used known names outer (tree.postfix span operand operator) h sound =
+        one-gives known (typed setting used known operand) (λ behind made. typed_count setting behind (extent span outer) operator false made) (expr-more used known _ (expr_span operand) operand h.1 sound)
+        (λ behind made still is. gives-sound behind _ (count-gives setting behind (extent span outer) (layered-all behind still) operator false made is))
+    expr-more used known names outer (tree.prefix span operator operand) h sound =
+        one-gives known (typed setting used known operand) (λ behind made. typed_prefix setting behind (extent span outer) operator made (symbol_at setting.source operator))
+        (expr-more used known _ (expr_span operand) operand h.2 sound)
+        (λ behind made still is. prefix-gives setting behind (extent span outer) (layered-all behind still) operator made (symbol_at setting.source operator) is)
+    expr-more used known names outer (tree.sizeof_expr span operand) h sound =
+        one-gives known (typed setting false known operand) (λ behind made. typed_sizeof setting behind (extent span outer) made) (expr-more false known _ (expr_span operand) operand h.2 sound)
+        (λ behind made still is. gives-sound behind _ (sizeof-gives setting behind (extent span outer) made is))
+    expr-more used known names outer (tree.sizeof_name span name) h sound =
+        size-more setting known (extent span outer) (typed_name setting false known name) (name-more false known _ name h.3 sound)
+    expr-more used known names outer (tree.cast span name operand) h sound =
+        cast-more setting known (extent span outer) (typed_name setting used known name) (λ then_known. typed setting used then_known operand) (name-more used known _ name h.2 sound)
+        (λ then_known still. expr-more used then_known _ (expr_span operand) operand h.5 still)
+    expr-more used known names outer (tree.binary span a operator b) h sound =
         two-give known (typed setting used known a) (λ then_known. typed setting used then_known b)
-        (λ behind first second. typed_binary setting behind span operator (as_value first) (as_value second) (symbol_at setting.source operator)) (expr-more used known _ a h.1 sound)
-        (λ then_known still. expr-more used then_known _ b h.6 still)
+        (λ behind first second. typed_binary setting behind (extent span outer) operator (as_value first) (as_value second) (symbol_at setting.source operator)) (expr-more used known _ (expr_span a) a h.1 sound)
+        (λ then_known still. expr-more used then_known _ (expr_span b) b h.6 still)
         (λ behind first second still one other. gives-sound behind _
-        (binary-gives setting behind span operator (as_value first) (as_value second) (symbol_at setting.source operator) (as-value-sound behind first one) (as-value-sound behind second other)))
-    expr-more used known names (tree.conditional span a b c) h sound =
+        (binary-gives setting behind (extent span outer) operator (as_value first) (as_value second) (symbol_at setting.source operator) (as-value-sound behind first one) (as-value-sound behind second other)))
+    expr-more used known names outer (tree.conditional span a b c) h sound =
         three-give known (typed setting used known a) (λ then_known. typed setting used then_known b) (λ then_more. typed setting used then_more c)
-        (λ behind first second third. typed_choice setting behind span (as_value first) (as_value second) (as_value third)) (expr-more used known _ a h.1 sound)
-        (λ then_known still. expr-more used then_known _ b h.5 still) (λ then_more still. expr-more used then_more _ c h.8 still)
+        (λ behind first second third. typed_choice setting behind (extent span outer) (as_value first) (as_value second) (as_value third)) (expr-more used known _ (expr_span a) a h.1 sound)
+        (λ then_known still. expr-more used then_known _ (expr_span b) b h.5 still) (λ then_more still. expr-more used then_more _ (expr_span c) c h.8 still)
         (λ behind first second third still one other another. gives-sound behind _
-        (choice-gives setting behind span (as_value first) (as_value second) (as_value third) (as-value-sound behind first one) (as-value-sound behind second other)
+        (choice-gives setting behind (extent span outer) (as_value first) (as_value second) (as_value third) (as-value-sound behind first one) (as-value-sound behind second other)
         (as-value-sound behind third another)))
-    expr-more used known names (tree.assign span object operator value) h sound =
+    expr-more used known names outer (tree.assign span object operator value) h sound =
         two-give known (typed setting used known object) (λ then_known. typed setting used then_known value)
-        (λ behind first second. typed_assignment setting behind span operator first (as_value second) (symbol_at setting.source operator)) (expr-more used known _ object h.1 sound)
-        (λ then_known still. expr-more used then_known _ value h.6 still)
+        (λ behind first second. typed_assignment setting behind (extent span outer) operator first (as_value second) (symbol_at setting.source operator)) (expr-more used known _ (expr_span object) object h.1 sound)
+        (λ then_known still. expr-more used then_known _ (expr_span value) value h.6 still)
         (λ behind first second still one other. gives-sound behind _
-        (assignment-gives setting behind span (layered-all behind still) operator first (as_value second) (symbol_at setting.source operator) one (as-value-sound behind second other)))
-    expr-more used known names (tree.comma span tree.no_exprs) h sound = absurd h
-    expr-more used known names (tree.comma span (tree.more_exprs first tree.no_exprs)) h sound = absurd h
-    expr-more used known names (tree.comma span (tree.more_exprs first (tree.more_exprs second others))) h sound =
-        comma-more setting known span (typed_values setting used known (tree.more_exprs first (tree.more_exprs second others)))
+        (assignment-gives setting behind (extent span outer) (layered-all behind still) operator first (as_value second) (symbol_at setting.source operator) one (as-value-sound behind second other)))
+    expr-more used known names outer (tree.comma span tree.no_exprs) h sound = absurd h
+    expr-more used known names outer (tree.comma span (tree.more_exprs first tree.no_exprs)) h sound = absurd h
+    expr-more used known names outer (tree.comma span (tree.more_exprs first (tree.more_exprs second others))) h sound =
+        comma-more setting known (extent span outer) (typed_values setting used known (tree.more_exprs first (tree.more_exprs second others)))
         (values-give known (typed setting used known first) (λ then_known. typed_values setting used then_known (tree.more_exprs second others))
-        (expr-more used known _ first h.1 sound) (λ then_known still. values-more used then_known _ _ (tree.more_exprs second others) h.3 still))
+        (expr-more used known _ (expr_span first) first h.1 sound) (λ then_known still. values-more used then_known _ _ (tree.more_exprs second others) h.3 still))
 
     arguments-more : (used : Bool) (known : Known) (names : List Declared) (at : ℕ) (exprs : Exprs) → AreArguments setting.source names at exprs → IsSoundKnown known
         → GivesMore known AreSound (typed_values setting used known exprs)
     arguments-more used known names at tree.no_exprs h sound = stays-so known AreSound [] sound tt
     arguments-more used known names at (tree.more_exprs first others) h sound =
-        values-give known (typed setting used known first) (λ then_known. typed_values setting used then_known others) (expr-more used known _ first h.1 sound)
+        values-give known (typed setting used known first) (λ then_known. typed_values setting used then_known others) (expr-more used known _ (expr_span first) first h.1 sound)
         (λ then_known still. values-more used then_known _ _ others h.3 still)
 
     values-more : (used : Bool) (known : Known) (names : List Declared) (at : ℕ) (exprs : Exprs) → AreMoreExprs setting.source names at exprs → IsSoundKnown known
         → GivesMore known AreSound (typed_values setting used known exprs)
     values-more used known names at tree.no_exprs h sound = stays-so known AreSound [] sound tt
     values-more used known names at (tree.more_exprs first others) h sound =
-        values-give known (typed setting used known first) (λ then_known. typed_values setting used then_known others) (expr-more used known _ first h.2 sound)
+        values-give known (typed setting used known first) (λ then_known. typed_values setting used then_known others) (expr-more used known _ (expr_span first) first h.2 sound)
         (λ then_known still. values-more used then_known _ _ others h.4 still)
 
     -- 6.7.7
@@ -401,7 +401,7 @@ module _ (setting : Setting) (tokens : AreSoundTokens setting.source.tokens) whe
         → IsSoundKnown known → GivesMore known Any (enumerator_of setting used known last enumerator)
     enumerator-more used known names last (tree.bare span at) h sound = implied-more setting known at (last +ℤ pos 1) sound
     enumerator-more used known names last (tree.valued span at value) h sound =
-        after-more known IsSound Any (typed setting used known value) _ (expr-more used known _ value h.4 sound)
+        after-more known IsSound Any (typed setting used known value) _ (expr-more used known _ (expr_span value) value h.4 sound)
         (λ behind made more still is. valued-more setting behind at (expr_span value).first (as_value made) still (as-value-sound behind made is))
 
     -- 6.7.6
@@ -422,7 +422,7 @@ module _ (setting : Setting) (tokens : AreSoundTokens setting.source.tokens) whe
         (λ behind steps more still fit. (tt, fit))
     direct-more used known names of_parameter at here (tree.sized direct value) h sound =
         sized-gives known here (expr_span value).first (direct_steps setting used known here direct) (λ then_known. typed setting used then_known value)
-        (direct-more used known _ of_parameter _ here direct h.0 sound) (λ then_known still. expr-more used then_known _ value h.3 still)
+        (direct-more used known _ of_parameter _ here direct h.0 sound) (λ then_known still. expr-more used then_known _ (expr_span value) value h.3 still)
     direct-more used known names of_parameter at here (tree.function direct parameters) h sound =
         calling-gives known here (direct_steps setting used known here direct) (λ then_known. parameters_of setting used then_known parameters)
         (direct-more used known _ of_parameter _ here direct h.0 sound) (λ then_known still. parameters-more used then_known _ _ parameters h.2 still)

@@ -14,9 +14,9 @@ use Rattle.dm_syn.specs.Trees.{Expr, Exprs, TypeName, Specifiers, Words, Specifi
 use Rattle.dm_syn.specs.Trees as tree
 use Rattle.dm_tree.specs.Trees.{Tree}
 use Rattle.dm_eexpr.specs.Known.{Known, Setting, Outcome, given, after, with_it, meaning_of}
-use Rattle.dm_eexpr.specs.Conversions.{widened, as_value}
+use Rattle.dm_eexpr.specs.Conversions.{as_value}
 use Rattle.dm_eexpr.specs.Specifiers.{Said, nothing_said, Where, elsewhere}
-use Rattle.dm_eexpr.specs.Typing.{typed_index, typed_member, typed_arrow, typed_count, typed_prefix, typed_sizeof, typed_sizeof_name, typed_cast, typed_binary, typed_choice, typed_assignment, tag_declared, tag_inside, tag_seen, struct_named, with_new_struct, struct_begun, beginning, TypedMember, typed_field, TypedParameter, Step, arraying, calling, derived, pointers, direct_at, length_of, without_void, typed_parameter, parameter_at, entered, left, typed, typed_values, typed_name, typed_specifiers, words_said, word_said, fields_of, fields_declared, fields_with, enumerators_of, enumerator_of, steps_of, direct_steps, parameters_of, parameter_of}
+use Rattle.dm_eexpr.specs.Typing.{typed_index, typed_member, typed_arrow, typed_count, typed_prefix, typed_sizeof, typed_sizeof_name, typed_cast, typed_binary, typed_choice, typed_assignment, tag_declared, tag_inside, tag_seen, struct_named, with_new_struct, struct_begun, beginning, TypedMember, typed_field, TypedParameter, Step, arraying, calling, derived, pointers, direct_at, length_of, without_void, typed_parameter, parameter_at, entered, left, extent, typed, typed_within, typed_values, typed_name, typed_specifiers, words_said, word_said, fields_of, fields_declared, fields_with, enumerators_of, enumerator_of, steps_of, direct_steps, parameters_of, parameter_of}
 use Rattle.dm_eexpr.specs.Sound.{StepsWithin}
 use Rattle.dm_eexpr.proofs.GrowthLemmas.{some-of}
 use Rattle.dm_eexpr.proofs.PlaceLemmas.{Places, Plain, wider, after-places, with-places, if-places, named-here, index-here, member-here, arrow-here, count-here, prefix-here, sizeof-here, sizeof-name-here, cast-here, binary-here, choice-here, assignment-here, call-here, comma-here, struct-here, enum-here, ended-here, said-here, enum-ended-here, implied-places, valued-places, length-places, field-places, steps-wider, derived-places, parameter-places, left-places, name-places}
@@ -279,26 +279,27 @@ parameters-from at behind part one rest low placed others =
 
 module _ (setting : Setting) where
   mutual
-    unfolding typed typed_values typed_name typed_specifiers words_said word_said fields_of fields_declared fields_with enumerators_of enumerator_of steps_of direct_steps parameters_of parameter_of IsExpr AreArguments AreMoreExprs IsTypeName IsSpecifiers AreWords IsSpecifier AreMembers IsMember AreMoreDeclarators AreMoreEnumerators IsEnumerator IsDeclarator IsDirect AreParameters AreMoreParameters IsParameter
+    unfolding typed_within typed_values typed_name typed_specifiers words_said word_said fields_of fields_declared fields_with enumerators_of enumerator_of steps_of direct_steps parameters_of parameter_of IsExpr AreArguments AreMoreExprs IsTypeName IsSpecifiers AreWords IsSpecifier AreMembers IsMember AreMoreDeclarators AreMoreEnumerators IsEnumerator IsDeclarator IsDirect AreParameters AreMoreParameters IsParameter
 
     -- 6.5
-    pub expr-placed : (names : List Declared) (expr : Expr) → IsExpr setting.source names expr → Placed (expr_span expr) (λ used known. typed setting used known expr)
-    expr-placed names (tree.name span) h =
-        let on : span.first < span.after = omega (arith, h.1) in (on, λ used known. named-here span on setting known used (spelling_at setting.source span.first) _)
-    expr-placed names (tree.constant span) h = (omega (arith, h.1), λ used known. tt)
-    expr-placed names (tree.literal span) h = (omega (arith, h.1), λ used known. tt)
-    expr-placed names (tree.paren span inner) h =
-        let one = expr-placed _ inner h.2 in (
+    pub expr-placed : (names : List Declared) (outer : Span) (expr : Expr) → IsExpr setting.source names expr
+        → Placed (expr_span expr) (λ used known. typed_within setting used known outer expr)
+    expr-placed names outer (tree.name span) h =
+        let on : span.first < span.after = omega (arith, h.1) in (on, λ used known. named-here span on setting known outer used (spelling_at setting.source span.first) _)
+    expr-placed names outer (tree.constant span) h = (omega (arith, h.1), λ used known. tt)
+    expr-placed names outer (tree.literal span) h = (omega (arith, h.1), λ used known. tt)
+    expr-placed names outer (tree.paren span inner) h =
+        let one = expr-placed _ outer inner h.2 in (
           omega (arith, h.1, h.4, one.0),
-          λ used known. with-places (expr_span inner).first (expr_span inner).after span.first span.after Plain Plain (typed setting used known inner)
-              (λ behind made. widened span made) (omega (arith, h.1)) (omega (arith, h.4)) (one.1 used known) (λ behind made any. tt),
+          λ used known. wider (expr_span inner).first (expr_span inner).after span.first span.after Plain Plain (typed_within setting used known outer inner)
+              (omega (arith, h.1)) (omega (arith, h.4)) (λ it any. tt) (one.1 used known),
         )
-    expr-placed names (tree.index span a b) h =
+    expr-placed names outer (tree.index span a b) h =
         two-placed span (expr_span a) (expr_span b) (λ used known. typed setting used known a) (λ used known. typed setting used known b)
-        (λ behind x y. typed_index setting behind span (as_value x) (as_value y)) (omega (arith, h.0)) (omega (arith, h.4)) (omega (arith, h.7)) (expr-placed _ a h.1) (expr-placed _ b h.5)
-        (λ on behind x y. index-here span on setting behind (as_value x) (as_value y))
-    expr-placed names (tree.call span callee arguments) h =
-        let one = expr-placed _ callee h.1 in
+        (λ behind x y. typed_index setting behind (extent span outer) (as_value x) (as_value y)) (omega (arith, h.0)) (omega (arith, h.4)) (omega (arith, h.7)) (expr-placed _ (expr_span a) a h.1) (expr-placed _ (expr_span b) b h.5)
+        (λ on behind x y. index-here span on setting behind outer (as_value x) (as_value y))
+    expr-placed names outer (tree.call span callee arguments) h =
+        let one = expr-placed _ (expr_span callee) callee h.1 in
         let all = arguments-placed _ _ arguments h.4 in
         let on : span.first < span.after = omega (arith, h.0, h.6, one.0, all.0) in (
           on,
@@ -306,56 +307,56 @@ module _ (setting : Setting) where
               (omega (arith, h.0)) (omega (arith, h.6, all.0)) (one.1 used known)
               (λ then_known first any. after-places ((expr_span callee).after + 1) (exprs_after ((expr_span callee).after + 1) arguments) span.first span.after Plain Plain
               (typed_values setting used then_known arguments) _ (omega (arith, h.0, one.0)) (omega (arith, h.6)) (all.1 used then_known)
-              (λ behind values any. call-here span on setting behind callee first values)),
+              (λ behind values any. call-here span on setting behind outer callee first values)),
         )
-    expr-placed names (tree.member span whole name) h =
-        one-placed span (expr_span whole) (λ used known. typed setting used known whole) (λ behind made. typed_member setting behind span name made)
-        (omega (arith, h.0)) (omega (arith, h.4, h.6)) (expr-placed _ whole h.1) (λ on behind made. member-here span on setting behind name made)
-    expr-placed names (tree.arrow span operand name) h =
-        one-placed span (expr_span operand) (λ used known. typed setting used known operand) (λ behind made. typed_arrow setting behind span name (as_value made))
-        (omega (arith, h.0)) (omega (arith, h.4, h.6)) (expr-placed _ operand h.1) (λ on behind made. arrow-here span on setting behind name (as_value made))
-    expr-placed names (tree.postfix span operand operator) h =
-        one-placed span (expr_span operand) (λ used known. typed setting used known operand) (λ behind made. typed_count setting behind span operator false made)
-        (omega (arith, h.0)) (omega (arith, h.3, h.5)) (expr-placed _ operand h.1) (λ on behind made. count-here span on setting behind operator false made)
-    expr-placed names (tree.prefix span operator operand) h =
+    expr-placed names outer (tree.member span whole name) h =
+        one-placed span (expr_span whole) (λ used known. typed setting used known whole) (λ behind made. typed_member setting behind (extent span outer) name made)
+        (omega (arith, h.0)) (omega (arith, h.4, h.6)) (expr-placed _ (expr_span whole) whole h.1) (λ on behind made. member-here span on setting behind outer name made)
+    expr-placed names outer (tree.arrow span operand name) h =
+        one-placed span (expr_span operand) (λ used known. typed setting used known operand) (λ behind made. typed_arrow setting behind (extent span outer) name (as_value made))
+        (omega (arith, h.0)) (omega (arith, h.4, h.6)) (expr-placed _ (expr_span operand) operand h.1) (λ on behind made. arrow-here span on setting behind outer name (as_value made))
+    expr-placed names outer (tree.postfix span operand operator) h =
+        one-placed span (expr_span operand) (λ used known. typed setting used known operand) (λ behind made. typed_count setting behind (extent span outer) operator false made)
+        (omega (arith, h.0)) (omega (arith, h.3, h.5)) (expr-placed _ (expr_span operand) operand h.1) (λ on behind made. count-here span on setting behind outer operator false made)
+    expr-placed names outer (tree.prefix span operator operand) h =
         one-placed span (expr_span operand) (λ used known. typed setting used known operand)
-        (λ behind made. typed_prefix setting behind span operator made (symbol_at setting.source operator))
-        (omega (arith, h.0, h.1)) (omega (arith, h.4)) (expr-placed _ operand h.2)
-        (λ on behind made. prefix-here span on setting behind operator made (symbol_at setting.source operator))
-    expr-placed names (tree.sizeof_expr span operand) h =
-        let one = expr-placed _ operand h.2 in
-        one-placed span (expr_span operand) (λ used known. typed setting false known operand) (λ behind made. typed_sizeof setting behind span made)
-        (omega (arith, h.1)) (omega (arith, h.4)) (one.0, λ used known. one.1 false known) (λ on behind made. sizeof-here span on setting behind made)
-    expr-placed names (tree.sizeof_name span name) h =
+        (λ behind made. typed_prefix setting behind (extent span outer) operator made (symbol_at setting.source operator))
+        (omega (arith, h.0, h.1)) (omega (arith, h.4)) (expr-placed _ (expr_span operand) operand h.2)
+        (λ on behind made. prefix-here span on setting behind outer operator made (symbol_at setting.source operator))
+    expr-placed names outer (tree.sizeof_expr span operand) h =
+        let one = expr-placed _ (expr_span operand) operand h.2 in
+        one-placed span (expr_span operand) (λ used known. typed setting false known operand) (λ behind made. typed_sizeof setting behind (extent span outer) made)
+        (omega (arith, h.1)) (omega (arith, h.4)) (one.0, λ used known. one.1 false known) (λ on behind made. sizeof-here span on setting behind outer made)
+    expr-placed names outer (tree.sizeof_name span name) h =
         let one = name-placed _ name h.3 in
         one-placed span (type_name_span name) (λ used known. typed_name setting false known name)
-        (λ behind named. typed_sizeof_name setting behind span named.kind named.constants)
+        (λ behind named. typed_sizeof_name setting behind (extent span outer) named.kind named.constants)
         (omega (arith, h.2)) (omega (arith, h.5)) (one.0, λ used known. one.1 false known)
-        (λ on behind named. sizeof-name-here span on setting behind named.kind named.constants)
-    expr-placed names (tree.cast span name operand) h =
+        (λ on behind named. sizeof-name-here span on setting behind outer named.kind named.constants)
+    expr-placed names outer (tree.cast span name operand) h =
         two-placed span (type_name_span name) (expr_span operand) (λ used known. typed_name setting used known name) (λ used known. typed setting used known operand)
-        (λ behind named made. typed_cast setting behind span (bare named.kind) named.constants (as_value made)) (omega (arith, h.1)) (omega (arith, h.4)) (omega (arith, h.7))
-        (name-placed _ name h.2) (expr-placed _ operand h.5)
-        (λ on behind named made. cast-here span on setting behind (bare named.kind) named.constants (as_value made))
-    expr-placed names (tree.binary span a operator b) h =
+        (λ behind named made. typed_cast setting behind (extent span outer) (bare named.kind) named.constants (as_value made)) (omega (arith, h.1)) (omega (arith, h.4)) (omega (arith, h.7))
+        (name-placed _ name h.2) (expr-placed _ (expr_span operand) operand h.5)
+        (λ on behind named made. cast-here span on setting behind outer (bare named.kind) named.constants (as_value made))
+    expr-placed names outer (tree.binary span a operator b) h =
         two-placed span (expr_span a) (expr_span b) (λ used known. typed setting used known a) (λ used known. typed setting used known b)
-        (λ behind x y. typed_binary setting behind span operator (as_value x) (as_value y) (symbol_at setting.source operator))
-        (omega (arith, h.0)) (omega (arith, h.2, h.5)) (omega (arith, h.8)) (expr-placed _ a h.1) (expr-placed _ b h.6)
-        (λ on behind x y. binary-here span on setting behind operator (as_value x) (as_value y) (symbol_at setting.source operator))
-    expr-placed names (tree.conditional span a b c) h =
+        (λ behind x y. typed_binary setting behind (extent span outer) operator (as_value x) (as_value y) (symbol_at setting.source operator))
+        (omega (arith, h.0)) (omega (arith, h.2, h.5)) (omega (arith, h.8)) (expr-placed _ (expr_span a) a h.1) (expr-placed _ (expr_span b) b h.6)
+        (λ on behind x y. binary-here span on setting behind outer operator (as_value x) (as_value y) (symbol_at setting.source operator))
+    expr-placed names outer (tree.conditional span a b c) h =
         three-placed span (expr_span a) (expr_span b) (expr_span c) (λ used known. typed setting used known a) (λ used known. typed setting used known b)
-        (λ used known. typed setting used known c) (λ behind x y z. typed_choice setting behind span (as_value x) (as_value y) (as_value z))
-        (omega (arith, h.0)) (omega (arith, h.4)) (omega (arith, h.7)) (omega (arith, h.10)) (expr-placed _ a h.1) (expr-placed _ b h.5) (expr-placed _ c h.8)
-        (λ on behind x y z. choice-here span on setting behind (as_value x) (as_value y) (as_value z))
-    expr-placed names (tree.assign span object operator value) h =
+        (λ used known. typed setting used known c) (λ behind x y z. typed_choice setting behind (extent span outer) (as_value x) (as_value y) (as_value z))
+        (omega (arith, h.0)) (omega (arith, h.4)) (omega (arith, h.7)) (omega (arith, h.10)) (expr-placed _ (expr_span a) a h.1) (expr-placed _ (expr_span b) b h.5) (expr-placed _ (expr_span c) c h.8)
+        (λ on behind x y z. choice-here span on setting behind outer (as_value x) (as_value y) (as_value z))
+    expr-placed names outer (tree.assign span object operator value) h =
         two-placed span (expr_span object) (expr_span value) (λ used known. typed setting used known object) (λ used known. typed setting used known value)
-        (λ behind x y. typed_assignment setting behind span operator x (as_value y) (symbol_at setting.source operator))
-        (omega (arith, h.0)) (omega (arith, h.3, h.5)) (omega (arith, h.8)) (expr-placed _ object h.1) (expr-placed _ value h.6)
-        (λ on behind x y. assignment-here span on setting behind operator x (as_value y) (symbol_at setting.source operator))
-    expr-placed names (tree.comma span tree.no_exprs) h = absurd h
-    expr-placed names (tree.comma span (tree.more_exprs first tree.no_exprs)) h = absurd h
-    expr-placed names (tree.comma span (tree.more_exprs first (tree.more_exprs second others))) h =
-        let one = expr-placed _ first h.1 in
+        (λ behind x y. typed_assignment setting behind (extent span outer) operator x (as_value y) (symbol_at setting.source operator))
+        (omega (arith, h.0)) (omega (arith, h.3, h.5)) (omega (arith, h.8)) (expr-placed _ (expr_span object) object h.1) (expr-placed _ (expr_span value) value h.6)
+        (λ on behind x y. assignment-here span on setting behind outer operator x (as_value y) (symbol_at setting.source operator))
+    expr-placed names outer (tree.comma span tree.no_exprs) h = absurd h
+    expr-placed names outer (tree.comma span (tree.more_exprs first tree.no_exprs)) h = absurd h
+    expr-placed names outer (tree.comma span (tree.more_exprs first (tree.more_exprs second others))) h =
+        let one = expr-placed _ (expr_span first) first h.1 in
         let all = values-placed span.first span.after (expr_span first) (λ used known. typed setting used known first)
         (λ used known. typed_values setting used known (tree.more_exprs second others)) (omega (arith, h.0)) one
         (until (expr_span first).after (exprs_after (expr_span first).after (tree.more_exprs second others)) span.after (λ used known. typed_values setting used known (tree.more_exprs second others))
@@ -364,7 +365,7 @@ module _ (setting : Setting) where
           on,
           λ used known. after-places span.first span.after span.first span.after Plain Plain
               (typed_values setting used known (tree.more_exprs first (tree.more_exprs second others))) _ (omega arith) (omega arith) (all.1 used known)
-              (λ behind values any. comma-here span on setting behind values),
+              (λ behind values any. comma-here span on setting behind outer values),
         )
 
     arguments-placed : (names : List Declared) (at : ℕ) (exprs : Exprs) → AreArguments setting.source names at exprs
@@ -372,14 +373,14 @@ module _ (setting : Setting) where
     arguments-placed names at tree.no_exprs h = (omega arith, λ used known. tt)
     arguments-placed names at (tree.more_exprs first others) h =
         values-placed at (exprs_after (expr_span first).after others) (expr_span first) (λ used known. typed setting used known first)
-        (λ used known. typed_values setting used known others) (omega (arith, h.0)) (expr-placed _ first h.1) (more-exprs-placed _ _ others h.3)
+        (λ used known. typed_values setting used known others) (omega (arith, h.0)) (expr-placed _ (expr_span first) first h.1) (more-exprs-placed _ _ others h.3)
 
     more-exprs-placed : (names : List Declared) (at : ℕ) (exprs : Exprs) → AreMoreExprs setting.source names at exprs
         → PlacedFrom at (exprs_after at exprs) (λ used known. typed_values setting used known exprs)
     more-exprs-placed names at tree.no_exprs h = (omega arith, λ used known. tt)
     more-exprs-placed names at (tree.more_exprs first others) h =
         values-placed at (exprs_after (expr_span first).after others) (expr_span first) (λ used known. typed setting used known first)
-        (λ used known. typed_values setting used known others) (omega (arith, h.1)) (expr-placed _ first h.2) (more-exprs-placed _ _ others h.4)
+        (λ used known. typed_values setting used known others) (omega (arith, h.1)) (expr-placed _ (expr_span first) first h.2) (more-exprs-placed _ _ others h.4)
 
     -- 6.7.7
     pub name-placed : (names : List Declared) (name : TypeName) → IsTypeName setting.source names name
@@ -550,7 +551,7 @@ module _ (setting : Setting) where
     enumerator-placed names (tree.bare span at) h =
         (omega (arith, h.0, h.2), λ used known last. implied-places setting span.first span.after known at (last +ℤ pos 1) (omega (arith, h.0)) (omega (arith, h.2)))
     enumerator-placed names (tree.valued span at value) h =
-        let one = expr-placed _ value h.4 in (
+        let one = expr-placed _ (expr_span value) value h.4 in (
           omega (arith, h.0, h.3, h.6, one.0),
           λ used known last. after-places (expr_span value).first (expr_span value).after span.first span.after Plain Plain (typed setting used known value) _
               (omega (arith, h.0, h.3)) (omega (arith, h.6)) (one.1 used known)
@@ -607,7 +608,7 @@ module _ (setting : Setting) where
         }
     direct-placed names of_parameter at (tree.sized direct value) h =
         let one = direct-placed _ of_parameter at direct h.0 in
-        let length = expr-placed _ value h.3 in
+        let length = expr-placed _ (expr_span value) value h.3 in
         let begins = h.2 in record {
           on = omega (arith, begins, one.on, length.0);
           shown = λ there. omega (arith, begins, one.on, length.0);

@@ -1,7 +1,6 @@
 -- Values of lvalues, and lvalues that may be written.
 use Rattle.std.specs.Prelude.{◌≡◌, ℕ, zero, suc, ◌<◌, Bool, true, false, ◌&&◌, ◌||◌, not, ◌==◌, if◌then◌else◌, IsTrue, List, [], ◌∷◌, length, Option, Some, None, is_some, option_and_then, slice_get, refl, IfSome}
 use Rattle.std.proofs.Common.{sym, ap, ◌∙◌, subst, arith, inl, inr, ⊎_elim, not-suc-le-zero}
-use Rattle.dm_token.specs.declared.place.Span.{Span}
 use Rattle.dm_int.specs.declared.Kind.{Kind}
 use Rattle.dm_int.specs.declared.Op.{Op}
 use Rattle.dm_int.specs.declared.Op.TheVariants as o
@@ -18,6 +17,7 @@ use Rattle.dm_tree.specs.Trees as label
 use Rattle.dm_tree.specs.Scenes.{HasConst, itself, of_element, of_member, IsModifiable, IsComplete, is_lvalue, is_array, is_integer, is_pointer, if_pointer}
 use Rattle.dm_tree.specs.Operands.{UpdateFits, FitsUpdate, IsCountable, is_comparison, is_additive}
 use Rattle.dm_tree.specs.Initialisers.{FitsDecay}
+use Rattle.dm_eexpr.specs.declared.extent.Extent.{Extent}
 use Rattle.dm_eexpr.specs.Known.{Known, Setting, Outcome, given, broken}
 use Rattle.dm_eexpr.specs.Operators.{row_at, operator_of_assignment}
 use Rattle.dm_eexpr.specs.Conversions.{made, as_value, value_of_lvalue, as_kind, promoted, element, members_in, any_member, any_of, has_const_within, has_const, is_complete}
@@ -106,7 +106,7 @@ assignment-operator row op h =
     (assignment-pick (row == 41) o.Shr op _ refl (assignment-pick (row == 42) o.And op _ refl (assignment-pick (row == 43) o.Xor op _ refl
     (assignment-pick (row == 44) o.Or op None refl (λ none. absurd (cc))))))))))) h
 
-module _ (setting : Setting) (known : Known) (span : Span) (layers : AreLayered known.types) where
+module _ (setting : Setting) (known : Known) (span : Extent) (layers : AreLayered known.types) where
   modifiable : (tree : Tree) → is_modifiable known tree ≡ true → IsModifiable (scene_of known) tree
   modifiable tree h =
       let all = both-hold (is_lvalue tree && not (is_array (kind_of tree)) && is_complete known (kind_of tree)) (not (has_const known.types (kind_of tree))) h in
@@ -116,7 +116,7 @@ module _ (setting : Setting) (known : Known) (span : Span) (layers : AreLayered 
 
   pub store-gives : (object value : Tree) → IsSound known object → IsSoundValue known value → Gives known IsSoundValue (typed_store setting known span object value)
   store-gives object value sound other =
-      obeyed known IsSoundValue (is_modifiable known object && is_assignable known value (kind_of object)) 28 span.first _
+      obeyed known IsSoundValue (is_modifiable known object && is_assignable known value (kind_of object)) 28 span.inner.first _
       (λ h. let parts = both-hold (is_modifiable known object) (is_assignable known value (kind_of object)) h in
       let one = assigned-fits known (kind_of object) value other sound.2 parts.1 in (
         refl,
@@ -146,7 +146,7 @@ module _ (setting : Setting) (known : Known) (span : Span) (layers : AreLayered 
 
   pub count-gives : (operator : ℕ) (before : Bool) (operand : Tree) → IsSound known operand → Gives known IsSoundValue (typed_count setting known span operator before operand)
   count-gives operator before operand sound =
-      obeyed known IsSoundValue (may_be_counted known operand) 13 span.first _
+      obeyed known IsSoundValue (may_be_counted known operand) 13 span.inner.first _
       (λ h. let parts = both-hold (is_modifiable known operand) (is_integer (kind_of operand) || points_to_complete known (kind_of operand)) h in (
         refl,
         (
@@ -243,7 +243,7 @@ module _ (setting : Setting) (known : Known) (span : Span) (layers : AreLayered 
       → IsSound known object → IsSoundValue known value → Gives known IsSoundValue (typed_update setting known span object value found)
   update-gives object value None plain sound other = tt
   update-gives object value (Some op) plain sound other =
-      given-if known IsSoundValue (updated known op object value) 29 span.first _
+      given-if known IsSoundValue (updated known op object value) 29 span.inner.first _
       (λ one h. (refl, update-sound op (plain op refl) object value sound other one h))
 
   assigned-operator : (found : Option ℕ) (op : Op) → option_and_then operator_of_assignment found ≡ Some op → not (is_comparison op) ≡ true

@@ -1,11 +1,9 @@
 -- Nodes of typed trees that the typing makes, and the conversions between values (6.3).
---     made source span label kind parts      the node of a piece of syntax
+--     made source extent label kind parts      the node of a piece of syntax
 --     over label kind tree      a node that comes from the same syntax as the tree below it
---     widened outer tree      the same tree with parentheses round it
 --     as_value tree      the value that a tree stands for (6.3.2.1p2, p3)
 --     as_type kind tree      a value converted to a type, by a node of its own unless it has that type
 use Rattle.std.specs.Prelude.{ℕ, ℤ, pos, Bool, true, false, ◌&&◌, ◌||◌, ◌==◌, if◌then◌else◌, List, [], ◌∷◌, Option, Some, None, is_some, option_and_then, length, suc, zero}
-use Rattle.dm_token.specs.declared.place.Span.{Span}
 use Rattle.dm_int.specs.declared.Kind.{Kind}
 use Rattle.dm_int.specs.Kinds.{number_of, promote}
 use Rattle.dm_int.specs.Operators.{int_eq}
@@ -17,38 +15,22 @@ use Rattle.dm_syn.specs.Sources.{Source}
 use Rattle.dm_tree.specs.Constants.{constant}
 use Rattle.dm_tree.specs.Trees.{Label, read, decay, convert as conversion, Spans, Tree, Trees, node, no_trees, more_trees, kind_of, spans_of, trees}
 use Rattle.dm_tree.specs.Scenes.{is_lvalue, target}
+use Rattle.dm_eexpr.specs.declared.extent.Extent.{Extent}
 use Rattle.dm_eexpr.specs.Known.{Known, place_at}
 
 -- ---- nodes
 
--- where a node stands that no parentheses are round yet
-abbrev pub spans_at : Source → Span → Spans
-spans_at source span = record { inner = span; outer = span; place = place_at source span.first }
+-- where a node of a piece of syntax stands
+abbrev pub spans_at : Source → Extent → Spans
+spans_at source extent = record { inner = extent.inner; outer = extent.outer; place = place_at source extent.inner.first }
 
 -- the node of a piece of syntax
-abbrev pub made : Source → Span → Label → CType → List Tree → Tree
-made source span label kind parts = node label kind (spans_at source span) (trees parts)
+abbrev pub made : Source → Extent → Label → CType → List Tree → Tree
+made source extent label kind parts = node label kind (spans_at source extent) (trees parts)
 
 -- a node that comes from the same syntax as the tree below it
 abbrev pub over : Label → CType → Tree → Tree
 over label kind tree = node label kind (spans_of tree) (more_trees tree no_trees)
-
-abbrev pub is_same_span : Span → Span → Bool
-is_same_span a b = (a.first == b.first) && (a.after == b.after)
-
--- of trees below a node, those that come from the same syntax have the same parentheses round them
-unfoldable mutual
-  pub widened_part : Span → Span → Tree → Tree
-  widened_part inner outer (node label kind spans parts) =
-      if is_same_span inner spans.inner then node label kind (record spans { outer = outer }) (widened_below inner outer parts) else node label kind spans parts
-
-  pub widened_below : Span → Span → Trees → Trees
-  widened_below inner outer no_trees = no_trees
-  widened_below inner outer (more_trees first rest) = more_trees (widened_part inner outer first) (widened_below inner outer rest)
-
--- a tree with parentheses round it
-abbrev pub widened : Span → Tree → Tree
-widened outer (node label kind spans parts) = node label kind (record spans { outer = outer }) (widened_below spans.inner outer parts)
 
 -- ---- types
 

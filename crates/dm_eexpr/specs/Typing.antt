@@ -30,9 +30,10 @@ use Rattle.dm_tree.specs.Trees.{Label, Tree, label_of, kind_of}
 use Rattle.dm_tree.specs.Trees as label
 use Rattle.dm_tree.specs.Scenes.{is_lvalue, is_integer, is_scalar, is_void, is_array, is_function}
 use Rattle.dm_tree.specs.Units.{Declaration}
+use Rattle.dm_eexpr.specs.declared.extent.Extent.{Extent}
 use Rattle.dm_eexpr.specs.Known.{Known, Setting, Outcome, given, broken, after, with_it, obeys, if_given, place_at, meaning_of, declaring, tag_key, tag_entry}
 use Rattle.dm_eexpr.specs.Operators.{row_at, keyword_at, operator_of_row, operator_of_assignment, sign_of_row}
-use Rattle.dm_eexpr.specs.Conversions.{made, widened, as_value, as_type, is_same, is_complete, complete_target, constant_of}
+use Rattle.dm_eexpr.specs.Conversions.{made, as_value, as_type, is_same, is_complete, complete_target, constant_of}
 use Rattle.dm_eexpr.specs.Rules.{named_by_sort, Pair, indexed, member_by_name, is_modifiable, may_be_counted, signed, may_be_cast, operated, rule_of, arms, is_assignable, called, updated}
 use Rattle.dm_eexpr.specs.Specifiers.{Said, nothing_said, with_word, with_type, type_said, Where, elsewhere, are_allowed, with_said_const}
 
@@ -46,137 +47,137 @@ is_internal other = false
 abbrev pub may_be_used : Setting → Bool → List ℕ → Declaration → Bool
 may_be_used setting used name entry = not (used && is_internal entry.linkage && setting.lacks name)
 
-abbrev pub named : Setting → Bool → Known → Span → List ℕ → Option Declaration → Outcome Tree
-named setting used known span name None = broken 1 span.first
-named setting used known span name (Some entry) =
-    if_given (named_by_sort entry.sort (unwrap_or (number_of known.scopes name) 0) entry.kind) 1 span.first
-    (λ (form, kind). obeys (may_be_used setting used name entry) 37 span.first (given known (made setting.source span form kind [])))
+abbrev pub named : Setting → Bool → Known → Extent → List ℕ → Option Declaration → Outcome Tree
+named setting used known extent name None = broken 1 extent.inner.first
+named setting used known extent name (Some entry) =
+    if_given (named_by_sort entry.sort (unwrap_or (number_of known.scopes name) 0) entry.kind) 1 extent.inner.first
+    (λ (form, kind). obeys (may_be_used setting used name entry) 37 extent.inner.first (given known (made setting.source extent form kind [])))
 
 -- ---- constants and string literals (6.4.4, 6.4.5)
 
 abbrev pub kind_numbered : ℕ → Kind
 kind_numbered n = unwrap_or (slice_get kinds n) k.Int
 
-abbrev pub constant_tree : Setting → Span → Option CToken → Tree
-constant_tree setting span None = made setting.source span (label.number (pos 0)) (integer k.Int) []
-constant_tree setting span (Some token) = made setting.source span (label.number token.value) (integer (kind_numbered token.kind)) []
+abbrev pub constant_tree : Setting → Extent → Option CToken → Tree
+constant_tree setting extent None = made setting.source extent (label.number (pos 0)) (integer k.Int) []
+constant_tree setting extent (Some token) = made setting.source extent (label.number token.value) (integer (kind_numbered token.kind)) []
 
-abbrev pub literal_tree : Setting → Span → List ℕ → Tree
-literal_tree setting span bytes = made setting.source span (label.literal bytes 0) (array_type (integer k.Char) (Some (length bytes + 1))) []
+abbrev pub literal_tree : Setting → Extent → List ℕ → Tree
+literal_tree setting extent bytes = made setting.source extent (label.literal bytes 0) (array_type (integer k.Char) (Some (length bytes + 1))) []
 
 -- ---- nodes on typed parts
 
-abbrev pub index_tree : Setting → Span → Tree → Tree → CType → Option CType → Tree
-index_tree setting span a b type None = a
-index_tree setting span a b type (Some to) =
-    made setting.source span label.follow to (made setting.source span (label.binary o.Add) type (a ∷ b ∷ []) ∷ [])
+abbrev pub index_tree : Setting → Extent → Tree → Tree → CType → Option CType → Tree
+index_tree setting extent a b type None = a
+index_tree setting extent a b type (Some to) =
+    made setting.source extent label.follow to (made setting.source extent (label.binary o.Add) type (a ∷ b ∷ []) ∷ [])
 
 -- C11
-abbrev pub typed_index : Setting → Known → Span → Tree → Tree → Outcome Tree
-typed_index setting known span a b =
-    if_given (indexed known (kind_of a) (kind_of b)) 11 span.first
-    (λ type. given known (index_tree setting span a b type (complete_target known type)))
+abbrev pub typed_index : Setting → Known → Extent → Tree → Tree → Outcome Tree
+typed_index setting known extent a b =
+    if_given (indexed known (kind_of a) (kind_of b)) 11 extent.inner.first
+    (λ type. given known (index_tree setting extent a b type (complete_target known type)))
 
 -- C12, of an operand that is a struct
-abbrev pub typed_member : Setting → Known → Span → ℕ → Tree → Outcome Tree
-typed_member setting known span name whole =
-    if_given (member_by_name known (spelling_at setting.source name) whole) 12 span.first
-    (λ (n, kind). given known (made setting.source span (label.member n) kind (whole ∷ [])))
+abbrev pub typed_member : Setting → Known → Extent → ℕ → Tree → Outcome Tree
+typed_member setting known extent name whole =
+    if_given (member_by_name known (spelling_at setting.source name) whole) 12 extent.inner.first
+    (λ (n, kind). given known (made setting.source extent (label.member n) kind (whole ∷ [])))
 
 -- and of a pointer to one
-abbrev pub typed_arrow : Setting → Known → Span → ℕ → Tree → Outcome Tree
-typed_arrow setting known span name pointing =
-    if_given (complete_target known (kind_of pointing)) 12 span.first
-    (λ to. typed_member setting known span name (made setting.source span label.follow to (pointing ∷ [])))
+abbrev pub typed_arrow : Setting → Known → Extent → ℕ → Tree → Outcome Tree
+typed_arrow setting known extent name pointing =
+    if_given (complete_target known (kind_of pointing)) 12 extent.inner.first
+    (λ to. typed_member setting known extent name (made setting.source extent label.follow to (pointing ∷ [])))
 
 -- C13
 abbrev pub is_plus_plus : Option ℕ → Bool
 is_plus_plus None = false
 is_plus_plus (Some row) = row == 8
 
-abbrev pub typed_count : Setting → Known → Span → ℕ → Bool → Tree → Outcome Tree
-typed_count setting known span operator before operand =
-    obeys (may_be_counted known operand) 13 span.first
-    (given known (made setting.source span (label.count (is_plus_plus (row_at setting.source operator)) before) (bare (kind_of operand)) (operand ∷ [])))
+abbrev pub typed_count : Setting → Known → Extent → ℕ → Bool → Tree → Outcome Tree
+typed_count setting known extent operator before operand =
+    obeys (may_be_counted known operand) 13 extent.inner.first
+    (given known (made setting.source extent (label.count (is_plus_plus (row_at setting.source operator)) before) (bare (kind_of operand)) (operand ∷ [])))
 
 -- C14
-abbrev pub typed_address : Setting → Known → Span → Tree → Outcome Tree
-typed_address setting known span operand =
-    obeys (is_lvalue operand) 14 span.first (given known (made setting.source span label.address (pointer (kind_of operand)) (operand ∷ [])))
+abbrev pub typed_address : Setting → Known → Extent → Tree → Outcome Tree
+typed_address setting known extent operand =
+    obeys (is_lvalue operand) 14 extent.inner.first (given known (made setting.source extent label.address (pointer (kind_of operand)) (operand ∷ [])))
 
 -- C15
-abbrev pub typed_follow : Setting → Known → Span → Tree → Outcome Tree
-typed_follow setting known span operand =
-    if_given (complete_target known (kind_of operand)) 15 span.first (λ to. given known (made setting.source span label.follow to (operand ∷ [])))
+abbrev pub typed_follow : Setting → Known → Extent → Tree → Outcome Tree
+typed_follow setting known extent operand =
+    if_given (complete_target known (kind_of operand)) 15 extent.inner.first (λ to. given known (made setting.source extent label.follow to (operand ∷ [])))
 
 -- C16
-abbrev pub typed_sign : Setting → Known → Span → ℕ → Tree → Outcome Tree
-typed_sign setting known span operator operand =
-    if_given (option_and_then sign_of_row (row_at setting.source operator)) 16 span.first
-    (λ sign. if_given (signed sign operand) 16 span.first (λ (converted, kind). given known (made setting.source span (label.unary sign) kind (converted ∷ []))))
+abbrev pub typed_sign : Setting → Known → Extent → ℕ → Tree → Outcome Tree
+typed_sign setting known extent operator operand =
+    if_given (option_and_then sign_of_row (row_at setting.source operator)) 16 extent.inner.first
+    (λ sign. if_given (signed sign operand) 16 extent.inner.first (λ (converted, kind). given known (made setting.source extent (label.unary sign) kind (converted ∷ []))))
 
-abbrev pub typed_prefix : Setting → Known → Span → ℕ → Tree → Symbol → Outcome Tree
-typed_prefix setting known span operator operand symbol.Increment = typed_count setting known span operator true operand
-typed_prefix setting known span operator operand symbol.Ampersand = typed_address setting known span operand
-typed_prefix setting known span operator operand symbol.Star = typed_follow setting known span (as_value operand)
-typed_prefix setting known span operator operand _ = typed_sign setting known span operator (as_value operand)
+abbrev pub typed_prefix : Setting → Known → Extent → ℕ → Tree → Symbol → Outcome Tree
+typed_prefix setting known extent operator operand symbol.Increment = typed_count setting known extent operator true operand
+typed_prefix setting known extent operator operand symbol.Ampersand = typed_address setting known extent operand
+typed_prefix setting known extent operator operand symbol.Star = typed_follow setting known extent (as_value operand)
+typed_prefix setting known extent operator operand _ = typed_sign setting known extent operator (as_value operand)
 
 -- C17
-abbrev pub typed_sizeof : Setting → Known → Span → Tree → Outcome Tree
-typed_sizeof setting known span operand =
-    obeys (is_complete known (kind_of operand)) 17 span.first (given known (made setting.source span label.sizeof_tree (integer k.ULong) (operand ∷ [])))
+abbrev pub typed_sizeof : Setting → Known → Extent → Tree → Outcome Tree
+typed_sizeof setting known extent operand =
+    obeys (is_complete known (kind_of operand)) 17 extent.inner.first (given known (made setting.source extent label.sizeof_tree (integer k.ULong) (operand ∷ [])))
 
-abbrev pub typed_sizeof_name : Setting → Known → Span → CType → List Tree → Outcome Tree
-typed_sizeof_name setting known span type lengths =
-    obeys (is_complete known type) 17 span.first (given known (made setting.source span (label.sizeof_kind type) (integer k.ULong) lengths))
+abbrev pub typed_sizeof_name : Setting → Known → Extent → CType → List Tree → Outcome Tree
+typed_sizeof_name setting known extent type lengths =
+    obeys (is_complete known type) 17 extent.inner.first (given known (made setting.source extent (label.sizeof_kind type) (integer k.ULong) lengths))
 
 -- C18
-abbrev pub typed_cast : Setting → Known → Span → CType → List Tree → Tree → Outcome Tree
-typed_cast setting known span type lengths operand =
-    obeys (may_be_cast known operand type) 18 span.first (given known (made setting.source span label.convert type (operand ∷ lengths)))
+abbrev pub typed_cast : Setting → Known → Extent → CType → List Tree → Tree → Outcome Tree
+typed_cast setting known extent type lengths operand =
+    obeys (may_be_cast known operand type) 18 extent.inner.first (given known (made setting.source extent label.convert type (operand ∷ lengths)))
 
 -- C19 to C25
-abbrev pub typed_operation : Setting → Known → Span → Tree → Tree → Option Op → Outcome Tree
-typed_operation setting known span a b None = broken 19 span.first
-typed_operation setting known span a b (Some op) =
-    if_given (operated known op a b) (rule_of op) span.first
-    (λ (pair : Pair). given known (made setting.source span (label.binary op) pair.kind (pair.left ∷ pair.right ∷ [])))
+abbrev pub typed_operation : Setting → Known → Extent → Tree → Tree → Option Op → Outcome Tree
+typed_operation setting known extent a b None = broken 19 extent.inner.first
+typed_operation setting known extent a b (Some op) =
+    if_given (operated known op a b) (rule_of op) extent.inner.first
+    (λ (pair : Pair). given known (made setting.source extent (label.binary op) pair.kind (pair.left ∷ pair.right ∷ [])))
 
 -- C26
-abbrev pub typed_logic : Setting → Known → Span → Label → Tree → Tree → Outcome Tree
-typed_logic setting known span form a b =
-    obeys (is_scalar (kind_of a) && is_scalar (kind_of b)) 26 span.first (given known (made setting.source span form (integer k.Int) (a ∷ b ∷ [])))
+abbrev pub typed_logic : Setting → Known → Extent → Label → Tree → Tree → Outcome Tree
+typed_logic setting known extent form a b =
+    obeys (is_scalar (kind_of a) && is_scalar (kind_of b)) 26 extent.inner.first (given known (made setting.source extent form (integer k.Int) (a ∷ b ∷ [])))
 
-abbrev pub typed_binary : Setting → Known → Span → ℕ → Tree → Tree → Symbol → Outcome Tree
-typed_binary setting known span operator a b symbol.And = typed_logic setting known span label.both a b
-typed_binary setting known span operator a b symbol.Or = typed_logic setting known span label.either a b
-typed_binary setting known span operator a b _ =
-    typed_operation setting known span a b (option_and_then operator_of_row (row_at setting.source operator))
+abbrev pub typed_binary : Setting → Known → Extent → ℕ → Tree → Tree → Symbol → Outcome Tree
+typed_binary setting known extent operator a b symbol.And = typed_logic setting known extent label.both a b
+typed_binary setting known extent operator a b symbol.Or = typed_logic setting known extent label.either a b
+typed_binary setting known extent operator a b _ =
+    typed_operation setting known extent a b (option_and_then operator_of_row (row_at setting.source operator))
 
 -- C27
-abbrev pub typed_choice : Setting → Known → Span → Tree → Tree → Tree → Outcome Tree
-typed_choice setting known span condition a b =
-    obeys (is_scalar (kind_of condition)) 27 span.first
-    (if_given (arms known a b) 27 span.first
-    (λ (pair : Pair). given known (made setting.source span label.choose pair.kind (condition ∷ pair.left ∷ pair.right ∷ []))))
+abbrev pub typed_choice : Setting → Known → Extent → Tree → Tree → Tree → Outcome Tree
+typed_choice setting known extent condition a b =
+    obeys (is_scalar (kind_of condition)) 27 extent.inner.first
+    (if_given (arms known a b) 27 extent.inner.first
+    (λ (pair : Pair). given known (made setting.source extent label.choose pair.kind (condition ∷ pair.left ∷ pair.right ∷ []))))
 
 -- C28
-abbrev pub typed_store : Setting → Known → Span → Tree → Tree → Outcome Tree
-typed_store setting known span object value =
-    obeys (is_modifiable known object && is_assignable known value (kind_of object)) 28 span.first
-    (given known (made setting.source span label.store (bare (kind_of object)) (object ∷ as_type (kind_of object) value ∷ [])))
+abbrev pub typed_store : Setting → Known → Extent → Tree → Tree → Outcome Tree
+typed_store setting known extent object value =
+    obeys (is_modifiable known object && is_assignable known value (kind_of object)) 28 extent.inner.first
+    (given known (made setting.source extent label.store (bare (kind_of object)) (object ∷ as_type (kind_of object) value ∷ [])))
 
 -- C29
-abbrev pub typed_update : Setting → Known → Span → Tree → Tree → Option Op → Outcome Tree
-typed_update setting known span object value None = broken 29 span.first
-typed_update setting known span object value (Some op) =
-    if_given (updated known op object value) 29 span.first
-    (λ (works, converted). given known (made setting.source span (label.update op works) (bare (kind_of object)) (object ∷ converted ∷ [])))
+abbrev pub typed_update : Setting → Known → Extent → Tree → Tree → Option Op → Outcome Tree
+typed_update setting known extent object value None = broken 29 extent.inner.first
+typed_update setting known extent object value (Some op) =
+    if_given (updated known op object value) 29 extent.inner.first
+    (λ (works, converted). given known (made setting.source extent (label.update op works) (bare (kind_of object)) (object ∷ converted ∷ [])))
 
-abbrev pub typed_assignment : Setting → Known → Span → ℕ → Tree → Tree → Symbol → Outcome Tree
-typed_assignment setting known span operator object value symbol.Equals = typed_store setting known span object value
-typed_assignment setting known span operator object value _ =
-    typed_update setting known span object value (option_and_then operator_of_assignment (row_at setting.source operator))
+abbrev pub typed_assignment : Setting → Known → Extent → ℕ → Tree → Tree → Symbol → Outcome Tree
+typed_assignment setting known extent operator object value symbol.Equals = typed_store setting known extent object value
+typed_assignment setting known extent operator object value _ =
+    typed_update setting known extent object value (option_and_then operator_of_assignment (row_at setting.source operator))
 
 -- C10: the callee is the name of a function, in parentheses or not
 abbrev pub is_name : Expr → Bool
@@ -188,20 +189,20 @@ abbrev pub is_function_label : Label → Bool
 is_function_label (label.function at) = true
 is_function_label other = false
 
-abbrev pub typed_call : Setting → Known → Span → Expr → Tree → List Tree → Outcome Tree
-typed_call setting known span callee tree values =
-    obeys (is_name callee && is_function_label (label_of tree)) 10 span.first
-    (if_given (called known (kind_of tree) values) 10 span.first
-    (λ (kind, arguments). given known (made setting.source span label.call kind (tree ∷ arguments))))
+abbrev pub typed_call : Setting → Known → Extent → Expr → Tree → List Tree → Outcome Tree
+typed_call setting known extent callee tree values =
+    obeys (is_name callee && is_function_label (label_of tree)) 10 extent.inner.first
+    (if_given (called known (kind_of tree) values) 10 extent.inner.first
+    (λ (kind, arguments). given known (made setting.source extent label.call kind (tree ∷ arguments))))
 
 -- commas nest to the left (6.5.17)
-abbrev pub comma_tree : Setting → Span → Tree → List Tree → Tree
-comma_tree setting span first [] = first
-comma_tree setting span first (second ∷ others) = comma_tree setting span (made setting.source span label.comma (kind_of second) (first ∷ second ∷ [])) others
+abbrev pub comma_tree : Setting → Extent → Tree → List Tree → Tree
+comma_tree setting extent first [] = first
+comma_tree setting extent first (second ∷ others) = comma_tree setting extent (made setting.source extent label.comma (kind_of second) (first ∷ second ∷ [])) others
 
-abbrev pub comma_of : Setting → Span → List Tree → Option Tree
-comma_of setting span [] = None
-comma_of setting span (first ∷ others) = Some (comma_tree setting span first others)
+abbrev pub comma_of : Setting → Extent → List Tree → Option Tree
+comma_of setting extent [] = None
+comma_of setting extent (first ∷ others) = Some (comma_tree setting extent first others)
 
 -- ---- tags (6.7.2.3)
 
@@ -289,9 +290,10 @@ abbrev pub fields : Table → List TypedMember → List Field
 fields types [] = []
 fields types (member ∷ members) = record { name = member.name; kind = number_of_type types member.kind } ∷ fields types members
 
--- the struct has its members (6.7.2.1p8), unless it takes more bytes than a type may (C5)
+-- the struct has its members (6.7.2.1p8), unless it takes more bytes than a type may (C5). One without members is none
 abbrev pub struct_ended : Known → Span → Option ℕ → List ℕ → List TypedMember → Outcome CType
 struct_ended known span None begun members = broken 4 span.first
+struct_ended known span (Some at) begun [] = broken 5 span.first
 struct_ended known span (Some at) begun members =
     obeys (is_some (struct_layout known.types (fields known.types members))) 5 span.first
     (given (record known { types = with_content known.types at (contained known.types (fields known.types members)); begun = begun }) (struct_type at))
@@ -464,52 +466,59 @@ name_ended constants (broken rule at) = broken rule at
 
 -- ---- the syntax
 
+-- where a piece of syntax stands that has so much with all parentheses round it
+abbrev pub extent : Span → Span → Extent
+extent inner outer = record { inner = inner; outer = outer }
+
 unfoldable mutual
-  -- 6.5
-  pub typed : Setting → Bool → Known → Expr → Outcome Tree
-  typed setting used known (tree.name span) =
-      named setting used known span (spelling_at setting.source span.first) (meaning_of known (spelling_at setting.source span.first))
-  typed setting used known (tree.constant span) = given known (constant_tree setting span (slice_get setting.source.tokens span.first))
-  typed setting used known (tree.literal span) = given known (literal_tree setting span (spelling_at setting.source span.first))
-  typed setting used known (tree.paren span inner) = with_it (typed setting used known inner) (λ behind made. widened span made)
-  typed setting used known (tree.index span a b) =
-      after (typed setting used known a) (λ then_known first. after (typed setting used then_known b)
-      (λ behind second. typed_index setting behind span (as_value first) (as_value second)))
-  typed setting used known (tree.call span callee arguments) =
-      after (typed setting used known callee) (λ then_known first. after (typed_values setting used then_known arguments)
-      (λ behind values. typed_call setting behind span callee first values))
-  typed setting used known (tree.member span whole name) =
-      after (typed setting used known whole) (λ behind made. typed_member setting behind span name made)
-  typed setting used known (tree.arrow span operand name) =
-      after (typed setting used known operand) (λ behind made. typed_arrow setting behind span name (as_value made))
-  typed setting used known (tree.postfix span operand operator) =
-      after (typed setting used known operand) (λ behind made. typed_count setting behind span operator false made)
-  typed setting used known (tree.prefix span operator operand) =
-      after (typed setting used known operand) (λ behind made. typed_prefix setting behind span operator made (symbol_at setting.source operator))
-  typed setting used known (tree.sizeof_expr span operand) =
-      after (typed setting false known operand) (λ behind made. typed_sizeof setting behind span made)
-  typed setting used known (tree.sizeof_name span name) =
-      after (typed_name setting false known name) (λ behind named. typed_sizeof_name setting behind span named.kind named.constants)
-  typed setting used known (tree.cast span name operand) =
-      after (typed_name setting used known name) (λ then_known named. after (typed setting used then_known operand)
-      (λ behind made. typed_cast setting behind span (bare named.kind) named.constants (as_value made)))
-  typed setting used known (tree.binary span a operator b) =
-      after (typed setting used known a) (λ then_known first. after (typed setting used then_known b)
-      (λ behind second. typed_binary setting behind span operator (as_value first) (as_value second) (symbol_at setting.source operator)))
-  typed setting used known (tree.conditional span a b c) =
-      after (typed setting used known a) (λ then_known first. after (typed setting used then_known b) (λ then_more second. after (typed setting used then_more c)
-      (λ behind third. typed_choice setting behind span (as_value first) (as_value second) (as_value third))))
-  typed setting used known (tree.assign span object operator value) =
-      after (typed setting used known object) (λ then_known first. after (typed setting used then_known value)
-      (λ behind second. typed_assignment setting behind span operator first (as_value second) (symbol_at setting.source operator)))
-  typed setting used known (tree.comma span parts) =
-      after (typed_values setting used known parts) (λ behind values. if_given (comma_of setting span values) 1 span.first (λ made. given behind made))
+  -- 6.5, where the span with all parentheses round the expression is given
+  pub typed_within : Setting → Bool → Known → Span → Expr → Outcome Tree
+  typed_within setting used known outer (tree.name span) =
+      named setting used known (extent span outer) (spelling_at setting.source span.first) (meaning_of known (spelling_at setting.source span.first))
+  typed_within setting used known outer (tree.constant span) = given known (constant_tree setting (extent span outer) (slice_get setting.source.tokens span.first))
+  typed_within setting used known outer (tree.literal span) = given known (literal_tree setting (extent span outer) (spelling_at setting.source span.first))
+  typed_within setting used known outer (tree.paren span inner) = typed_within setting used known outer inner
+  typed_within setting used known outer (tree.index span a b) =
+      after (typed_within setting used known (expr_span a) a) (λ then_known first. after (typed_within setting used then_known (expr_span b) b)
+      (λ behind second. typed_index setting behind (extent span outer) (as_value first) (as_value second)))
+  typed_within setting used known outer (tree.call span callee arguments) =
+      after (typed_within setting used known (expr_span callee) callee) (λ then_known first. after (typed_values setting used then_known arguments)
+      (λ behind values. typed_call setting behind (extent span outer) callee first values))
+  typed_within setting used known outer (tree.member span whole name) =
+      after (typed_within setting used known (expr_span whole) whole) (λ behind made. typed_member setting behind (extent span outer) name made)
+  typed_within setting used known outer (tree.arrow span operand name) =
+      after (typed_within setting used known (expr_span operand) operand) (λ behind made. typed_arrow setting behind (extent span outer) name (as_value made))
+  typed_within setting used known outer (tree.postfix span operand operator) =
+      after (typed_within setting used known (expr_span operand) operand) (λ behind made. typed_count setting behind (extent span outer) operator false made)
+  typed_within setting used known outer (tree.prefix span operator operand) =
+      after (typed_within setting used known (expr_span operand) operand)
+      (λ behind made. typed_prefix setting behind (extent span outer) operator made (symbol_at setting.source operator))
+  typed_within setting used known outer (tree.sizeof_expr span operand) =
+      after (typed_within setting false known (expr_span operand) operand) (λ behind made. typed_sizeof setting behind (extent span outer) made)
+  typed_within setting used known outer (tree.sizeof_name span name) =
+      after (typed_name setting false known name) (λ behind named. typed_sizeof_name setting behind (extent span outer) named.kind named.constants)
+  typed_within setting used known outer (tree.cast span name operand) =
+      after (typed_name setting used known name) (λ then_known named. after (typed_within setting used then_known (expr_span operand) operand)
+      (λ behind made. typed_cast setting behind (extent span outer) (bare named.kind) named.constants (as_value made)))
+  typed_within setting used known outer (tree.binary span a operator b) =
+      after (typed_within setting used known (expr_span a) a) (λ then_known first. after (typed_within setting used then_known (expr_span b) b)
+      (λ behind second. typed_binary setting behind (extent span outer) operator (as_value first) (as_value second) (symbol_at setting.source operator)))
+  typed_within setting used known outer (tree.conditional span a b c) =
+      after (typed_within setting used known (expr_span a) a) (λ then_known first. after (typed_within setting used then_known (expr_span b) b)
+      (λ then_more second. after (typed_within setting used then_more (expr_span c) c)
+      (λ behind third. typed_choice setting behind (extent span outer) (as_value first) (as_value second) (as_value third))))
+  typed_within setting used known outer (tree.assign span object operator value) =
+      after (typed_within setting used known (expr_span object) object) (λ then_known first. after (typed_within setting used then_known (expr_span value) value)
+      (λ behind second. typed_assignment setting behind (extent span outer) operator first (as_value second) (symbol_at setting.source operator)))
+  typed_within setting used known outer (tree.comma span parts) =
+      after (typed_values setting used known parts)
+      (λ behind values. if_given (comma_of setting (extent span outer) values) 1 span.first (λ made. given behind made))
 
   -- the values of expressions, from left to right
   pub typed_values : Setting → Bool → Known → Exprs → Outcome (List Tree)
   typed_values setting used known tree.no_exprs = given known []
   typed_values setting used known (tree.more_exprs first others) =
-      after (typed setting used known first) (λ then_known made. after (typed_values setting used then_known others)
+      after (typed_within setting used known (expr_span first) first) (λ then_known made. after (typed_values setting used then_known others)
       (λ behind values. given behind (as_value made ∷ values)))
 
   -- 6.7.7
@@ -574,7 +583,7 @@ unfoldable mutual
   pub enumerator_of : Setting → Bool → Known → ℤ → Enumerator → Outcome ℤ
   enumerator_of setting used known last (tree.bare span at) = enumerator_implied setting known at (last +ℤ pos 1)
   enumerator_of setting used known last (tree.valued span at value) =
-      after (typed setting used known value) (λ behind made. enumerator_valued setting behind at (expr_span value).first (as_value made))
+      after (typed_within setting used known (expr_span value) value) (λ behind made. enumerator_valued setting behind at (expr_span value).first (as_value made))
 
   -- 6.7.6: the steps that a declarator takes, in the order in which they apply; what stands in it is typed from left to right
   pub steps_of : Setting → Bool → Known → Declarator → Outcome (List Step)
@@ -588,7 +597,7 @@ unfoldable mutual
   direct_steps setting used known here (tree.array direct) =
       with_it (direct_steps setting used known here direct) (λ behind steps. arraying here None ∷ steps)
   direct_steps setting used known here (tree.sized direct value) =
-      after (direct_steps setting used known here direct) (λ then_known steps. after (typed setting used then_known value) (λ then_more made.
+      after (direct_steps setting used known here direct) (λ then_known steps. after (typed_within setting used then_known (expr_span value) value) (λ then_more made.
       with_it (length_of then_more (expr_span value).first (as_value made)) (λ behind n. arraying here (Some n) ∷ steps)))
   direct_steps setting used known here (tree.function direct parameters) =
       after (direct_steps setting used known here direct) (λ then_known steps.
@@ -604,3 +613,7 @@ unfoldable mutual
   parameter_of setting used known (tree.parameter span specifiers declarator) =
       after (typed_specifiers setting used elsewhere false known specifiers) (λ then_known base. after (steps_of setting used then_known declarator) (λ then_more steps.
       after (derived then_more base steps) (λ behind type. typed_parameter setting behind (parameter_at span declarator) type (declarator_name declarator))))
+
+-- the typed tree of an expression that stands alone
+abbrev pub typed : Setting → Bool → Known → Expr → Outcome Tree
+typed setting used known expr = typed_within setting used known (expr_span expr) expr

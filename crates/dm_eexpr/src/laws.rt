@@ -1,7 +1,6 @@
 //! What holds of the typing of expressions.
 
 ghost use Rattle.std.specs.Prelude.{ℕ, Bool, List, [], Option, ◌≡◌, Some};
-ghost use Rattle.dm_token.specs.declared.place.Span.{Span};
 ghost use Rattle.dm_token.specs.declared.token.CToken.{CToken};
 ghost use Rattle.dm_type.specs.CTypes.{CType, bare};
 ghost use Rattle.dm_type.specs.Tables.{no_type};
@@ -13,6 +12,7 @@ ghost use Rattle.dm_syn.specs.Spans.{expr_span, type_name_span, specifiers_span,
 ghost use Rattle.dm_syn.specs.Trees.{Expr, TypeName, Specifiers, Declarator};
 ghost use Rattle.dm_tree.specs.Trees.{Tree};
 ghost use Rattle.dm_tree.specs.Units.{Declaration};
+ghost use Rattle.dm_eexpr.specs.declared.extent.Extent.{Extent};
 ghost use Rattle.dm_eexpr.specs.Known.{Known, Setting, given, meaning_of};
 ghost use Rattle.dm_eexpr.specs.Conversions.{as_value};
 ghost use Rattle.dm_eexpr.specs.Specifiers.{Where};
@@ -23,48 +23,48 @@ ghost use Rattle.dm_eexpr.specs.Sound.{IsProper, IsType, IsTypedName, IsSoundKno
 /// On well-typed values the operators that use values alone give well-typed values, or break a rule, and nothing more
 /// becomes known.
 pub fn operators_give_well_typed_values()
-    ensures binary { (setting : Setting) (known : Known) (span : Span) (operator : ℕ) (a b : Tree) (it : Symbol) →
+    ensures binary { (setting : Setting) (known : Known) (span : Extent) (operator : ℕ) (a b : Tree) (it : Symbol) →
         IsSoundValue known a → IsSoundValue known b → Gives known IsSoundValue (typed_binary setting known span operator a b it) }
-    ensures sign { (setting : Setting) (known : Known) (span : Span) (operator : ℕ) (operand : Tree) →
+    ensures sign { (setting : Setting) (known : Known) (span : Extent) (operator : ℕ) (operand : Tree) →
         IsSoundValue known operand → Gives known IsSoundValue (typed_sign setting known span operator operand) }
-    ensures choice { (setting : Setting) (known : Known) (span : Span) (condition a b : Tree) →
+    ensures choice { (setting : Setting) (known : Known) (span : Extent) (condition a b : Tree) →
         IsSoundValue known condition → IsSoundValue known a → IsSoundValue known b → Gives known IsSoundValue (typed_choice setting known span condition a b) }
-    ensures comma { (setting : Setting) (known : Known) (span : Span) (values : List Tree) →
+    ensures comma { (setting : Setting) (known : Known) (span : Extent) (values : List Tree) →
         AreSound known values → (one : Tree) → comma_of setting span values ≡ Some one → IsSoundValue known one }
-    ensures call { (setting : Setting) (known : Known) (span : Span) (callee : Expr) (tree : Tree) (values : List Tree) →
+    ensures call { (setting : Setting) (known : Known) (span : Extent) (callee : Expr) (tree : Tree) (values : List Tree) →
         IsSound known tree → AreSound known values → Gives known IsSoundValue (typed_call setting known span callee tree values) }
-    ensures cast { (setting : Setting) (known : Known) (span : Span) (type : CType) (lengths : List Tree) (operand : Tree) →
+    ensures cast { (setting : Setting) (known : Known) (span : Extent) (type : CType) (lengths : List Tree) (operand : Tree) →
         type ≡ bare type → IsProper type → AreConstants known lengths → IsSoundValue known operand →
         Gives known IsSoundValue (typed_cast setting known span type lengths operand) }
-    ensures sizes { (setting : Setting) (known : Known) (span : Span) (operand : Tree) →
+    ensures sizes { (setting : Setting) (known : Known) (span : Extent) (operand : Tree) →
         IsSound known operand → Gives known IsSoundValue (typed_sizeof setting known span operand) }
-    ensures type_sizes { (setting : Setting) (known : Known) (span : Span) (type : CType) (lengths : List Tree) →
+    ensures type_sizes { (setting : Setting) (known : Known) (span : Extent) (type : CType) (lengths : List Tree) →
         AreConstants known lengths → Gives known IsSoundValue (typed_sizeof_name setting known span type lengths) }
 {}
 
 /// What designates an object is well typed, as is its value and its address.
 pub fn lvalues_are_well_typed()
     ensures value { (known : Known) (tree : Tree) → IsSound known tree → IsSoundValue known (as_value tree) }
-    ensures address { (setting : Setting) (known : Known) (span : Span) (operand : Tree) →
+    ensures address { (setting : Setting) (known : Known) (span : Extent) (operand : Tree) →
         IsSound known operand → Gives known IsSoundValue (typed_address setting known span operand) }
-    ensures target { (setting : Setting) (known : Known) (span : Span) (operand : Tree) →
+    ensures target { (setting : Setting) (known : Known) (span : Extent) (operand : Tree) →
         IsSoundValue known operand → Gives known IsSound (typed_follow setting known span operand) }
-    ensures subscript { (setting : Setting) (known : Known) (span : Span) (a b : Tree) →
+    ensures subscript { (setting : Setting) (known : Known) (span : Extent) (a b : Tree) →
         IsSoundValue known a → IsSoundValue known b → Gives known IsSound (typed_index setting known span a b) }
-    ensures member { (setting : Setting) (known : Known) (span : Span) (name : ℕ) (whole : Tree) →
+    ensures member { (setting : Setting) (known : Known) (span : Extent) (name : ℕ) (whole : Tree) →
         IsSound known whole → Gives known IsSound (typed_member setting known span name whole) }
-    ensures pointed_member { (setting : Setting) (known : Known) (span : Span) (name : ℕ) (pointing : Tree) →
+    ensures pointed_member { (setting : Setting) (known : Known) (span : Extent) (name : ℕ) (pointing : Tree) →
         IsSoundValue known pointing → Gives known IsSound (typed_arrow setting known span name pointing) }
 {}
 
 /// What writes an object gives a well-typed value: the object may be written, and its new value has its type. So do the
 /// prefix operators, of which some write.
 pub fn assignments_give_well_typed_values()
-    ensures assignment { (setting : Setting) (known : Known) (span : Span) → AreLayered known.types → (operator : ℕ) (object value : Tree) (it : Symbol) →
+    ensures assignment { (setting : Setting) (known : Known) (span : Extent) → AreLayered known.types → (operator : ℕ) (object value : Tree) (it : Symbol) →
         IsSound known object → IsSoundValue known value → Gives known IsSoundValue (typed_assignment setting known span operator object value it) }
-    ensures counting { (setting : Setting) (known : Known) (span : Span) → AreLayered known.types → (operator : ℕ) (before : Bool) (operand : Tree) →
+    ensures counting { (setting : Setting) (known : Known) (span : Extent) → AreLayered known.types → (operator : ℕ) (before : Bool) (operand : Tree) →
         IsSound known operand → Gives known IsSoundValue (typed_count setting known span operator before operand) }
-    ensures prefix { (setting : Setting) (known : Known) (span : Span) → AreLayered known.types → (operator : ℕ) (operand : Tree) (it : Symbol) →
+    ensures prefix { (setting : Setting) (known : Known) (span : Extent) → AreLayered known.types → (operator : ℕ) (operand : Tree) (it : Symbol) →
         IsSound known operand → Gives known IsSound (typed_prefix setting known span operator operand it) }
 {}
 
@@ -113,9 +113,9 @@ pub fn broken_rules_are_inside()
 
 /// Names, constants and string literals are well typed where the declarations and tokens are such as C has.
 pub fn leaves_are_well_typed()
-    ensures names { (setting : Setting) (known : Known) (span : Span) → AreEntries known → (used : Bool) (name : List ℕ) (found : Option Declaration) →
+    ensures names { (setting : Setting) (known : Known) (span : Extent) → AreEntries known → (used : Bool) (name : List ℕ) (found : Option Declaration) →
         meaning_of known name ≡ found → Gives known IsSound (named setting used known span name found) }
-    ensures constants { (setting : Setting) (known : Known) (span : Span) (token : CToken) →
+    ensures constants { (setting : Setting) (known : Known) (span : Extent) (token : CToken) →
         IsSoundToken token → IsSoundValue known (constant_tree setting span (Some token)) }
-    ensures literals { (setting : Setting) (known : Known) (span : Span) (bytes : List ℕ) → IsSound known (literal_tree setting span bytes) }
+    ensures literals { (setting : Setting) (known : Known) (span : Extent) (bytes : List ℕ) → IsSound known (literal_tree setting span bytes) }
 {}

@@ -2,8 +2,10 @@
 //! and what holds of it.
 #![tactic(auto)]
 
+mod extent;
 mod laws;
 
+pub use extent::Extent;
 pub use laws::{
     an_example_meets_the_premises, assignments_give_well_typed_values, broken_rules_are_inside,
     expressions_are_well_typed, leaves_are_well_typed, lvalues_are_well_typed,

@@ -6,7 +6,7 @@ ghost use Rattle.dm_type.specs.CTypes.{integer};
 ghost use Rattle.dm_eexpr.specs.Examples as examples;
 ghost use Rattle.dm_eexpr.specs.Examples.{type_of, value_of, rule_of};
 
-#[tactic(auto, unfolding(crate::specs::Typing::typed, dm_syn::specs::Sources::symbol_at, dm_syn::specs::Sources::spelling_at, dm_syn::specs::Symbols::symbol_of))]
+#[tactic(auto, unfolding(crate::specs::Typing::typed_within, dm_syn::specs::Sources::symbol_at, dm_syn::specs::Sources::spelling_at, dm_syn::specs::Symbols::symbol_of))]
 fn operands_come_to_a_common_type()
     // 6.3.1.8
     ensures sum { type_of examples.sum_tokens examples.sum ≡ Some (integer UInt) }
@@ -14,7 +14,7 @@ fn operands_come_to_a_common_type()
     ensures less { value_of examples.less_tokens examples.less ≡ Some (pos 0) }
 {}
 
-#[tactic(auto, unfolding(crate::specs::Typing::typed, dm_syn::specs::Sources::symbol_at, dm_syn::specs::Sources::spelling_at, dm_syn::specs::Symbols::symbol_of))]
+#[tactic(auto, unfolding(crate::specs::Typing::typed_within, dm_syn::specs::Sources::symbol_at, dm_syn::specs::Sources::spelling_at, dm_syn::specs::Symbols::symbol_of))]
 fn the_first_broken_rule_has_a_place()
     // & has an lvalue (6.5.3.2p1)
     ensures address { rule_of examples.address_tokens examples.address ≡ Some (14, 0) }
@@ -22,7 +22,7 @@ fn the_first_broken_rule_has_a_place()
     ensures follow { rule_of examples.follow_tokens examples.follow ≡ Some (15, 4) }
 {}
 
-#[tactic(auto, unfolding(crate::specs::Typing::typed, dm_syn::specs::Sources::symbol_at, dm_syn::specs::Sources::spelling_at, dm_syn::specs::Symbols::symbol_of))]
+#[tactic(auto, unfolding(crate::specs::Typing::typed_within, dm_syn::specs::Sources::symbol_at, dm_syn::specs::Sources::spelling_at, dm_syn::specs::Symbols::symbol_of))]
 fn sizes_are_unsigned_long()
     ensures kind { type_of examples.size_tokens examples.size ≡ Some (integer ULong) }
     ensures value { value_of examples.size_tokens examples.size ≡ Some (pos 1) }

@@ -7,7 +7,7 @@ use Rattle.dm_eexpr.proofs.laws.broken_rules_are_inside.Goals as goal
 
 pub returns-clause-expressions : goal.returns-clause-expressions
 returns-clause-expressions c setting used known names expr is =
-    within-places (expr_span expr).first (expr_span expr).after Plain (typed setting used known expr) ((expr-placed setting names expr is).1 used known)
+    within-places (expr_span expr).first (expr_span expr).after Plain (typed setting used known expr) ((expr-placed setting names (expr_span expr) expr is).1 used known)
 
 pub returns-clause-type_names : goal.returns-clause-type_names
 returns-clause-type_names c setting used known names name is =

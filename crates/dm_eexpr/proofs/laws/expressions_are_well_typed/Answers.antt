@@ -1,9 +1,10 @@
+use Rattle.dm_syn.specs.Spans.{expr_span}
 use Rattle.dm_eexpr.proofs.DerivedLemmas.{derived-more}
 use Rattle.dm_eexpr.proofs.WholeLemmas.{sound-start, expr-more, name-more, specifiers-more, declarator-more}
 use Rattle.dm_eexpr.proofs.laws.expressions_are_well_typed.Goals as goal
 
 pub returns-clause-expressions : goal.returns-clause-expressions
-returns-clause-expressions c = expr-more
+returns-clause-expressions c setting tokens used known names expr = expr-more setting tokens used known names (expr_span expr) expr
 
 pub returns-clause-type_names : goal.returns-clause-type_names
 returns-clause-type_names c = name-more
