@@ -36,6 +36,7 @@ no-struct (function_type result parameters) at h = cc
 no-struct (const type) at h = cc
 
 said-const-type : (known : Known) (qualified : Bool) (type : CType) → IsType known type → IsType known (with_said_const qualified type)
+said-const-type known true (function_type result parameters) h = h
 said-const-type known true type h = (with-const-proper type h.0, λ at e. absurd (no-struct type at e))
 said-const-type known false type h = h
 

@@ -27,7 +27,7 @@ pub record Known : Type 0 where
   -- the array lengths and enumerator values so far of the type name or declaration that is being read
   pub constants : List Tree
 
--- what doesn't change while a unit is read: its tokens, and which names of functions with internal linkage it doesn't define
+-- what doesn't change while a unit is read: its tokens, and which names it defines no function of
 pub record Setting : Type 0 where
   pub source : Source
   pub lacks : List ℕ → Bool

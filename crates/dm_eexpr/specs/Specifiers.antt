@@ -4,7 +4,7 @@
 --     are_allowed where said      the storage words and `inline` may stand there
 use Rattle.std.specs.Prelude.{ℕ, ◌+◌, Bool, true, false, ◌&&◌, ◌||◌, not, ◌==◌, if◌then◌else◌, List, [], ◌∷◌, ◌++◌, Option, Some, None}
 use Rattle.dm_int.specs.declared.Kind.TheVariants as k
-use Rattle.dm_type.specs.CTypes.{CType, void, integer, with_const}
+use Rattle.dm_type.specs.CTypes.{CType, void, integer, function, with_const}
 
 -- what the specifiers so far say: their type words, by their rows in the table of keywords (6.4.1); the types of typedef names, structs
 -- and enums; and their storage words, whether `inline` and whether `const` stands among them
@@ -168,5 +168,6 @@ are_allowed elsewhere said = is_empty said.storage && not said.inline
 
 -- the type with the const that specifiers say. A function type has none (6.7.3p9)
 abbrev pub with_said_const : Bool → CType → CType
+with_said_const true (function result parameters) = function result parameters
 with_said_const true type = with_const type
 with_said_const false type = type

@@ -29,6 +29,7 @@ use Rattle.dm_tree.specs.declared.unit.Linkage.TheVariants.{Internal, Absent}
 use Rattle.dm_tree.specs.Trees.{Label, Tree, label_of, kind_of}
 use Rattle.dm_tree.specs.Trees as label
 use Rattle.dm_tree.specs.Scenes.{is_lvalue, is_integer, is_scalar, is_void, is_array, is_function}
+use Rattle.dm_tree.specs.Initialisers.{is_function_sort}
 use Rattle.dm_tree.specs.Units.{Declaration}
 use Rattle.dm_eexpr.specs.declared.extent.Extent.{Extent}
 use Rattle.dm_eexpr.specs.Known.{Known, Setting, Outcome, given, broken, after, with_it, obeys, if_given, place_at, meaning_of, declaring, tag_key, tag_entry}
@@ -45,7 +46,7 @@ is_internal Internal = true
 is_internal other = false
 
 abbrev pub may_be_used : Setting → Bool → List ℕ → Declaration → Bool
-may_be_used setting used name entry = not (used && is_internal entry.linkage && setting.lacks name)
+may_be_used setting used name entry = not (used && is_function_sort entry.sort && is_internal entry.linkage && setting.lacks name)
 
 abbrev pub named : Setting → Bool → Known → Extent → List ℕ → Option Declaration → Outcome Tree
 named setting used known extent name None = broken 1 extent.inner.first
