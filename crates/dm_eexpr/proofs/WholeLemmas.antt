@@ -5,8 +5,8 @@ use Rattle.std.proofs.lemmas.List.Elements.{All-nil}
 use Rattle.dm_token.specs.declared.place.Span.{Span}
 use Rattle.dm_token.specs.declared.token.CToken.{CToken}
 use Rattle.dm_int.specs.declared.Kind.TheVariants as k
+use Rattle.dm_type.specs.declared.shape.Shape.{Shape}
 use Rattle.dm_type.specs.CTypes.{CType, integer, bare}
-use Rattle.dm_type.specs.Tables.{no_type}
 use Rattle.dm_scope.specs.Scopes.{Scopes}
 use Rattle.dm_syn.specs.declared.declared.Declared.{Declared}
 use Rattle.dm_syn.specs.declared.symbol.Symbol.{Symbol}
@@ -41,15 +41,18 @@ use Rattle.dm_eexpr.proofs.KnownLemmas.{Any, knows-through, type-stays, stays-so
 use Rattle.dm_eexpr.proofs.DerivedLemmas.{SaidFits, said-stays, word-fits, type-fits, said-more, steps-stay, pointers-fit, declarator-gives, type-gives, IsParameterType, AreParameterTypes, parameter-gives, without-void-fits, entered-sound, left-more, name-gives}
 use Rattle.dm_eexpr.proofs.TagLemmas.{Grown, tag-inside-found, tag-seen-found, enum-grown, enum-gives, struct-gives, struct-starts, beginning-sound, struct-ends}
 
--- ---- nothing is known
+-- ---- nothing is declared
 
-pub sound-start : (scopes : Scopes) → IsSoundKnown (record { types = no_type; scopes = scopes; declared = []; begun = []; constants = [] })
-sound-start scopes = record {
+abbrev at-start : List Shape → Scopes → Known
+at-start shapes scopes = record { types = record { shapes = shapes; structs = [] }; scopes = scopes; declared = []; begun = []; constants = [] }
+
+pub sound-start : (shapes : List Shape) (scopes : Scopes) → IsSoundKnown (at-start shapes scopes)
+sound-start shapes scopes = record {
   entries = λ at entry h. absurd (cc);
   complete = λ at members e. absurd (cc);
   layered = ((λ at. 0), (λ at members n one inner others e. absurd (cc)), (λ at members e. absurd (cc)));
   begun = λ at h. absurd (cc);
-  constants = (All-nil (IsConstant (scene_of (record { types = no_type; scopes = scopes; declared = []; begun = []; constants = [] }))), tt);
+  constants = (All-nil (IsConstant (scene_of (at-start shapes scopes))), tt);
 }
 
 -- ---- constants

@@ -16,7 +16,7 @@ use Rattle.dm_tree.specs.Units.{Declaration}
 
 -- what is known at a place
 pub record Known : Type 0 where
-  -- a number for each type, and the structs so far
+  -- a number for each type, and the structs so far. The shapes are those of the whole unit from its beginning on
   pub types : Table
   -- the scopes that are open
   pub scopes : Scopes

@@ -2,8 +2,8 @@
 
 ghost use Rattle.std.specs.Prelude.{ℕ, Bool, List, [], Option, ◌≡◌, Some};
 ghost use Rattle.dm_token.specs.declared.token.CToken.{CToken};
+ghost use Rattle.dm_type.specs.declared.shape.Shape.{Shape};
 ghost use Rattle.dm_type.specs.CTypes.{CType, bare};
-ghost use Rattle.dm_type.specs.Tables.{no_type};
 ghost use Rattle.dm_scope.specs.Scopes.{Scopes};
 ghost use Rattle.dm_syn.specs.declared.declared.Declared.{Declared};
 ghost use Rattle.dm_syn.specs.declared.symbol.Symbol.{Symbol};
@@ -82,7 +82,8 @@ pub fn expressions_are_well_typed()
         (declarator : Declarator) → IsDeclarator setting.source names of_parameter declarator → IsSoundKnown known → GivesMore known AreSteps (steps_of setting used known declarator) }
     ensures derivations { (known : Known) (type : CType) (steps : List Step) → IsSoundKnown known → IsType known type → AreSteps known steps →
         GivesMore known IsType (derived known type steps) }
-    ensures start { (scopes : Scopes) → IsSoundKnown (record { types = no_type; scopes = scopes; declared = []; begun = []; constants = [] }) }
+    ensures start { (shapes : List Shape) (scopes : Scopes) →
+        IsSoundKnown (record { types = record { shapes = shapes; structs = [] }; scopes = scopes; declared = []; begun = []; constants = [] }) }
 {}
 
 /// An example meets the premises of the laws on whole expressions: the tokens and the tree of `'a' + 1u`.
