@@ -1,0 +1,6 @@
+pub mod Standing
+pub mod Linkages
+pub mod Initialising
+pub mod Declaring
+pub mod Statements
+pub mod Units
