@@ -3,12 +3,11 @@
 --     typed_declarator setting known base declarator      the type of what a declarator declares
 --     typed_item setting specified standing item      what a declarator with its initialiser declares
 --     typed_declaration setting standing declaration      a declaration
-use Rattle.std.specs.Prelude.{ℕ, Bool, true, false, ◌&&◌, ◌||◌, not, if◌then◌else◌, List, [], ◌∷◌, ◌++◌, length, Option, Some, None, is_some, unwrap_or, slice_get, bytes_eq, codes}
+use Rattle.std.specs.Prelude.{ℕ, Bool, true, false, ◌&&◌, ◌||◌, not, if◌then◌else◌, List, [], ◌∷◌, ◌++◌, Option, Some, None, unwrap_or, slice_get, bytes_eq, codes}
 use Rattle.dm_token.specs.declared.place.Span.{Span}
 use Rattle.dm_type.specs.CTypes.{CType}
 use Rattle.dm_syn.specs.Spans.{declarator_span}
 use Rattle.dm_syn.specs.Scopes.{declarator_name}
-use Rattle.dm_syn.specs.Sources.{spelling_at}
 use Rattle.dm_syn.specs.Trees.{Specifiers, Words, Declarator, Initialiser, Item}
 use Rattle.dm_syn.specs.Trees as tree
 use Rattle.dm_tree.specs.declared.unit.Sort.{Sort}
@@ -19,12 +18,12 @@ use Rattle.dm_tree.specs.Trees as label
 use Rattle.dm_tree.specs.Scenes.{is_array}
 use Rattle.dm_tree.specs.Typing.{has_linkage, is_main_type}
 use Rattle.dm_tree.specs.Units.{Declaration}
-use Rattle.dm_eexpr.specs.Known.{Known, Setting, Outcome, given, broken, after, with_it}
+use Rattle.dm_eexpr.specs.Known.{Known, Setting, Outcome, after, with_it}
 use Rattle.dm_eexpr.specs.Conversions.{is_complete}
 use Rattle.dm_eexpr.specs.Specifiers.{Said, nothing_said, Where, of_declaration}
 use Rattle.dm_eexpr.specs.Typing.{is_file_scope, words_said, typed_said, steps_of, derived}
-use Rattle.dm_edecl.specs.Standing.{Linked, Standing, Progress, goes_on, stops, further, typing, keeps, with_constants}
-use Rattle.dm_edecl.specs.Linkages.{Storage, storage_of, is_typedef_storage, is_extern, is_static, is_same_linkage, entry_of, may_be_declared, declared_here, number_here, kind_seen, known_kind, linking, is_defined, is_typedef}
+use Rattle.dm_edecl.specs.Standing.{Standing, Progress, goes_on, stops, further, typing, keeps, with_constants}
+use Rattle.dm_edecl.specs.Linkages.{Storage, storage_of, is_extern, is_static, is_same_linkage, entry_of, may_be_declared, declared_here, number_here, kind_seen, known_kind, linking, is_defined}
 use Rattle.dm_edecl.specs.Initialising.{Initial, completed, expressions_alone, typed_initialiser}
 
 -- ---- specifiers (6.7.1 to 6.7.4)

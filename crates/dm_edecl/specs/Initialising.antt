@@ -2,9 +2,8 @@
 --     typed_initialiser setting fixed known type initialiser      what initialises an object of a type, with static storage or without
 --     completed setting type initialiser      the type of an array of unknown length that has this initialiser
 --     expressions_alone setting known initialiser      only the expressions of an initialiser that initialises nothing
-use Rattle.std.specs.Prelude.{ℕ, zero, suc, ◌+◌, ℤ, pos, Bool, true, false, ◌&&◌, ◌||◌, not, ◌==◌, nat_le, if◌then◌else◌, List, [], ◌∷◌, ◌++◌, length, Option, Some, None, is_some, option_map, option_and_then, bytes_eq, codes}
+use Rattle.std.specs.Prelude.{ℕ, zero, suc, ◌+◌, ℤ, Bool, true, false, ◌&&◌, ◌||◌, not, nat_le, if◌then◌else◌, List, [], ◌∷◌, ◌++◌, length, Option, Some, None, is_some, option_map, option_and_then, bytes_eq, codes}
 use Rattle.dm_token.specs.declared.place.Span.{Span}
-use Rattle.dm_int.specs.declared.Kind.TheVariants as k
 use Rattle.dm_type.specs.CTypes.{CType, array as array_type}
 use Rattle.dm_type.specs.Tables.{Table}
 use Rattle.dm_syn.specs.Sources.{spelling_at}
@@ -12,10 +11,10 @@ use Rattle.dm_syn.specs.Trees.{Expr, Initialiser, Initialisers}
 use Rattle.dm_syn.specs.Trees as tree
 use Rattle.dm_tree.specs.Constants.{integer_kind, is_constant_form, constant_value}
 use Rattle.dm_tree.specs.Evaluation.{is_true}
-use Rattle.dm_tree.specs.Initialisers.{is_character, Reach, nowhere, place, start, element_address, reach}
+use Rattle.dm_tree.specs.Initialisers.{is_character, Reach, place, start, reach}
 use Rattle.dm_tree.specs.Trees.{Label, Tree, Trees, node, no_trees, more_trees, kind_of, one_expression, in_braces, no_items, more_items}
 use Rattle.dm_tree.specs.Trees as label
-use Rattle.dm_tree.specs.Scenes.{is_scalar, is_array, part_type}
+use Rattle.dm_tree.specs.Scenes.{is_scalar, part_type}
 use Rattle.dm_eexpr.specs.Known.{Known, Setting, Outcome, given, broken, after, obeys, if_given}
 use Rattle.dm_eexpr.specs.Conversions.{as_value, as_type, constant_of, is_null, element}
 use Rattle.dm_eexpr.specs.Rules.{is_assignable}

@@ -4,3 +4,4 @@ pub mod Initialising
 pub mod Declaring
 pub mod Statements
 pub mod Units
+pub mod Examples

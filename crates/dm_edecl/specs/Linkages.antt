@@ -3,7 +3,7 @@
 --     may_be_declared standing entry      C2: another declaration of the name doesn't speak against it
 --     declared_here standing entry      the number of its entry, and what is known behind its declarator
 --     with_whole_kinds linked n declared      entries, from a number on, with the types that all declarations together say
-use Rattle.std.specs.Prelude.{ℕ, zero, suc, ◌+◌, Bool, true, false, ◌&&◌, ◌||◌, ◌==◌, if◌then◌else◌, List, [], ◌∷◌, ◌++◌, length, Option, Some, None, option_and_then, option_map, unwrap_or, slice_get, bytes_eq}
+use Rattle.std.specs.Prelude.{ℕ, zero, suc, ◌+◌, Bool, true, false, ◌&&◌, ◌||◌, ◌==◌, if◌then◌else◌, List, [], ◌∷◌, ◌++◌, length, Option, Some, None, unwrap_or, slice_get, bytes_eq}
 use Rattle.dm_type.specs.Alike.{are_compatible, composite}
 use Rattle.dm_type.specs.CTypes.{CType}
 use Rattle.dm_scope.specs.Scopes.{number_of, is_declared, declared as declared_in}

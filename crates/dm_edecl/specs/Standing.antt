@@ -4,12 +4,11 @@
 --     further progress next      what follows is typed with what is known then
 --     typing standing outcome next      an expression or a type name is typed here, and what follows with what is known then
 --     in_scope standing next      what is typed next is a scope of its own (6.2.1p4)
-use Rattle.std.specs.Prelude.{ℕ, Bool, true, false, List, [], ◌∷◌, ◌++◌, length, drop}
+use Rattle.std.specs.Prelude.{ℕ, Bool, true, false, List, ◌∷◌, ◌++◌, length, drop}
 use Rattle.std.specs.FinMap as map
 use Rattle.dm_type.specs.CTypes.{CType}
-use Rattle.dm_scope.specs.Scopes.{Numbers, Scopes}
+use Rattle.dm_scope.specs.Scopes.{Numbers}
 use Rattle.dm_tree.specs.Trees.{Tree}
-use Rattle.dm_tree.specs.Units.{Declaration}
 use Rattle.dm_eexpr.specs.Known.{Known, Outcome, given, broken}
 
 -- a declaration of an object or a function with linkage: the number of its entry, the type that it says, and whether it is a definition,

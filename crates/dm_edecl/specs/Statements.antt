@@ -1,7 +1,7 @@
 -- The typing of statements (6.8), a clause a form of the syntax.
 --     Within      what a statement stands within
 --     typed_stmt setting within standing stmt      the typed tree of a statement
-use Rattle.std.specs.Prelude.{ℕ, ℤ, Bool, true, false, ◌||◌, not, List, [], ◌∷◌, ◌++◌, length, Option, Some, None, is_some}
+use Rattle.std.specs.Prelude.{ℕ, ℤ, Bool, true, false, ◌||◌, not, List, [], ◌∷◌, ◌++◌, length, Option, Some, None}
 use Rattle.dm_token.specs.declared.place.Span.{Span}
 use Rattle.dm_int.specs.declared.Kind.{Kind}
 use Rattle.dm_int.specs.Kinds.{promote}
@@ -14,7 +14,7 @@ use Rattle.dm_tree.specs.Trees.{Label, Tree, kind_of}
 use Rattle.dm_tree.specs.Trees as label
 use Rattle.dm_tree.specs.Scenes.{is_scalar, is_void}
 use Rattle.dm_tree.specs.Typing.{is_same_label}
-use Rattle.dm_eexpr.specs.Known.{Known, Setting, Outcome, given, broken, after, with_it, obeys, if_given}
+use Rattle.dm_eexpr.specs.Known.{Known, Setting, Outcome, given, after, with_it, obeys, if_given}
 use Rattle.dm_eexpr.specs.Conversions.{made, as_value, as_type, as_kind, promoted, constant_of}
 use Rattle.dm_eexpr.specs.Rules.{is_assignable}
 use Rattle.dm_eexpr.specs.Typing.{extent, typed}

@@ -2,14 +2,14 @@
 --     typed_external setting standing external      an external declaration
 --     typed_unit shapes tokens externals      a unit of these tokens, where types have the numbers of these shapes: the typed unit, or the
 --         first typing rule that is broken
-use Rattle.std.specs.Prelude.{ℕ, Bool, true, false, ◌&&◌, ◌||◌, not, List, [], ◌∷◌, ◌++◌, length, Option, Some, None, is_some, bytes_eq, if◌then◌else◌}
+use Rattle.std.specs.Prelude.{ℕ, Bool, true, false, ◌&&◌, ◌||◌, not, List, [], ◌∷◌, Option, Some, None, is_some, bytes_eq, if◌then◌else◌}
 use Rattle.std.specs.FinMap as map
 use Rattle.dm_token.specs.declared.place.Span.{Span}
 use Rattle.dm_token.specs.declared.token.CToken.{CToken}
 use Rattle.dm_type.specs.declared.shape.Shape.{Shape}
 use Rattle.dm_type.specs.CTypes.{CType, void, function as function_type, bare}
 use Rattle.dm_scope.specs.Scopes.{Numbers, Scopes}
-use Rattle.dm_syn.specs.Sources.{Source, spelling_at}
+use Rattle.dm_syn.specs.Sources.{spelling_at}
 use Rattle.dm_syn.specs.Spans.{declarator_span}
 use Rattle.dm_syn.specs.Statements.{own_parameters}
 use Rattle.dm_syn.specs.Trees.{Specifiers, Declarator, Parameters, Parameter, Stmt, External}
