@@ -3,6 +3,7 @@
 --     completed setting type initialiser      the type of an array of unknown length that has this initialiser
 --     expressions_alone setting known initialiser      only the expressions of an initialiser that initialises nothing
 use Rattle.std.specs.Prelude.{ℕ, zero, suc, ◌+◌, ℤ, Bool, true, false, ◌&&◌, ◌||◌, not, nat_le, if◌then◌else◌, List, [], ◌∷◌, ◌++◌, length, Option, Some, None, is_some, option_map, option_and_then, bytes_eq, codes}
+use Rattle.std.specs.List.{list_any}
 use Rattle.dm_token.specs.declared.place.Span.{Span}
 use Rattle.dm_type.specs.CTypes.{CType, array as array_type}
 use Rattle.dm_type.specs.Tables.{Table}
@@ -44,22 +45,25 @@ single tree = record { form = one_expression; expressions = tree ∷ [] }
 
 -- ---- static storage (6.7.9p4)
 
--- a comma stands in a part that is evaluated, where it is told of each part whether one does, and what the value of each part is (6.6p3)
-abbrev pub is_taken : Bool → Option ℤ → Bool
-is_taken when None = false
-is_taken when (Some value) = if when then is_true value else not (is_true value)
+-- a value that is there and unequal to 0, and one that is 0
+abbrev pub is_nonzero : Option ℤ → Bool
+is_nonzero None = false
+is_nonzero (Some value) = is_true value
 
+abbrev pub is_zero : Option ℤ → Bool
+is_zero None = false
+is_zero (Some value) = not (is_true value)
+
+-- a comma stands in a part that is evaluated, where it is told what the value of each part is and whether a comma stands so in it (6.6p3)
 abbrev pub comma_at : Label → List (Option ℤ) → List Bool → Bool
 comma_at label.comma values commas = true
 comma_at label.convert values (first ∷ lengths) = first
 comma_at label.sizeof_tree values commas = false
 comma_at (label.sizeof_kind type) values commas = false
-comma_at label.both (a ∷ others) (first ∷ second ∷ []) = first || is_taken true a && second
-comma_at label.either (a ∷ others) (first ∷ second ∷ []) = first || is_taken false a && second
-comma_at label.choose (a ∷ others) (first ∷ second ∷ third ∷ []) = first || is_taken true a && second || is_taken false a && third
-comma_at label values [] = false
-comma_at label values (first ∷ []) = first
-comma_at label values (first ∷ second ∷ others) = first || second
+comma_at label.both (a ∷ others) (first ∷ second ∷ []) = first || is_nonzero a && second
+comma_at label.either (a ∷ others) (first ∷ second ∷ []) = first || is_zero a && second
+comma_at label.choose (a ∷ others) (first ∷ second ∷ third ∷ []) = first || is_nonzero a && second || is_zero a && third
+comma_at label values commas = list_any (λ comma. comma) commas
 
 abbrev mutual
   pub has_comma : Known → Tree → Bool
@@ -91,8 +95,8 @@ is_address_constant known (node label.address kind spans (more_trees operand no_
 is_address_constant known tree = is_start (reach (scene_of known) tree)
 
 -- C8 of static storage: an integer constant expression, a null pointer constant or an address constant
-abbrev pub may_be_static : Known → Tree → Bool
-may_be_static known tree = is_constant_expression known tree || is_null known tree || is_address_constant known tree
+abbrev pub is_static_value : Known → Tree → Bool
+is_static_value known tree = is_constant_expression known tree || is_null known tree || is_address_constant known tree
 
 -- C30: an integer constant expression has a value
 abbrev pub has_value : Known → Tree → Bool
@@ -103,7 +107,7 @@ has_value known tree = not (is_constant_expression known tree) || is_some (const
 -- a scalar is initialised as if by assignment (6.7.9p11): C8, C28, C30
 abbrev pub scalar_initialised : Known → Bool → CType → ℕ → Tree → Outcome Initial
 scalar_initialised known fixed type here value =
-    obeys (not fixed || may_be_static known value) 8 here
+    obeys (not fixed || is_static_value known value) 8 here
     (obeys (is_assignable known value type) 28 here
     (obeys (not fixed || has_value known value) 30 here
     (given known (single (as_type type value)))))
