@@ -23,7 +23,7 @@ use Rattle.dm_eexpr.specs.Conversions.{is_complete}
 use Rattle.dm_eexpr.specs.Specifiers.{Said, nothing_said, Where, of_declaration}
 use Rattle.dm_eexpr.specs.Typing.{is_file_scope, words_said, typed_said, steps_of, derived}
 use Rattle.dm_edecl.specs.Standing.{Standing, Progress, goes_on, stops, further, typing, keeps, with_constants}
-use Rattle.dm_edecl.specs.Linkages.{Storage, storage_of, is_extern, is_static, is_same_linkage, entry_of, may_be_declared, declared_here, number_here, kind_seen, known_kind, linking, is_defined}
+use Rattle.dm_edecl.specs.Linkages.{Storage, storage_of, is_extern, is_static, is_same_linkage, entry_of, may_be_declared, declared_here, number_here, kind_seen, object_here, is_defined}
 use Rattle.dm_edecl.specs.Initialising.{Initial, completed, expressions_alone, typed_initialiser}
 
 -- ---- specifiers (6.7.1 to 6.7.4)
@@ -113,19 +113,12 @@ abbrev pub may_be_initialised : Known → Declaration → Bool
 may_be_initialised known entry =
     is_function_sort entry.sort || is_object entry.sort && (is_file_scope known.scopes || not (has_linkage entry.linkage))
 
--- what is known behind an initialiser: the object is defined, with a type that is complete
-abbrev pub defined_behind : Standing → Declaration → ℕ → CType → Standing
-defined_behind standing entry number kind = record standing {
-  known = known_kind number kind standing.known;
-  linked = linking entry number kind true standing.linked;
-}
-
 -- C2: an object is defined once (6.9p3, p5); and C5 of an array that its initialiser completes
 abbrev pub object_defined : Standing → Declaration → ℕ → ℕ → ℕ → CType → Initial → Progress Local
 object_defined standing entry number here name kind initial =
     keeps (not (is_defined number standing.linked)) 2 name
     (keeps (is_complete standing.known kind) 5 here
-    (goes_on (defined_behind standing entry number kind) (local_initialised number initial)))
+    (goes_on (object_here standing entry number kind) (local_initialised number initial)))
 
 abbrev pub initialised : Setting → Standing → Declaration → ℕ → Span → ℕ → ℕ → CType → Initialiser → Progress Local
 initialised setting standing entry number span here name kind initialiser =
@@ -143,13 +136,13 @@ defines_object storage sort = is_object sort && not (is_extern storage)
 abbrev pub item_plain : Setting → Specified → Standing → Declarator → Declaration → Progress Local
 item_plain setting said standing declarator entry =
     declarable said standing false (declarator_span declarator).first (name_at declarator) entry
-    (goes_on (declared_here standing entry false)
+    (goes_on (declared_here standing entry)
     (local_plain (number_here standing.known entry) (defines_object said.storage entry.sort)))
 
 abbrev pub item_initialised : Setting → Specified → Standing → Span → Declarator → Initialiser → Declaration → Progress Local
 item_initialised setting said standing span declarator initialiser entry =
     declarable said standing true (declarator_span declarator).first (name_at declarator) entry
-    (initialised setting (declared_here standing entry false) entry (number_here standing.known entry) span
+    (initialised setting (declared_here standing entry) entry (number_here standing.known entry) span
     (declarator_span declarator).first (name_at declarator) (kind_seen standing.known entry) initialiser)
 
 abbrev pub typed_item : Setting → Specified → Standing → Item → Progress Local

@@ -1,7 +1,7 @@
 -- What a declarator declares: its sort, its linkage (6.2.2) and its type (6.2.7), and when it may be declared again (6.7p3).
 --     entry_of setting known storage at kind      the entry of a name that is declared here
 --     may_be_declared standing entry      C2: another declaration of the name doesn't speak against it
---     declared_here standing entry      the number of its entry, and what is known behind its declarator
+--     number_here known entry      the number of its entry, and `declared_here standing entry` what is known behind its declarator
 --     with_whole_kinds linked n declared      entries, from a number on, with the types that all declarations together say
 use Rattle.std.specs.Prelude.{ℕ, zero, suc, ◌+◌, Bool, true, false, ◌&&◌, ◌||◌, ◌==◌, if◌then◌else◌, List, [], ◌∷◌, ◌++◌, length, Option, Some, None, unwrap_or, slice_get, bytes_eq}
 use Rattle.dm_type.specs.Alike.{are_compatible, composite}
@@ -33,10 +33,6 @@ pub data Storage : Type 0 where
 abbrev pub storage_of : List ℕ → Storage
 storage_of [] = unsaid
 storage_of (row ∷ rows) = if row == 22 then typedef else if row == 9 then extern else static
-
-abbrev pub is_typedef_storage : Storage → Bool
-is_typedef_storage typedef = true
-is_typedef_storage storage = false
 
 abbrev pub is_extern : Storage → Bool
 is_extern extern = true
@@ -190,17 +186,39 @@ naming known entry (Some number) =
     known_kind number (kind_seen known entry) (record known { scopes = declared_in known.scopes entry.name number })
 naming known entry None = declaring known entry.name entry
 
-abbrev pub linking : Declaration → ℕ → CType → Bool → List Linked → List Linked
-linking entry number kind defines linked =
-    if has_linkage entry.linkage then linked ++ record { number = number; kind = kind; defines = defines } ∷ [] else linked
-
 abbrev pub number_here : Known → Declaration → ℕ
 number_here known entry = unwrap_or (number_before known entry) (length known.declared)
 
-abbrev pub declared_here : Standing → Declaration → Bool → Standing
-declared_here standing entry defines = record standing {
-  known = naming standing.known entry (number_before standing.known entry);
-  linked = linking entry (number_here standing.known entry) entry.kind defines standing.linked;
+abbrev pub named_here : Known → Declaration → Known
+named_here known entry = naming known entry (number_before known entry)
+
+-- one declaration more of what has linkage
+abbrev pub with_link : ℕ → CType → Bool → List Linked → List Linked
+with_link number kind defines linked = linked ++ record { number = number; kind = kind; defines = defines } ∷ []
+
+abbrev pub with_link_if : Bool → ℕ → CType → Bool → List Linked → List Linked
+with_link_if true number kind defines linked = with_link number kind defines linked
+with_link_if false number kind defines linked = linked
+
+-- a declarator that is no function definition
+abbrev pub declared_here : Standing → Declaration → Standing
+declared_here standing entry = record standing {
+  known = named_here standing.known entry;
+  linked = with_link_if (has_linkage entry.linkage) (number_here standing.known entry) entry.kind false standing.linked;
+}
+
+-- that of a function definition; a function has linkage (6.2.2p3, p5)
+abbrev pub function_here : Standing → Declaration → Standing
+function_here standing entry = record standing {
+  known = named_here standing.known entry;
+  linked = with_link (number_here standing.known entry) entry.kind true standing.linked;
+}
+
+-- what is known behind the initialiser of an object: it is defined, with a type that is complete
+abbrev pub object_here : Standing → Declaration → ℕ → CType → Standing
+object_here standing entry number kind = record standing {
+  known = known_kind number kind standing.known;
+  linked = with_link_if (has_linkage entry.linkage) number kind true standing.linked;
 }
 
 -- ---- C2: a definition comes once (6.9p3, p5)

@@ -23,7 +23,7 @@ use Rattle.dm_eexpr.specs.Conversions.{is_complete}
 use Rattle.dm_eexpr.specs.Specifiers.{of_definition}
 use Rattle.dm_eexpr.specs.Typing.{TypedParameter, parameter_of, parameter_at, entered, is_no_parameters, without_void}
 use Rattle.dm_edecl.specs.Standing.{Standing, Progress, goes_on, stops, further, typing, keeps, opened, closed, with_constants}
-use Rattle.dm_edecl.specs.Linkages.{entry_of, declared_here, number_here, is_defined, with_whole_kinds}
+use Rattle.dm_edecl.specs.Linkages.{entry_of, function_here, number_here, is_defined, with_whole_kinds}
 use Rattle.dm_edecl.specs.Declaring.{Specified, specified, typed_declarator, name_at, declarable, declarators_of, expressions_of, typed_declaration}
 use Rattle.dm_edecl.specs.Statements.{Within, statement, typed_stmt, typed_items_in}
 
@@ -105,7 +105,7 @@ abbrev pub function_defined : Setting → Specified → Standing → Span → De
 function_defined setting said standing span declarator body heading entry =
     keeps (not (is_defined (number_here standing.known entry) standing.linked)) 2 (name_at declarator)
     (declarable said standing false (declarator_span declarator).first (name_at declarator) entry
-    (further (typed_body setting (body_within heading.kind) (with_constants [] (declared_here standing entry true)) heading.scope body)
+    (further (typed_body setting (body_within heading.kind) (with_constants [] (function_here standing entry)) heading.scope body)
     (λ behind made. goes_on behind
     (external_of span standing.known.constants (defines_function (number_here standing.known entry) (numbers_of heading.parameters) made)))))
 

@@ -1,6 +1,10 @@
 //! The types of C declarations, statements and translation units (ISO/IEC 9899:2011, 6.2.1 to 6.2.3, 6.7 to 6.9): the
-//! definition of the typing.
+//! definition of the typing, and what holds of it.
 #![tactic(auto)]
+
+mod laws;
+
+pub use laws::functions_are_defined_once;
 
 #[cfg(test)]
 mod tests;

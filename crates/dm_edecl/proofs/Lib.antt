@@ -1,0 +1,2 @@
+pub mod ProgressLemmas
+pub mod OnceLemmas
