@@ -1,2 +1,5 @@
 pub mod ProgressLemmas
 pub mod OnceLemmas
+pub mod PlacingLemmas
+pub mod StatementPlacingLemmas
+pub mod UnitPlacingLemmas

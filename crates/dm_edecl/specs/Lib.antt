@@ -4,4 +4,5 @@ pub mod Initialising
 pub mod Declaring
 pub mod Statements
 pub mod Units
+pub mod Placing
 pub mod Examples

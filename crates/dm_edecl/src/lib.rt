@@ -4,7 +4,7 @@
 
 mod laws;
 
-pub use laws::functions_are_defined_once;
+pub use laws::{broken_rules_are_in_units, functions_are_defined_once};
 
 #[cfg(test)]
 mod tests;

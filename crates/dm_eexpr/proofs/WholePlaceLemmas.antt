@@ -90,7 +90,7 @@ values-placed at behind part one rest low placed others =
 
 -- ---- declarators
 
-pointers-on : (at : ℕ) (consts : List ℕ) → at ≤ pointers_after at consts
+pub pointers-on : (at : ℕ) (consts : List ℕ) → at ≤ pointers_after at consts
 pointers-on at [] = omega arith
 pointers-on at (many ∷ others) = let rest = pointers-on (at + 1 + many) others in omega (arith, rest)
 
@@ -133,7 +133,7 @@ pub record PlacedDirect (setting : Setting) (at : ℕ) (direct : Direct) : Type 
   pub steps : (used : Bool) (known : Known) → Places at (direct_after at direct) (StepsWithin at (direct_after at direct)) (direct_steps setting used known at direct)
 
 -- where a parameter's own rules are broken
-parameter-here : (span : Span) (declarator : Declarator) → span.first < span.after → span.first ≤ (declarator_span declarator).first
+pub parameter-here : (span : Span) (declarator : Declarator) → span.first < span.after → span.first ≤ (declarator_span declarator).first
     → (declarator_span declarator).after ≤ span.after → (is_shown declarator ≡ true → (declarator_span declarator).first < (declarator_span declarator).after)
     → (span.first ≤ parameter_at span declarator) × (parameter_at span declarator < span.after)
 parameter-here span (tree.shaped at [] tree.absent) on low high shown = (omega arith, on)
@@ -143,7 +143,7 @@ tag-on : (at : ℕ) (tag : Option ℕ) → at ≤ tag_after at tag
 tag-on at None = omega arith
 tag-on at (Some tag) = omega arith
 
-trailing-on : (at : ℕ) (trailing : Bool) → at ≤ trailing_after at trailing
+pub trailing-on : (at : ℕ) (trailing : Bool) → at ≤ trailing_after at trailing
 trailing-on at true = omega arith
 trailing-on at false = omega arith
 
@@ -573,7 +573,7 @@ module _ (setting : Setting) where
           steps = λ used known. shape-places setting used known span consts direct one ends;
         }
 
-    direct-placed : (names : List Declared) (of_parameter : Bool) (at : ℕ) (direct : Direct) → IsDirect setting.source names of_parameter at direct → PlacedDirect setting at direct
+    pub direct-placed : (names : List Declared) (of_parameter : Bool) (at : ℕ) (direct : Direct) → IsDirect setting.source names of_parameter at direct → PlacedDirect setting at direct
     direct-placed names of_parameter at tree.absent h = record {
       on = omega arith;
       shown = λ there. absurd (cc);
@@ -626,21 +626,21 @@ module _ (setting : Setting) where
         }
 
     -- 6.7.6.3
-    parameters-placed : (names : List Declared) (at : ℕ) (parameters : Parameters) → AreParameters setting.source names at parameters
+    pub parameters-placed : (names : List Declared) (at : ℕ) (parameters : Parameters) → AreParameters setting.source names at parameters
         → PlacedFrom at (parameters_after at parameters) (λ used known. parameters_of setting used known parameters)
     parameters-placed names at tree.no_parameters h = (omega arith, λ used known. tt)
     parameters-placed names at (tree.more_parameters first others) h =
         parameters-from at (parameters_after (parameter_span first).after others) (parameter_span first) (λ used known. parameter_of setting used known first)
         (λ used known. parameters_of setting used known others) (omega (arith, h.0)) (parameter-placed _ first h.1) (more-parameters-placed _ _ others h.2)
 
-    more-parameters-placed : (names : List Declared) (at : ℕ) (parameters : Parameters) → AreMoreParameters setting.source names at parameters
+    pub more-parameters-placed : (names : List Declared) (at : ℕ) (parameters : Parameters) → AreMoreParameters setting.source names at parameters
         → PlacedFrom at (parameters_after at parameters) (λ used known. parameters_of setting used known parameters)
     more-parameters-placed names at tree.no_parameters h = (omega arith, λ used known. tt)
     more-parameters-placed names at (tree.more_parameters first others) h =
         parameters-from at (parameters_after (parameter_span first).after others) (parameter_span first) (λ used known. parameter_of setting used known first)
         (λ used known. parameters_of setting used known others) (omega (arith, h.1)) (parameter-placed _ first h.2) (more-parameters-placed _ _ others h.3)
 
-    parameter-placed : (names : List Declared) (parameter : Parameter) → IsParameter setting.source names parameter
+    pub parameter-placed : (names : List Declared) (parameter : Parameter) → IsParameter setting.source names parameter
         → Placed (parameter_span parameter) (λ used known. parameter_of setting used known parameter)
     parameter-placed names (tree.parameter span specifiers declarator) h =
         let words = specifiers-placed _ elsewhere false specifiers h.1 in
