@@ -3,3 +3,5 @@ pub mod OnceLemmas
 pub mod PlacingLemmas
 pub mod StatementPlacingLemmas
 pub mod UnitPlacingLemmas
+pub mod InitialLemmas
+pub mod EntryLemmas

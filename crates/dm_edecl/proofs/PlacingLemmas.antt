@@ -1,12 +1,12 @@
 -- Where a rule of a declaration is broken: at a token of its own.
-use Rattle.std.specs.Prelude.{◌≡◌, ℕ, ◌+◌, ◌<◌, ◌≤◌, Bool, true, false, ◌&&◌, ◌||◌, not, if◌then◌else◌, List, [], ◌∷◌, ◌++◌, Option, Some, None, IsSome, unwrap_or, refl}
+use Rattle.std.specs.Prelude.{◌≡◌, ℕ, ◌+◌, ◌<◌, ◌≤◌, Bool, true, false, ◌||◌, not, if◌then◌else◌, List, [], ◌∷◌, ◌++◌, Option, Some, None, IsSome, unwrap_or, refl}
 use Rattle.std.proofs.Common.{sym, subst, arith}
 use Rattle.dm_token.specs.declared.place.Span.{Span}
 use Rattle.dm_type.specs.CTypes.{CType}
 use Rattle.dm_syn.specs.declared.declared.Declared.{Declared}
 use Rattle.dm_syn.specs.Spans.{expr_span, specifiers_span, declarator_span, initialiser_span, initialisers_after, item_span, items_after, declaration_span}
 use Rattle.dm_syn.specs.Scopes.{declarator_name, item_declares}
-use Rattle.dm_syn.specs.Grammar.{trailing_after, IsExpr, IsSpecifiers, IsDeclarator}
+use Rattle.dm_syn.specs.Grammar.{IsSpecifiers}
 use Rattle.dm_syn.specs.Statements.{IsInitialiser, AreMoreInitialisers, IsItem, AreMoreItems, AreItems, IsDeclaration}
 use Rattle.dm_syn.specs.Trees.{Expr, Specifiers, Declarator, Initialiser, Initialisers, Item}
 use Rattle.dm_syn.specs.Trees as tree
@@ -23,10 +23,10 @@ use Rattle.dm_eexpr.specs.Typing.{words_said, typed_said, typed_specifiers, step
 use Rattle.dm_eexpr.proofs.GrowthLemmas.{some-of}
 use Rattle.dm_eexpr.proofs.PlaceLemmas.{Places, Plain, wider, after-places, obeys-places, if-places, derived-places}
 use Rattle.dm_eexpr.proofs.WholePlaceLemmas.{PlacedDeclarator, trailing-on, expr-placed, specifiers-placed, declarator-placed}
-use Rattle.dm_edecl.specs.Standing.{Standing, Progress, goes_on, stops, further, typing, keeps, closed, with_constants}
+use Rattle.dm_edecl.specs.Standing.{Standing, Progress, goes_on, stops, further, typing, keeps, closed}
 use Rattle.dm_edecl.specs.Linkages.{entry_of, may_be_declared, declared_here, number_here, kind_seen, is_defined, object_here}
 use Rattle.dm_edecl.specs.Initialising.{Initial, single, is_static_value, has_value, scalar_initialised, is_string_for, initialised_by, First, first_scalar, zero_initialised, braced, completed, expressions_alone, all_expressions_alone, misplaced, scalar_in_braces, is_zero_list, all_zero, if_part, typed_initialiser, typed_initialisers, enclosed}
-use Rattle.dm_edecl.specs.Declaring.{Specified, specified_by, specified, is_alone, typed_declarator, name_at, is_misplaced_static, may_be_object, may_be_main, declarable, Local, local_plain, local_initialised, may_be_initialised, object_defined, initialised, item_plain, item_initialised, typed_item, typed_items, may_be_inline, typed_declaration, declared_by}
+use Rattle.dm_edecl.specs.Declaring.{Specified, specified_by, specified, is_alone, typed_declarator, name_at, is_misplaced_static, may_be_object, may_be_main, declarable, Local, local_initialised, may_be_initialised, object_defined, initialised, item_plain, item_initialised, typed_item, typed_items, may_be_inline, typed_declaration, declared_by}
 use Rattle.dm_edecl.specs.Placing.{StopsWithin}
 
 -- ---- one part after the other

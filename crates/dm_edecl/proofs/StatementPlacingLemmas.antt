@@ -1,5 +1,5 @@
 -- Where a rule of a statement is broken: at a token of its own. By induction over the syntax.
-use Rattle.std.specs.Prelude.{◌≡◌, ℕ, ◌+◌, ◌<◌, ◌≤◌, ℤ, true, not, List, [], ◌∷◌, ◌++◌, Option, Some, None, refl}
+use Rattle.std.specs.Prelude.{ℕ, ◌+◌, ◌<◌, ◌≤◌, ℤ, true, not, List, [], ◌∷◌, Option, Some, None}
 use Rattle.std.specs.FinMap as map
 use Rattle.std.proofs.Common.{arith}
 use Rattle.dm_token.specs.declared.place.Span.{Span}
@@ -8,21 +8,21 @@ use Rattle.dm_type.specs.CTypes.{CType}
 use Rattle.dm_syn.specs.declared.declared.Declared.{Declared}
 use Rattle.dm_syn.specs.Spans.{expr_span, declaration_span, stmt_span, block_item_span, block_items_after, switch_item_span, switch_items_after}
 use Rattle.dm_syn.specs.Grammar.{IsExpr}
-use Rattle.dm_syn.specs.Statements.{IsDeclaration, IsOptional, optional_after, IsStart, start_after, IsEnclosed, IsStmt, AreBlockItems, IsBlockItem, AreSwitchItems, IsSwitchItem}
+use Rattle.dm_syn.specs.Statements.{IsDeclaration, IsOptional, optional_after, IsStart, start_after, IsStmt, AreBlockItems, IsBlockItem, AreSwitchItems, IsSwitchItem}
 use Rattle.dm_syn.specs.Trees.{Expr, ForStart, Stmt, BlockItems, BlockItem, SwitchItems, SwitchItem}
 use Rattle.dm_syn.specs.Trees as tree
 use Rattle.dm_tree.specs.Constants.{integer_kind}
 use Rattle.dm_tree.specs.Scenes.{is_scalar, is_void}
 use Rattle.dm_tree.specs.Trees.{Tree, kind_of}
 use Rattle.dm_tree.specs.Trees as label
-use Rattle.dm_eexpr.specs.Known.{Known, Setting, Outcome, given, after, obeys, if_given}
+use Rattle.dm_eexpr.specs.Known.{Known, Setting, Outcome, given, obeys}
 use Rattle.dm_eexpr.specs.Conversions.{as_value, as_type, as_kind, constant_of}
 use Rattle.dm_eexpr.specs.Rules.{is_assignable}
 use Rattle.dm_eexpr.specs.Typing.{typed}
 use Rattle.dm_eexpr.proofs.PlaceLemmas.{Places, Plain, wider, after-places, obeys-places, if-places}
 use Rattle.dm_eexpr.proofs.WholePlaceLemmas.{expr-placed}
 use Rattle.dm_edecl.specs.Standing.{Standing, Progress, goes_on, further, typing, in_scope, opened}
-use Rattle.dm_edecl.specs.Statements.{Within, in_loop, in_switch, statement, full_statement, for_statement, Subject, subject, Labelled, AllLabelled, is_label_among, CaseValue, case_value, typed_value, typed_optional, typed_condition, typed_optional_condition, typed_subject, typed_case, returned, typed_return, declaration_tree, declared_in, typed_start, typed_stmt, typed_items_in, typed_item_in, typed_switch_items, typed_switch_item}
+use Rattle.dm_edecl.specs.Statements.{Within, in_loop, in_switch, statement, for_statement, Subject, subject, Labelled, AllLabelled, is_label_among, CaseValue, typed_value, typed_optional, typed_condition, typed_optional_condition, typed_subject, typed_case, returned, typed_return, declaration_tree, declared_in, typed_start, typed_stmt, typed_items_in, typed_item_in, typed_switch_items, typed_switch_item}
 use Rattle.dm_edecl.specs.Placing.{StopsWithin}
 use Rattle.dm_edecl.proofs.PlacingLemmas.{stops-wider, further-within, typing-within, keeps-within, closed-within, with-same, declaration-placed}
 

@@ -1,5 +1,5 @@
 -- Where a rule of a function definition or a unit is broken: at a token of its own.
-use Rattle.std.specs.Prelude.{◌≡◌, ℕ, ◌+◌, ◌<◌, ◌≤◌, Bool, true, false, ◌&&◌, not, if◌then◌else◌, List, [], ◌∷◌, ◌++◌, Option, Some, None, is_some, refl}
+use Rattle.std.specs.Prelude.{◌≡◌, ℕ, ◌+◌, ◌<◌, ◌≤◌, Bool, true, false, ◌&&◌, not, List, [], ◌∷◌, ◌++◌, Option, Some, None, is_some, refl}
 use Rattle.std.proofs.Common.{subst, arith}
 use Rattle.dm_scope.specs.Scopes.{Numbers}
 use Rattle.dm_token.specs.declared.place.Span.{Span}
@@ -12,23 +12,23 @@ use Rattle.dm_syn.specs.Sources.{Source}
 use Rattle.dm_syn.specs.Spans.{expr_span, specifiers_span, declarator_span, declaration_span, parameter_span, parameters_after, pointers_after, direct_after, stmt_span, block_items_after, external_span}
 use Rattle.dm_syn.specs.Scopes.{parameter_declares, external_declares}
 use Rattle.dm_syn.specs.Grammar.{IsDeclarator, IsDirect, AreParameters, AreMoreParameters, IsParameter}
-use Rattle.dm_syn.specs.Statements.{own_parameters, own_in_direct, own_in_pointers, IsStmt, AreBlockItems, IsExternal}
+use Rattle.dm_syn.specs.Statements.{own_parameters, own_in_direct, own_in_pointers, IsStmt, IsExternal}
 use Rattle.dm_syn.specs.Trees.{Declarator, Direct, Parameters, Parameter, Stmt, External}
 use Rattle.dm_syn.specs.Trees as tree
 use Rattle.dm_tree.specs.Trees as label
 use Rattle.dm_tree.specs.Units.{Declaration, defines_function, declares}
 use Rattle.dm_tree.specs.Units as unit
-use Rattle.dm_eexpr.specs.Known.{Known, Setting, Outcome, given, after, with_it, obeys}
+use Rattle.dm_eexpr.specs.Known.{Known, Setting, Outcome, given, with_it, obeys}
 use Rattle.dm_eexpr.specs.Conversions.{is_complete}
 use Rattle.dm_eexpr.specs.Specifiers.{elsewhere, of_definition}
 use Rattle.dm_eexpr.specs.Sound.{BreaksWithin}
 use Rattle.dm_eexpr.specs.Typing.{TypedParameter, parameter_of, parameter_at, entered, is_no_parameters, without_void}
 use Rattle.dm_eexpr.proofs.PlaceLemmas.{Places, Plain, wider, after-places, with-places, obeys-places}
 use Rattle.dm_eexpr.proofs.WholePlaceLemmas.{PlacedDeclarator, pointers-on, parameter-here, expr-placed, specifiers-placed, declarator-placed, direct-placed, parameters-placed, more-parameters-placed, parameter-placed}
-use Rattle.dm_edecl.specs.Standing.{Standing, Progress, goes_on, stops, further, typing, keeps, closed, opened, with_constants}
+use Rattle.dm_edecl.specs.Standing.{Standing, Progress, goes_on, stops, further, opened, with_constants}
 use Rattle.dm_edecl.specs.Linkages.{entry_of, function_here, number_here, is_defined}
-use Rattle.dm_edecl.specs.Declaring.{Specified, specified, typed_declarator, name_at, declarable, declarators_of, expressions_of, typed_declaration}
-use Rattle.dm_edecl.specs.Statements.{Within, statement, typed_stmt, typed_items_in}
+use Rattle.dm_edecl.specs.Declaring.{Specified, specified, typed_declarator, name_at, declarable, typed_declaration}
+use Rattle.dm_edecl.specs.Statements.{Within, statement, typed_items_in}
 use Rattle.dm_edecl.specs.Units.{is_only, may_be_defined, defined_parameter, defined_parameters, own_defined, Heading, innermost, typed_heading, numbers_of, body_within, typed_body, external_of, function_defined, typed_external, typed_externals, unit_setting, beginning, unit_of, typed_unit}
 use Rattle.dm_edecl.specs.Placing.{StopsWithin, externals_after, AreExternals}
 use Rattle.dm_edecl.proofs.PlacingLemmas.{stops-wider, further-within, typing-within, keeps-within, closed-within, either-places, BeginsAt, specified-placed, declarator-typed, name-placed, declarable-within, declaration-placed}

@@ -4,5 +4,6 @@ pub mod Initialising
 pub mod Declaring
 pub mod Statements
 pub mod Units
+pub mod Sound
 pub mod Placing
 pub mod Examples

@@ -1,21 +1,25 @@
 //! What holds of the typing of units.
 
-ghost use Rattle.std.specs.Prelude.{nat_eq, List, [], ◌≡◌};
+ghost use Rattle.std.specs.Prelude.{ℕ, nat_eq, Bool, false, List, [], ◌≡◌};
 ghost use Rattle.std.specs.List.{IsDistinct};
 ghost use Rattle.dm_token.specs.declared.token.CToken.{CToken};
 ghost use Rattle.dm_type.specs.declared.shape.Shape.{Shape};
+ghost use Rattle.dm_type.specs.CTypes.{CType};
 ghost use Rattle.dm_syn.specs.declared.declared.Declared.{Declared};
 ghost use Rattle.dm_syn.specs.Spans.{declaration_span, stmt_span, external_span};
-ghost use Rattle.dm_syn.specs.Statements.{IsDeclaration, IsStmt, IsExternal};
-ghost use Rattle.dm_syn.specs.Trees.{Declaration, Stmt, External};
-ghost use Rattle.dm_tree.specs.Typing.{defined_functions};
+ghost use Rattle.dm_syn.specs.Statements.{IsInitialiser, IsDeclaration, IsStmt, IsExternal};
+ghost use Rattle.dm_syn.specs.Trees.{Initialiser, Declaration, Stmt, External};
+ghost use Rattle.dm_tree.specs.Typing.{IsEntry, defined_functions};
 ghost use Rattle.dm_tree.specs.Units.{TypedUnit};
 ghost use Rattle.dm_eexpr.specs.Known.{Known, Setting, given};
-ghost use Rattle.dm_eexpr.specs.Sound.{BreaksWithin};
+ghost use Rattle.dm_eexpr.specs.Sound.{IsProper, AreSoundTokens, IsSoundKnown, GivesMore, BreaksWithin};
 ghost use Rattle.dm_edecl.specs.Standing.{Standing};
-ghost use Rattle.dm_edecl.specs.Declaring.{typed_declaration};
+ghost use Rattle.dm_edecl.specs.Linkages.{Storage, entry_of};
+ghost use Rattle.dm_edecl.specs.Initialising.{expressions_alone, typed_initialiser};
+ghost use Rattle.dm_edecl.specs.Declaring.{is_misplaced_static, typed_declaration};
 ghost use Rattle.dm_edecl.specs.Statements.{Within, typed_stmt};
 ghost use Rattle.dm_edecl.specs.Units.{unit_setting, typed_external, typed_unit};
+ghost use Rattle.dm_edecl.specs.Sound.{AllSound, IsSoundInitial};
 ghost use Rattle.dm_edecl.specs.Placing.{StopsWithin, externals_after, AreExternals};
 
 /// A typed unit defines no function twice (6.9p3, p5).
@@ -35,4 +39,20 @@ pub fn broken_rules_are_in_units()
         StopsWithin (external_span one).first (external_span one).after (typed_external setting standing one) }
     ensures units { (shapes : List Shape) (tokens : List CToken) (externals : List External) → AreExternals (unit_setting tokens externals).source [] 0 externals →
         BreaksWithin 0 (externals_after 0 externals) (typed_unit shapes tokens externals) }
+{}
+
+/// The expressions of an initialiser are well typed, whatever type it initialises, and so they are where it initialises
+/// nothing; what is known behind it is sound again.
+pub fn initialisers_are_well_typed()
+    ensures initialisers { (setting : Setting) → AreSoundTokens setting.source.tokens → (fixed : Bool) (known : Known) (names : List Declared) (type : CType) (one : Initialiser) →
+        IsInitialiser setting.source names one → IsSoundKnown known → IsProper type → GivesMore known IsSoundInitial (typed_initialiser setting fixed known type one) }
+    ensures alone { (setting : Setting) → AreSoundTokens setting.source.tokens → (known : Known) (names : List Declared) (one : Initialiser) →
+        IsInitialiser setting.source names one → IsSoundKnown known → GivesMore known AllSound (expressions_alone setting known one) }
+{}
+
+/// What a declarator declares is an entry of a unit: its type and its linkage are such as its sort has. A function that is
+/// `static` in a block has no linkage, and is none (6.7.1p7).
+pub fn declarators_declare_entries()
+    ensures { (setting : Setting) (known : Known) (storage : Storage) (at : ℕ) (kind : CType) →
+        is_misplaced_static known storage (entry_of setting known storage at kind).sort ≡ false → IsEntry (entry_of setting known storage at kind) }
 {}

@@ -4,7 +4,10 @@
 
 mod laws;
 
-pub use laws::{broken_rules_are_in_units, functions_are_defined_once};
+pub use laws::{
+    broken_rules_are_in_units, declarators_declare_entries, functions_are_defined_once,
+    initialisers_are_well_typed,
+};
 
 #[cfg(test)]
 mod tests;
