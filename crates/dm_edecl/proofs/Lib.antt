@@ -5,3 +5,5 @@ pub mod StatementPlacingLemmas
 pub mod UnitPlacingLemmas
 pub mod InitialLemmas
 pub mod EntryLemmas
+pub mod StatementLemmas
+pub mod ExampleLemmas

@@ -1,14 +1,17 @@
 //! What holds of the typing of units.
 
-ghost use Rattle.std.specs.Prelude.{ℕ, nat_eq, Bool, false, List, [], ◌≡◌};
+ghost use Rattle.std.specs.Prelude.{ℕ, nat_eq, ℤ, Bool, false, List, [], Option, ◌≡◌};
 ghost use Rattle.std.specs.List.{IsDistinct};
+ghost use Rattle.dm_token.specs.declared.place.Span.{Span};
 ghost use Rattle.dm_token.specs.declared.token.CToken.{CToken};
+ghost use Rattle.dm_int.specs.declared.Kind.{Kind};
 ghost use Rattle.dm_type.specs.declared.shape.Shape.{Shape};
-ghost use Rattle.dm_type.specs.CTypes.{CType};
+ghost use Rattle.dm_type.specs.CTypes.{CType, bare};
 ghost use Rattle.dm_syn.specs.declared.declared.Declared.{Declared};
 ghost use Rattle.dm_syn.specs.Spans.{declaration_span, stmt_span, external_span};
-ghost use Rattle.dm_syn.specs.Statements.{IsInitialiser, IsDeclaration, IsStmt, IsExternal};
-ghost use Rattle.dm_syn.specs.Trees.{Initialiser, Declaration, Stmt, External};
+ghost use Rattle.dm_syn.specs.Grammar.{IsExpr};
+ghost use Rattle.dm_syn.specs.Statements.{IsOptional, IsInitialiser, IsDeclaration, IsStmt, IsExternal};
+ghost use Rattle.dm_syn.specs.Trees.{Expr, Initialiser, Declaration, Stmt, External};
 ghost use Rattle.dm_tree.specs.Typing.{IsEntry, defined_functions};
 ghost use Rattle.dm_tree.specs.Units.{TypedUnit};
 ghost use Rattle.dm_eexpr.specs.Known.{Known, Setting, given};
@@ -17,10 +20,11 @@ ghost use Rattle.dm_edecl.specs.Standing.{Standing};
 ghost use Rattle.dm_edecl.specs.Linkages.{Storage, entry_of};
 ghost use Rattle.dm_edecl.specs.Initialising.{expressions_alone, typed_initialiser};
 ghost use Rattle.dm_edecl.specs.Declaring.{is_misplaced_static, typed_declaration};
-ghost use Rattle.dm_edecl.specs.Statements.{Within, typed_stmt};
+ghost use Rattle.dm_edecl.specs.Statements.{Within, typed_condition, typed_subject, typed_case, typed_return, typed_stmt};
 ghost use Rattle.dm_edecl.specs.Units.{unit_setting, typed_external, typed_unit};
-ghost use Rattle.dm_edecl.specs.Sound.{AllSound, IsSoundInitial};
+ghost use Rattle.dm_edecl.specs.Sound.{AllSound, IsSoundInitial, IsSoundCondition, IsSoundSubject, IsSoundCase, IsSoundReturn};
 ghost use Rattle.dm_edecl.specs.Placing.{StopsWithin, externals_after, AreExternals};
+ghost use Rattle.dm_edecl.specs.Examples.{twice_tokens, twice};
 
 /// A typed unit defines no function twice (6.9p3, p5).
 pub fn functions_are_defined_once()
@@ -41,6 +45,11 @@ pub fn broken_rules_are_in_units()
         BreaksWithin 0 (externals_after 0 externals) (typed_unit shapes tokens externals) }
 {}
 
+/// An example meets the premise of the law on units: `int a; long a;`, which breaks a rule.
+pub fn an_example_meets_the_premise()
+    ensures { AreExternals (unit_setting twice_tokens twice).source [] 0 twice }
+{}
+
 /// The expressions of an initialiser are well typed, whatever type it initialises, and so they are where it initialises
 /// nothing; what is known behind it is sound again.
 pub fn initialisers_are_well_typed()
@@ -55,4 +64,19 @@ pub fn initialisers_are_well_typed()
 pub fn declarators_declare_entries()
     ensures { (setting : Setting) (known : Known) (storage : Storage) (at : ℕ) (kind : CType) →
         is_misplaced_static known storage (entry_of setting known storage at kind).sort ≡ false → IsEntry (entry_of setting known storage at kind) }
+{}
+
+/// The expressions of statements are well typed, and such as the statements want: a condition is a scalar, the operand of a
+/// switch has a promoted kind, the value of a `case` is a constant of that kind, and a `return` gives a value of the type of
+/// the function's result exactly where that isn't void.
+pub fn expressions_fit_statements()
+    ensures conditions { (setting : Setting) → AreSoundTokens setting.source.tokens → (known : Known) (names : List Declared) (expr : Expr) →
+        IsExpr setting.source names expr → IsSoundKnown known → GivesMore known IsSoundCondition (typed_condition setting known expr) }
+    ensures subjects { (setting : Setting) → AreSoundTokens setting.source.tokens → (known : Known) (names : List Declared) (expr : Expr) →
+        IsExpr setting.source names expr → IsSoundKnown known → GivesMore known IsSoundSubject (typed_subject setting known expr) }
+    ensures cases { (setting : Setting) → AreSoundTokens setting.source.tokens → (known : Known) (names : List Declared) (kind : Kind) (labels : List (Option ℤ)) (expr : Expr) →
+        IsExpr setting.source names expr → IsSoundKnown known → GivesMore known (IsSoundCase kind) (typed_case setting known kind labels expr) }
+    ensures returns { (setting : Setting) → AreSoundTokens setting.source.tokens → (known : Known) (names : List Declared) (result : CType) (span : Span) (at : ℕ) (expr : Option Expr) →
+        result ≡ bare result → IsProper result → IsOptional setting.source names at expr → IsSoundKnown known →
+        GivesMore known (IsSoundReturn result) (typed_return setting known result span expr) }
 {}

@@ -5,8 +5,8 @@
 mod laws;
 
 pub use laws::{
-    broken_rules_are_in_units, declarators_declare_entries, functions_are_defined_once,
-    initialisers_are_well_typed,
+    an_example_meets_the_premise, broken_rules_are_in_units, declarators_declare_entries,
+    expressions_fit_statements, functions_are_defined_once, initialisers_are_well_typed,
 };
 
 #[cfg(test)]
