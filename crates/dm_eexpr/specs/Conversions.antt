@@ -13,7 +13,7 @@ use Rattle.dm_type.specs.Layouts.{size_of}
 use Rattle.dm_type.specs.Tables.{Table, type_of, members_of}
 use Rattle.dm_syn.specs.Sources.{Source}
 use Rattle.dm_tree.specs.Constants.{constant}
-use Rattle.dm_tree.specs.Trees.{Label, read, decay, convert as conversion, Spans, Tree, Trees, node, no_trees, more_trees, kind_of, spans_of, trees}
+use Rattle.dm_tree.specs.Trees.{Label, read, decay, convert as conversion, Spans, Tree, node, no_trees, more_trees, kind_of, spans_of, trees}
 use Rattle.dm_tree.specs.Scenes.{is_lvalue, target}
 use Rattle.dm_eexpr.specs.declared.extent.Extent.{Extent}
 use Rattle.dm_eexpr.specs.Known.{Known, place_at}
