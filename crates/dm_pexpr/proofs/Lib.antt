@@ -6,6 +6,9 @@ pub mod Exactness
 pub mod Expressions
 pub mod MapLemmas
 pub mod PartLemmas
+pub mod TypeViewLemmas
+pub mod TypeNodeLemmas
+pub mod DeclaratorNodeLemmas
 pub mod ViewLemmas
 pub mod NodeLemmas
 pub mod Positions
@@ -17,3 +20,9 @@ pub mod SpecifierSymbols
 pub mod Specifiers
 pub mod SymbolLemmas
 pub mod SymbolTests
+pub mod ListLemmas
+pub mod ReadLists
+pub mod ReadExprs
+pub mod ReadDeclarators
+pub mod ReadSpecifiers
+pub mod Wholes

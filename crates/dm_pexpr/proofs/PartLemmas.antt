@@ -1,5 +1,5 @@
 -- What is put together of parts.
-use Rattle.std.proofs.Common.{◌≡◌, ◌≤◌, ℕ, Bool, true, false, List, ◌++◌, length, Option, Some, None, nat_le, refl, sym, subst, arith, if◌then◌else◌}
+use Rattle.std.proofs.Common.{◌≡◌, ◌≤◌, ℕ, Bool, true, false, List, ◌++◌, length, Option, Some, None, nat_le, refl, sym, ap, ◌∙◌, subst, arith, if◌then◌else◌}
 use Rattle.dm_syn.specs.declared.declared.Declared.{Declared}
 use Rattle.dm_syn.specs.Sources.{Source}
 use Rattle.dm_pexpr.specs.declared.part.Part.{Part}
@@ -42,3 +42,22 @@ made-gives kind source before after made own height end tree wanted is wants see
 pub part-of : {A T : Type 0} (kind : Kind A T) (source : Source) (before after : List Declared) (found : Option (Part A)) (part : Part A) (wanted : Option T)
     → found ≡ Some part → Gives kind source before after found wanted → IsPart kind source before after part wanted
 part-of kind source before after found part wanted is given = subst (λ o. Gives kind source before after o wanted) is given
+
+-- a part that is made, whatever its height
+pub part-is : {A T : Type 0} (kind : Kind A T) (source : Source) (before after : List Declared) (own : A) (height end : ℕ) (tree : T) (wanted : Option T)
+    → wanted ≡ Some tree → kind.view own ≡ tree → kind.begins own ≡ kind.first tree → height ≡ kind.height tree → height ≤ kind.highest → end ≡ kind.after tree
+    → end ≤ length source.tokens → after ≡ kind.declares tree ++ before
+    → IsPart kind source before after (record { tree = own; height = height; after = end }) wanted
+part-is kind source before after own height end tree wanted wants seen starts high low ends within scoped = record {
+  read = wants ∙ ap (λ t. Some t) (sym seen);
+  starts = starts ∙ ap (λ t. kind.first t) (sym seen);
+  high = high ∙ ap (λ t. kind.height t) (sym seen);
+  low = low;
+  ends = ends ∙ ap (λ t. kind.after t) (sym seen);
+  within = within;
+  scoped = scoped ∙ ap (λ t. kind.declares t ++ before) (sym seen);
+}
+
+-- nothing is made where nothing is wanted
+pub none-gives : {A T : Type 0} (kind : Kind A T) (source : Source) (before after : List Declared) (made : Option (Part A)) (wanted : Option T) → made ≡ None → wanted ≡ None → Gives kind source before after made wanted
+none-gives kind source before after made wanted none absent = subst (λ m. Gives kind source before after m wanted) (sym none) absent

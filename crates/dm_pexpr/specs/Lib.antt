@@ -4,3 +4,4 @@ pub mod Readings
 pub mod Scoping
 pub mod Parts
 pub mod Shapes
+pub mod Answers

@@ -1,5 +1,5 @@
 -- What the code reads, and what it stands for.
-use Rattle.std.specs.Prelude.{◌≡◌, ◌≤◌, ◌+◌, ℕ, Bool, true, false, List, [], ◌∷◌, ◌++◌, length, map, Option, Some, None}
+use Rattle.std.specs.Prelude.{◌≡◌, ◌≤◌, ◌+◌, ℕ, Bool, true, false, not, List, [], ◌∷◌, ◌++◌, length, map, Option, Some, None}
 use Rattle.dm_syn.specs.declared.declared.Declared.{Declared}
 use Rattle.dm_syn.specs.declared.expression.Expr.{Expr}
 use Rattle.dm_syn.specs.declared.declaration.TypeName.{TypeName}
@@ -19,9 +19,10 @@ use Rattle.dm_syn.specs.Scopes.{expr_declares, exprs_declares, type_name_declare
 use Rattle.dm_pexpr.specs.declared.reader.Reader.{Reader}
 use Rattle.dm_pexpr.specs.declared.part.Part.{Part}
 use Rattle.dm_pexpr.specs.NameMaps.{is_type}
-use Rattle.dm_pexpr.specs.Parsing.{Parts, where_true, checked_expr, span_of, binary_from, prepend_expr, prepend_declarator, prepend_enumerator, prepend_parameter, prepend_member, prepend_word}
-use Rattle.dm_syn.specs.Symbols.{is_identifier}
+use Rattle.dm_pexpr.specs.Parsing.{Parts, where_true, checked_expr, span_of, binary_from, prefix_from, array_of, function_of}
+use Rattle.dm_syn.specs.Symbols.{is, is_identifier}
 use Rattle.dm_syn.specs.declared.symbol.Symbol.{Symbol}
+use Rattle.dm_syn.specs.declared.symbol.Symbol.TheVariants as symbol
 
 -- the tokens that a reader looks at
 abbrev pub source_of : Reader → Source
@@ -101,7 +102,7 @@ abbrev pub enumerators_from : Source → ℕ → Kind (List EnumItem) tree.Enume
 enumerators_from source at = record { view = λ items. view.enumerators (map view.enum_item items); begins = λ _. 0; first = λ _. 0; height = enumerators_height; after = enumerators_after at; declares = enumerators_declares source; highest = 513 }
 
 abbrev pub declarators_from : Source → ℕ → Kind (List Declarator) tree.Declarators
-declarators_from source at = record { view = λ items. view.declarators (map view.declarator items); begins = λ _. 0; first = λ _. 0; height = declarators_height; after = declarators_after at; declares = declarators_declares source; highest = 513 }
+declarators_from source at = record { view = λ items. view.declarators (map view.declarator items); begins = λ _. 0; first = λ _. 0; height = declarators_height; after = declarators_after at; declares = declarators_declares source; highest = 512 }
 
 abbrev pub parameters_from : Source → ℕ → Kind (List Parameter) tree.Parameters
 parameters_from source at = record { view = λ items. view.parameters (map view.parameter items); begins = λ _. 0; first = λ _. 0; height = parameters_height; after = parameters_after at; declares = parameters_declares source; highest = 513 }
@@ -113,6 +114,11 @@ member_from source names left name true =
 member_from source names left name false =
     where_true (is_identifier (symbol_in source names name)) (checked_expr (tree.member (span_of (expr_span left).first (name + 1)) left name))
 
+-- a prefix operator whose operand has at least a level, and the operand
+abbrev pub prefixed_from : Parts → List Declared → ℕ → Option ℕ → Option tree.Expr
+prefixed_from parts names at None = None
+prefixed_from parts names at (Some level) = prefix_from at (parts.expr level names (at + 1))
+
 -- an operator between two operands and its right operand
 abbrev pub operated_from : Parts → List Declared → tree.Expr → ℕ → Option ℕ → Option tree.Expr
 operated_from parts names left at None = None
@@ -120,40 +126,32 @@ operated_from parts names left at (Some level) = binary_from left at (parts.expr
 
 -- what goes on behind an operand, and the position behind it
 abbrev pub GoesOn : Bool → Symbol → ℕ → ℕ → Option (Symbol × ℕ) → Type 0
-GoesOn goes symbol at end None = goes ≡ false
-GoesOn goes symbol at end (Some found) = (goes ≡ true) × (found.0 ≡ symbol) × (found.1 ≡ at + 1) × (found.1 ≤ end)
+GoesOn goes it at end None = goes ≡ false
+GoesOn goes it at end (Some found) = (goes ≡ true) × (found.0 ≡ it) × (found.1 ≡ at + 1) × (found.1 ≤ end)
 
--- expressions that come before others
-abbrev pub with_exprs : List tree.Expr → Option tree.Exprs → Option tree.Exprs
-with_exprs [] wanted = wanted
-with_exprs (first ∷ others) wanted = prepend_expr first (with_exprs others wanted)
+-- what is put together of some trees and of what is read behind them
+abbrev pub behind_all : {T L : Type 0} → (T → Option L → Option L) → List T → Option L → Option L
+behind_all prepend [] others = others
+behind_all prepend (first ∷ middle) others = prepend first (behind_all prepend middle others)
 
 -- a comma expression of these parts
 abbrev pub comma_node : ℕ → ℕ → Option tree.Exprs → Option tree.Expr
 comma_node first start None = None
 comma_node first start (Some parts) = checked_expr (tree.comma (span_of first (exprs_after start parts)) parts)
 
--- and likewise
-abbrev pub with_declarators : List tree.Declarator → Option tree.Declarators → Option tree.Declarators
-with_declarators [] wanted = wanted
-with_declarators (first ∷ others) wanted = prepend_declarator first (with_declarators others wanted)
+-- an array or a function behind the innermost part of a declarator
+abbrev pub direct_from : Source → Parts → Bool → List Declared → ℕ → tree.Direct → Option tree.Direct
+direct_from source parts true names at direct = array_of source parts names at direct
+direct_from source parts false names at direct = function_of source parts names at direct
 
--- and likewise
-abbrev pub with_enumerators : List tree.Enumerator → Option tree.Enumerators → Option tree.Enumerators
-with_enumerators [] wanted = wanted
-with_enumerators (first ∷ others) wanted = prepend_enumerator first (with_enumerators others wanted)
+-- whether `[` or `(` stands at a place: whether it is `[`, and the position behind it
+abbrev pub OpensSuffix : Symbol → ℕ → ℕ → Option (Bool × ℕ) → Type 0
+OpensSuffix opening at end None = (is opening symbol.LeftBracket ≡ false) × (is opening symbol.LeftParen ≡ false)
+OpensSuffix opening at end (Some found) =
+    (is opening symbol.LeftBracket ≡ found.0) × (is opening symbol.LeftParen ≡ not found.0) × (found.1 ≡ at + 1) × (found.1 ≤ end)
 
--- and likewise
-abbrev pub with_parameters : List tree.Parameter → Option tree.Parameters → Option tree.Parameters
-with_parameters [] wanted = wanted
-with_parameters (first ∷ others) wanted = prepend_parameter first (with_parameters others wanted)
-
--- and likewise
-abbrev pub with_members : List tree.Member → Option tree.Members → Option tree.Members
-with_members [] wanted = wanted
-with_members (first ∷ others) wanted = prepend_member first (with_members others wanted)
-
--- and likewise
-abbrev pub with_words : List tree.Specifier → Option tree.Words → Option tree.Words
-with_words [] wanted = wanted
-with_words (first ∷ others) wanted = prepend_word first (with_words others wanted)
+-- members from a place on that a closing brace follows
+abbrev pub AreClosed : Source → List Declared → ℕ → Option tree.Members → Type 0
+AreClosed source names inside None = Unit {0}
+AreClosed source names inside (Some members) =
+    is (symbol_in source (members_declares source members ++ names) (members_after inside members)) symbol.RightBrace ≡ true

@@ -1,13 +1,16 @@
 //! Looking at a token.
 
-ghost use Rattle.std.specs.Prelude.{◌≡◌, ◌≢◌, ◌≤◌, ◌<◌, IfOk, length, false};
-ghost use Rattle.dm_syn.specs.declared.symbol.Symbol.TheVariants.{End, Identifier};
-ghost use Rattle.dm_syn.specs.Symbols.{is, is_identifier};
+ghost use Rattle.std.specs.Prelude.{◌≡◌, ◌≢◌, ◌≤◌, ◌<◌, ◌+◌, ◌&&◌, not, IfOk, length, false};
+ghost use Rattle.dm_syn.specs.declared.symbol.Symbol.TheVariants.{End, Identifier, LeftParen, RightBrace, Comma};
+ghost use Rattle.dm_syn.specs.Symbols.{is, is_identifier, begins_specifiers};
 ghost use Rattle.dm_syn.specs.Sources.{symbol_in, symbol_at, spelling_at, names_type, seen_as as seen_meant};
+ghost use Rattle.dm_pexpr.specs.Parsing.{takes_name, encloses};
+ghost use Rattle.dm_pexpr.specs.Shapes.{shape_of};
 ghost use Rattle.dm_pexpr.specs.Parts.{source_of, Passes};
 
 use crate::reader::Reader;
 use crate::scope::Scope;
+use crate::shape::Shape;
 use dm_syn::{Symbol, symbol_of};
 use dm_token::{Memory, Text};
 
@@ -88,6 +91,53 @@ impl Reader<'_> {
             Some(at + 1)
         } else {
             None
+        }
+    }
+
+    /// The position behind `(`, if it stands here and a type name behind it.
+    pub fn behind_type_paren(&self, scope: &Scope, at: u32) -> Option<u32>
+        ensures { Passes (is (symbol_in (source_of self.now) scope.now at) LeftParen && begins_specifiers (symbol_in (source_of self.now) scope.now (at + 1))) at (length self.now.tokens.now) result }
+    {
+        let inside = self.behind(scope, at, Symbol::LeftParen)?;
+        if self.symbol(scope, inside).begins_specifiers() {
+            Some(inside)
+        } else {
+            None
+        }
+    }
+
+    // The position behind the declared name, if it stands here and may.
+    pub(crate) fn behind_name(&self, scope: &Scope, at: u32, shape: Shape) -> Option<u32>
+        ensures { Passes (takes_name (shape_of shape) && is_identifier (symbol_in (source_of self.now) scope.now at)) at (length self.now.tokens.now) result }
+    {
+        if shape.takes_name() {
+            self.behind_identifier(scope, at)
+        } else {
+            None
+        }
+    }
+
+    // The position behind `(`, if it stands here and encloses a declarator.
+    pub(crate) fn behind_enclosing(&self, scope: &Scope, at: u32, shape: Shape) -> Option<u32>
+        ensures { Passes (is (symbol_in (source_of self.now) scope.now at) LeftParen && encloses (shape_of shape) (symbol_in (source_of self.now) scope.now (at + 1))) at (length self.now.tokens.now) result }
+    {
+        let inside = self.behind(scope, at, Symbol::LeftParen)?;
+        if shape.encloses(self.symbol(scope, inside)) {
+            Some(inside)
+        } else {
+            None
+        }
+    }
+
+    // The position behind a comma, if it stands here and no closing brace behind it.
+    pub(crate) fn behind_separator(&self, scope: &Scope, at: u32) -> Option<u32>
+        ensures { Passes (is (symbol_in (source_of self.now) scope.now at) Comma && not (is (symbol_in (source_of self.now) scope.now (at + 1)) RightBrace)) at (length self.now.tokens.now) result }
+    {
+        let next = self.behind(scope, at, Symbol::Comma)?;
+        if self.symbol(scope, next).is(Symbol::RightBrace) {
+            None
+        } else {
+            Some(next)
         }
     }
 }
