@@ -20,7 +20,7 @@ mod types;
 pub use calls::{expression, type_name};
 pub use laws::{one_expression, one_type_name, reads_expressions, reads_type_names};
 pub use names::Names;
-pub use part::Part;
+pub use part::{Part, above, begun, checked, joined, over};
 pub use reader::Reader;
 pub use scope::Scope;
 pub use shape::Shape;

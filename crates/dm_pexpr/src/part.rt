@@ -15,8 +15,8 @@ pub struct Part<T> {
     pub after: u32,
 }
 
-// A tree with its height and where it ends, unless it is too high.
-pub(crate) fn checked<T: Drop>(tree: T, height: u32, after: u32) -> Option<Part<T>>
+/// A tree with its height and where it ends, unless it is too high.
+pub fn checked<T: Drop>(tree: T, height: u32, after: u32) -> Option<Part<T>>
     ensures { result ≡ (if nat_le height limit then Some (record { tree = tree; height = height; after = after }) else None) }
 {
     if height <= 512 {
@@ -30,22 +30,22 @@ pub(crate) fn checked<T: Drop>(tree: T, height: u32, after: u32) -> Option<Part<
     }
 }
 
-// One more than the height of a part.
-pub(crate) fn over(part: u32) -> u32
+/// One more than the height of a part.
+pub fn over(part: u32) -> u32
     ensures { part < 1000 → result ≡ part + 1 }
 {
     part.saturating_add(1)
 }
 
-// One more than the height of the highest of two parts.
-pub(crate) fn above(left: u32, right: u32) -> u32
+/// One more than the height of the highest of two parts.
+pub fn above(left: u32, right: u32) -> u32
     ensures { left < 1000 → right < 1000 → result ≡ height.above left right }
 {
     over(left.max(right))
 }
 
-// A list of one part.
-pub(crate) fn begun<T: Drop>(alloc: Global, part: Part<T>) -> Result<Part<List<T>>, Memory>
+/// A list of one part.
+pub fn begun<T: Drop>(alloc: Global, part: Part<T>) -> Result<Part<List<T>>, Memory>
     ensures { IfOk result (λ list. list ≡ record { tree = part.tree ∷ []; height = part.height; after = part.after }) }
 {
     let mut tree = List::new(alloc);
@@ -57,8 +57,8 @@ pub(crate) fn begun<T: Drop>(alloc: Global, part: Part<T>) -> Result<Part<List<T
     })
 }
 
-// A list with one more part.
-pub(crate) fn joined<T: Drop>(list: Part<List<T>>, part: Part<T>) -> Result<Part<List<T>>, Memory>
+/// A list with one more part.
+pub fn joined<T: Drop>(list: Part<List<T>>, part: Part<T>) -> Result<Part<List<T>>, Memory>
     ensures { IfOk result (λ all. all ≡ record { tree = list.tree ++ part.tree ∷ []; height = max list.height part.height; after = part.after }) }
 {
     let mut tree = list.tree;

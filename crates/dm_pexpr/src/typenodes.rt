@@ -26,8 +26,8 @@ use dm_syn::{
 use dm_token::{Boxed, List, Memory, Span};
 
 impl Reader<'_> {
-    // A list of nothing yet.
-    pub(crate) fn none_yet<T>(&self, at: u32) -> Part<List<T>>
+    /// A list of nothing yet.
+    pub fn none_yet<T>(&self, at: u32) -> Part<List<T>>
         ensures { result ≡ record { tree = []; height = 0; after = at } }
     {
         Part {
