@@ -1,5 +1,5 @@
 -- What is known of names by the declarations that came on the way.
-use Rattle.std.proofs.Common.{◌≡◌, ◌≤◌, ◌<◌, ◌-◌, ℕ, zero, suc, min, length, drop, arith, Bool, true, false, cond, List, [], ◌∷◌, ◌++◌, reverse, map, Option, None, Some, refl, sym, ap, ◌∙◌, subst, bytes_eq, if◌then◌else◌}
+use Rattle.std.proofs.Common.{◌≡◌, ◌≤◌, ◌<◌, ◌+◌, ◌-◌, ℕ, zero, suc, min, length, drop, take, get_or, arith, Bool, true, false, cond, List, [], ◌∷◌, ◌++◌, reverse, map, Option, None, Some, refl, sym, ap, ◌∙◌, subst, bytes_eq, if◌then◌else◌}
 use Rattle.std.specs.Prelude.{unwrap_or}
 use Rattle.std.specs.Cmp.Lexicographic.{slice_cmp}
 use Rattle.std.specs.Ordering.{nat_cmp, eq_by_cmp}
@@ -9,11 +9,11 @@ use Rattle.dm_syn.specs.declared.declared.Declared.{Declared}
 use Rattle.dm_syn.specs.declared.symbol.Symbol.{Symbol}
 use Rattle.dm_syn.specs.declared.symbol.Symbol.TheVariants as symbol
 use Rattle.dm_syn.specs.Sources.{Source, names_type, seen_as}
-use Rattle.std.proofs.lemmas.List.{reverse-append, length-drop}
+use Rattle.std.proofs.lemmas.List.{reverse-append, length-drop, take_more}
 use Rattle.std.proofs.Math.Seq.{drop-nil}
 use Rattle.dm_pexpr.specs.declared.scope.Entry.{Entry}
 use Rattle.dm_pexpr.specs.NameMaps.{NameMap, entry_of, with_entry}
-use Rattle.dm_pexpr.specs.Scoping.{latest_of, known_by, befores, all_declared, IsKept}
+use Rattle.dm_pexpr.specs.Scoping.{latest_of, known_by, known_with, befores, all_declared, IsKept}
 use Rattle.dm_pexpr.proofs.MapLemmas.{same, tied, bytes_same}
 
 tail_of : List (Option Bool) → List (Option Bool)
@@ -85,6 +85,16 @@ one-less entries items entry latest new popped known kept set =
       set ∙ ap (λ m. with_entry m entry.declared.name entry.before) known_so ∙ ap (with_entry _ entry.declared.name) before ∙ taken-back (known_by (all_declared (reverse items))) entry.declared.name entry.declared.is_type,
       ap tail_of kept_so,
     )
+
+-- one more declaration that is entered
+pub one-entered : (names so now : NameMap) (items : List Entry) (at : ℕ) (entry : Entry) → at < length items → entry ≡ get_or items at entry
+    → so ≡ known_with names (all_declared (reverse (take at items))) → now ≡ finite.insert so entry.declared.name entry.declared.is_type
+    → now ≡ known_with names (all_declared (reverse (take (at + 1) items)))
+unfolding known_with
+one-entered names so now items at entry inside is known set =
+    let turned : reverse (take (at + 1) items) ≡ entry ∷ reverse (take at items) =
+    ap reverse (take_more items at entry inside ∙ ap (λ e. take at items ++ e ∷ []) (sym is)) ∙ reverse-append (take at items) (entry ∷ []) in
+    set ∙ ap (λ m. finite.insert m entry.declared.name entry.declared.is_type) known ∙ sym (ap (λ those. known_with names (all_declared those)) turned)
 
 -- an identifier alone can be two symbols
 pub seen-other : (it : Symbol) (names : Bool) → (it ≡ symbol.Identifier → ⊥) → seen_as it names ≡ it

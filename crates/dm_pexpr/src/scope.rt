@@ -1,7 +1,7 @@
 //! What is declared on the way.
 
 ghost use Rattle.std.specs.Prelude.{◌≡◌, ◌≤◌, ◌-◌, ◌<◌, ◌∷◌, [], length, drop, OnOk};
-ghost use Rattle.dm_pexpr.specs.Scoping.{latest_of};
+ghost use Rattle.dm_pexpr.specs.Scoping.{latest_of, known_with};
 
 use crate::names::Names;
 use dm_syn::Declared;
@@ -90,6 +90,16 @@ impl Scope {
     {
         while self.len() > kept {
             self.take_back()?;
+        }
+        Ok(())
+    }
+
+    /// Enters the declarations into names, so that the latest of a name counts. After an `Err` some of them are in.
+    pub fn settle(&self, names: &mut Names) -> Result<(), Memory>
+        ensures { OnOk result (names.new ≡ known_with names.old self.now) }
+    {
+        for entry in &self.entries {
+            names.set(&entry.declared.name, Some(entry.declared.is_type))?;
         }
         Ok(())
     }
