@@ -1,11 +1,12 @@
 -- Small programs that meet each premise of the laws on calls.
-use Rattle.std.specs.Prelude.{◌≡◌, refl, ℕ, zero, suc, option_map}
+use Rattle.std.specs.Prelude.{◌≡◌, refl, ℕ, zero, suc, [], ◌∷◌, option_map}
 use Rattle.std.proofs.Common.{arith, ap, sym, ◌∙◌, inl, inr}
-use Rattle.dm_meaning.specs.Called.{new_of, IsSame, Agrees, IsCalling}
+use Rattle.dm_meaning.specs.Called.{Called, new_of, IsSame, Agrees, IsCalling}
+use Rattle.dm_meaning.specs.CalledUnits.{change_of, IsUnitCallingWith}
 use Rattle.dm_meaning.specs.CalledWith as passed
 use Rattle.dm_meaning.specs.CalledWith.{Holds, IsCallingWith}
-use Rattle.dm_meaning.specs.Examples.{beyond_third, called_add, calling_twice, stored_there, reading, summed, doubled, counted, called_with, beyond_two, calling_with_twice, called_double, beyond_main, calling_double}
-use Rattle.dm_meaning.specs.Programs.{declaration_of}
+use Rattle.dm_meaning.specs.Examples.{beyond_third, called_add, calling_twice, stored_there, reading, summed, doubled, counted, called_with, beyond_two, calling_with_twice, types, inverted, inverted_unit, inverting, inverting_unit, called_one, beyond_main, calling_double}
+use Rattle.dm_meaning.specs.Programs.{declaration_at, declaration_of}
 use Rattle.dm_meaning.specs.Replaced.{facts_of}
 
 -- the number without the one that was added
@@ -189,10 +190,10 @@ holds_double = (refl, refl, refl, inl (refl, inl (record { spans = _; named_kind
 count_agrees : passed.Agrees calling_double 2 (counted 3) (counted 1)
 count_agrees = inl (refl, refl, tt, (inl (refl, refl, tt, tt), tt))
 
-call_of_count : passed.Agrees calling_double 2 (called_double (counted 3)) (doubled (counted 1))
+call_of_count : passed.Agrees calling_double 2 (called_one (counted 3)) (doubled (counted 1))
 call_of_count = inr (counted 1, record { is = refl; typed = refl; holds = holds_count; solid = refl }, (record { kind = _; spans = _; is = refl }, (inl refl, count_agrees)))
 
-call_of_call : passed.Agrees calling_double 2 (called_double (called_double (counted 3))) (doubled (doubled (counted 1)))
+call_of_call : passed.Agrees calling_double 2 (called_one (called_one (counted 3))) (doubled (doubled (counted 1)))
 call_of_call = inr (doubled (counted 1), record { is = refl; typed = refl; holds = holds_double; solid = refl }, (record { kind = _; spans = _; is = refl }, (inl refl, call_of_count)))
 
 pub premises_double : IsCallingWith calling_double 2
@@ -209,4 +210,39 @@ premises_double = record {
   return_spans = _;
   returns = refl;
   value = inl refl;
+}
+
+-- ---- units, and ?:
+
+inverting_change : Called
+inverting_change = change_of types inverting_unit inverted_unit beyond_main (record { function = 1; parameters = 2 ∷ []; body = inverting }) (inverted (reading 2))
+
+holds_inverted : Holds inverting_change 2 (inverted (reading 2)) (inverted (counted 1)) (counted 1)
+unfolding inverting_change
+holds_inverted =
+    (refl, refl, refl, inl (refl, inl (record { spans = _; named_kind = _; named_spans = _; is = refl; own = refl; stands = refl }), ((refl, refl, refl, tt), ((refl, refl, refl, tt), tt))))
+
+call_inverted : passed.Agrees inverting_change 2 (called_one (counted 3)) (inverted (counted 1))
+unfolding inverting_change
+call_inverted = inr (counted 1, record { is = refl; typed = refl; holds = holds_inverted; solid = refl }, (record { kind = _; spans = _; is = refl }, (inl refl, inl (refl, refl, tt, (inl (refl, refl, tt, tt), tt)))))
+
+told_inverted : (d : ℕ) → option_map facts_of (declaration_at inverting_unit.declared (beyond_main d)) ≡ option_map facts_of (declaration_at inverted_unit.declared d)
+told_inverted zero = refl
+told_inverted (suc d) = refl
+
+pub premises_inverted : IsUnitCallingWith types inverting_unit inverted_unit beyond_main (record { function = 1; parameters = 2 ∷ []; body = inverting }) (inverted (reading 2)) 2
+unfolding inverting_change
+premises_inverted = record {
+  injective = injective_double;
+  apart = apart_double;
+  own = own_double;
+  told = told_inverted;
+  externals = inl (refl, ((refl, refl, (inl (refl, refl, tt, (inl (refl, refl, tt, tt), tt)), (inl (refl, refl, tt, (call_inverted, tt)), tt))), tt));
+  statics = tt;
+  not_main = refl;
+  parameters = refl;
+  return_kind = _;
+  return_spans = _;
+  returns = refl;
+  value = inr (refl, inl refl, refl, inl refl);
 }

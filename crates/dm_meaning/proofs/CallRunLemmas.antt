@@ -354,11 +354,11 @@ answered_agrees change inside world kind place at (Some (answers value input out
 answered_agrees change inside world kind place at (Some (stops status)) = refl
 answered_agrees change inside world kind place at (Some (refuses cause)) = tt
 
-pub name_fact : Option (List ℕ × Sort × CType) → List ℕ
+name_fact : Option (List ℕ × Sort × CType) → List ℕ
 name_fact None = []
 name_fact (Some facts) = facts.0
 
-pub kind_fact : Option (List ℕ × Sort × CType) → CType
+kind_fact : Option (List ℕ × Sort × CType) → CType
 kind_fact None = void
 kind_fact (Some facts) = facts.2
 

@@ -6,7 +6,7 @@ use Rattle.dm_token.specs.declared.place.Place.{Place}
 use Rattle.dm_int.specs.declared.Kind.TheVariants.{Int}
 use Rattle.dm_type.specs.CTypes.{CType}
 use Rattle.dm_tree.specs.declared.unit.Sort.{Sort}
-use Rattle.dm_tree.specs.Trees.{return, Spans, Tree, node, no_trees, more_trees, label_of, kind_of, trees_of, parts_of, Declarator, Initialiser}
+use Rattle.dm_tree.specs.Trees.{return, Spans, Tree, node, no_trees, more_trees, kind_of, trees_of, parts_of, Declarator, Initialiser}
 use Rattle.dm_tree.specs.Units.{Declaration}
 use Rattle.dm_meaning.specs.declared.cause.Cause.{Cause}
 use Rattle.dm_meaning.specs.declared.cause.Cause.TheVariants.{NoValue, External}

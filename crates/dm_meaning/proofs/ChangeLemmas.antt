@@ -1,6 +1,6 @@
 -- What the step of a node changes: nothing in memory, or a part of one object that has been made, which it locks.
 use Rattle.std.specs.Prelude.{◌≡◌, refl, ◌⊎◌, ℕ, Bool, true, false, not, ◌||◌, if◌then◌else◌, List, [], ◌∷◌, ◌++◌, Option, Some, None, Result as Outcome, Ok, Err, ℤ, neg_ℤ}
-use Rattle.std.proofs.Common.{ap, sym, inl, inr}
+use Rattle.std.proofs.Common.{ap, inl, inr}
 use Rattle.dm_int.specs.declared.Fault.{Fault}
 use Rattle.dm_int.specs.declared.Kind.TheVariants.{Long}
 use Rattle.dm_int.specs.declared.Op.{Op}

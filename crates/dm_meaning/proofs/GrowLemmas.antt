@@ -1,8 +1,8 @@
 -- Memories of which one has more objects, under the changes that steps make.
-use Rattle.std.specs.Prelude.{◌≡◌, refl, ◌⊎◌, ℕ, zero, suc, ◌+◌, ◌≤◌, ◌-◌, ◌==◌, Bool, true, false, List, [], ◌∷◌, length, map, take, Option, Some, None, option_map, if◌then◌else◌}
+use Rattle.std.specs.Prelude.{◌≡◌, refl, ℕ, zero, suc, ◌+◌, ◌≤◌, ◌-◌, ◌==◌, Bool, true, false, List, [], ◌∷◌, length, map, take, Option, Some, None, option_map, if◌then◌else◌}
 use Rattle.std.proofs.Common.{arith, ap, sym, ◌∙◌, subst, inl, inr}
 use Rattle.dm_meaning.specs.Among.{IsAmong}
-use Rattle.dm_meaning.specs.Values.{Name, numbered, literal_of, elsewhere, Path, At, Value, with_part}
+use Rattle.dm_meaning.specs.Values.{Name, numbered, literal_of, elsewhere, Path, Value, with_part}
 use Rattle.dm_meaning.specs.Memory.{Memory, Block, look_up, new_block, changed_block, written, killed, IsFresh}
 use Rattle.dm_meaning.specs.Programs.{Program, layout}
 use Rattle.dm_meaning.specs.Operations.{Objects}
@@ -10,9 +10,9 @@ use Rattle.dm_meaning.specs.Statements.{type_declared, named_from, made_from, na
 use Rattle.dm_meaning.specs.Steps.{given_from}
 use Rattle.dm_meaning.specs.Extending.{HasAll}
 use Rattle.dm_meaning.specs.Lifetimes.{numbers_of}
-use Rattle.dm_meaning.specs.MoreObjects.{IsMade, IsMadeName, ObjectsMade, LocksMade, IsSpare, Grown}
-use Rattle.dm_meaning.proofs.OptionLemmas.{mapped_some, none_is_some}
-use Rattle.dm_meaning.proofs.ExtendLemmas.{look_changed, has_changed, has_written}
+use Rattle.dm_meaning.specs.MoreObjects.{IsMade, IsMadeName, ObjectsMade, IsSpare, Grown}
+use Rattle.dm_meaning.proofs.OptionLemmas.{none_is_some}
+use Rattle.dm_meaning.proofs.ExtendLemmas.{look_changed, has_changed}
 
 -- ---- numbers
 

@@ -1,12 +1,12 @@
 -- The objects of static storage duration have names in every frame, from the beginning of a run on.
-use Rattle.std.specs.Prelude.{◌≡◌, refl, ◌⊎◌, ℕ, suc, ◌==◌, Bool, true, false, ◌||◌, List, [], ◌∷◌, ◌++◌, map, Option, Some, None, pos, if◌then◌else◌}
+use Rattle.std.specs.Prelude.{◌≡◌, refl, ◌⊎◌, ℕ, suc, ◌==◌, Bool, true, false, ◌||◌, List, [], ◌∷◌, ◌++◌, Option, Some, None, pos, if◌then◌else◌}
 use Rattle.std.proofs.Common.{true≢false, ap, sym, ◌∙◌, subst, inl, inr}
 use Rattle.dm_token.specs.declared.place.Place.{Place}
 use Rattle.dm_int.specs.declared.Kind.TheVariants.{Int}
 use Rattle.dm_type.specs.CTypes.{CType}
-use Rattle.dm_meaning.specs.declared.cause.Cause.TheVariants.{NoValue, External}
+use Rattle.dm_meaning.specs.declared.cause.Cause.TheVariants.{NoValue}
 use Rattle.dm_meaning.specs.Among.{IsAmong}
-use Rattle.dm_meaning.specs.Machines.{undefined, exited}
+use Rattle.dm_meaning.specs.Machines.{undefined}
 use Rattle.dm_meaning.specs.Values.{Value, integer_value, unset}
 use Rattle.dm_meaning.specs.Programs.{Definition, Static, Program, declaration_of, definition_of}
 use Rattle.dm_meaning.specs.Operations.{Objects, object_named}
@@ -15,10 +15,10 @@ use Rattle.dm_meaning.specs.Expressions.{Move, goes, calls, fails, exits, moves}
 use Rattle.dm_meaning.specs.States.{Use, Task, begins, declares, initials, evaluates, again, tests, ends, ends_switch, leaves, skips, hands_back, Caller, State}
 use Rattle.dm_meaning.specs.Statements.{Turned, onward, refused, type_declared, named_from, begin_statement, begin_declarator, begin_initialiser, concluded, unfolded, ended, after_break, after_continue}
 use Rattle.dm_meaning.specs.Steps.{opened, lacks_value, gone_back, handed_back, is_main, gives_nothing, body_place, no_place, closed, turned, moved, scene_of, expression_steps, task_steps, Step}
-use Rattle.dm_meaning.specs.Units.{static_numbers, start, Begins}
+use Rattle.dm_meaning.specs.Units.{static_numbers, Begins}
 use Rattle.dm_meaning.specs.Called.{is_static_number}
 use Rattle.dm_meaning.proofs.AmongLemmas.{among-map_from}
-use Rattle.dm_meaning.proofs.GrowLemmas.{equal_is, equal_of, differ_is}
+use Rattle.dm_meaning.proofs.GrowLemmas.{equal_is, differ_is}
 use Rattle.dm_meaning.proofs.OptionLemmas.{none_is_some}
 use Rattle.dm_meaning.proofs.RunLemmas.{renamed_objects, object_renamed}
 use Rattle.dm_meaning.proofs.StateLemmas.{from_steps}

@@ -1,15 +1,14 @@
 -- The beginnings of runs of two programs of which one calls the added function with an argument agree, and the old program needs none of the
 -- parameter's objects: so the new program refines the old one.
-use Rattle.std.specs.Prelude.{◌≡◌, refl, ◌⊎◌, ℕ, suc, zero, ◌+◌, ◌≤◌, ◌*◌, ◌==◌, Bool, true, false, List, [], ◌∷◌, map, length, Option, Some, None, if◌then◌else◌}
+use Rattle.std.specs.Prelude.{◌≡◌, refl, ◌⊎◌, ℕ, suc, zero, ◌+◌, ◌≤◌, Bool, true, false, List, [], ◌∷◌, map, length, Option, Some, None, if◌then◌else◌}
 use Rattle.std.proofs.Common.{arith, ap, sym, ◌∙◌, subst, inl, inr}
 use Rattle.dm_token.specs.declared.place.Place.{Place}
 use Rattle.dm_meaning.specs.declared.cause.Cause.{Cause}
-use Rattle.dm_meaning.specs.Machines.{Standing, undefined, Goes}
+use Rattle.dm_meaning.specs.Machines.{undefined, Goes}
 use Rattle.dm_meaning.specs.Refinement.{Refines}
 use Rattle.dm_meaning.specs.Simulation.{GoesWrong, Meets, IsSimulation, simulated}
 use Rattle.dm_meaning.specs.Objects.{all_zero}
-use Rattle.dm_meaning.specs.Memory.{Memory, Block, look_up, new_block, changed_block, killed}
-use Rattle.dm_meaning.specs.Values.{Value}
+use Rattle.dm_meaning.specs.Memory.{Memory, Block, look_up, new_block, killed}
 use Rattle.dm_meaning.specs.Programs.{Definition, Program, layout, declaration_of}
 use Rattle.dm_meaning.specs.Operations.{Objects}
 use Rattle.dm_meaning.specs.States.{State}
@@ -20,17 +19,17 @@ use Rattle.dm_meaning.specs.Replaced.{Zipped, StaticAgrees, IsReplacement}
 use Rattle.dm_meaning.specs.Called.{Called, new_of, statics_of}
 use Rattle.dm_meaning.specs.CalledWith.{DefinitionAgrees, FunctionsAgree, IsCallingWith}
 use Rattle.dm_meaning.specs.Extending.{HasAll}
-use Rattle.dm_meaning.specs.MoreObjects.{IsSettled, IsSpare, Grown, with_memory, Spared}
+use Rattle.dm_meaning.specs.MoreObjects.{IsSettled, Grown, with_memory, Spared}
 use Rattle.dm_meaning.proofs.OptionLemmas.{none_is_some, some_is_some}
 use Rattle.dm_meaning.proofs.KnownLemmas.{AreKnown, begins_known, known_later}
 use Rattle.dm_meaning.proofs.RunLemmas.{OptionAgrees, renamed_objects}
 use Rattle.dm_meaning.proofs.StartLemmas as plain
 use Rattle.dm_meaning.proofs.StaticLemmas.{statics_memory_same}
 use Rattle.dm_meaning.proofs.PassStatementLemmas.{unfolded_agree}
-use Rattle.dm_meaning.proofs.GrowLemmas.{equal_is, differ_is, look_added, look_beside}
+use Rattle.dm_meaning.proofs.GrowLemmas.{equal_is, look_added, look_beside}
 use Rattle.dm_meaning.proofs.SpareStateLemmas.{unfolded_settled, spared_steps, settled_beginnings}
 use Rattle.dm_meaning.proofs.ReadLemmas.{parameter_block}
-use Rattle.dm_meaning.proofs.PassStateLemmas.{Spare, StateAgrees, Related, IsOther, AllSpare, Enters, Leaves, Met, same_main, frame_objects, frame_tasks, frame_memory, step_met}
+use Rattle.dm_meaning.proofs.PassStateLemmas.{Spare, StateAgrees, Related, IsOther, AllSpare, Met, same_main, frame_objects, frame_tasks, frame_memory, step_met}
 
 module _ (change : Called) (p : ℕ) (calling : IsCallingWith change p) where
   -- ---- objects of static storage duration

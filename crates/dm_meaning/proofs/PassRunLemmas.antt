@@ -1,7 +1,7 @@
 -- Trees under evaluation in the two programs, and that each step of the new one is met in the old one: by the same step, or, at a call of
 -- the added function whose argument is evaluated, by none, since the old program has the expression in place, with the argument in it.
 use Rattle.std.specs.Prelude.{◌≡◌, refl, ◌⊎◌, ℕ, zero, suc, ◌==◌, Bool, true, false, IsTrue, List, [], ◌∷◌, ◌++◌, map, Option, Some, None, option_map, ℤ, pos, if◌then◌else◌}
-use Rattle.std.proofs.Common.{arith, true≢false, ap, sym, ◌∙◌, subst, inl, inr}
+use Rattle.std.proofs.Common.{true≢false, ap, sym, ◌∙◌, subst, inl, inr}
 use Rattle.dm_token.specs.declared.place.Place.{Place}
 use Rattle.dm_type.specs.CTypes.{CType, void, bare}
 use Rattle.dm_tree.specs.Scenes.{is_void}
@@ -18,18 +18,18 @@ use Rattle.dm_meaning.specs.Running.{Doing, evaluates, gives_truth, gives_value,
 use Rattle.dm_meaning.specs.Expressions.{Move, goes, calls, fails, exits, lifted, as_move, by_truth, on_operand, value_of, nth_run, both_chosen, either_chosen, function_in, function_named, answered, undefined_called, called, call_step, kind_of_run, form_step, node_step, own_or_inner, where_open, moves, moves_in}
 use Rattle.dm_meaning.specs.Replaced.{relabelled, Zipped, facts_of}
 use Rattle.dm_meaning.specs.Called.{Called, new_of, IsSame, AreSame}
-use Rattle.dm_meaning.specs.CalledWith.{IsParameter, Holds, HoldsBelow, IsNamed, Agrees, AllAgree, Passes, PassesAlone, DefinitionAgrees, FunctionsAgree, IsCallingWith}
+use Rattle.dm_meaning.specs.CalledWith.{Holds, HoldsBelow, Agrees, AllAgree, Passes, PassesAlone, DefinitionAgrees, FunctionsAgree, IsCallingWith}
 use Rattle.dm_meaning.specs.Extending.{AreAmong}
 use Rattle.dm_meaning.specs.Steps.{lacks_value}
-use Rattle.dm_meaning.proofs.AmongLemmas.{among_left, among_right, among_either, among-map, among-map_from}
-use Rattle.dm_meaning.proofs.MoveLemmas.{IsToDo, lifted_again, inner_steps, open_steps, move_lifts, locks_lift}
+use Rattle.dm_meaning.proofs.AmongLemmas.{among_right, among_either, among-map, among-map_from}
+use Rattle.dm_meaning.proofs.MoveLemmas.{IsToDo, inner_steps, open_steps, move_lifts, locks_lift}
 use Rattle.dm_meaning.proofs.OptionLemmas.{none_is_some}
 use Rattle.dm_meaning.proofs.FewerLemmas.{SameDid, operate_fewer}
-use Rattle.dm_meaning.proofs.ConstantLemmas.{kind_begun, own_step}
+use Rattle.dm_meaning.proofs.ConstantLemmas.{own_step}
 use Rattle.dm_meaning.proofs.RunLemmas.{redone, same_renamed, OptionAgrees}
 use Rattle.dm_meaning.proofs.GrowLemmas.{equal_is, differ_is}
 use Rattle.dm_meaning.proofs.YieldLemmas.{may_give, given_may, Yields, HoleYields, MoveYields, filled_yields, begun_yields, given_set, move_yields_on}
-use Rattle.dm_meaning.proofs.CallRunLemmas.{may_stand, open_of_relabelled, open_parts_redone, function_in_redone, if_agrees, stands_inside, relabelled_gives, among_nothing, among_joined, stands_always, truth_stands}
+use Rattle.dm_meaning.proofs.CallRunLemmas.{may_stand, open_parts_redone, function_in_redone, if_agrees, stands_inside, relabelled_gives, among_nothing, among_joined, stands_always, truth_stands}
 
 -- ---- the argument in the expression
 

@@ -1,13 +1,13 @@
 -- States of two programs of which one calls the added function with an argument, in one memory, which has the objects of the parameter too,
 -- and that each step of the new one is met by a step of the old one, or, where it calls the added function, reads the parameter, or
 -- returns, by none.
-use Rattle.std.specs.Prelude.{◌≡◌, refl, ◌⊎◌, ℕ, suc, ◌≤◌, ◌+◌, ◌==◌, Bool, true, false, List, [], ◌∷◌, ◌++◌, map, length, Option, Some, None, option_map, pos, bytes_eq, codes, if◌then◌else◌}
-use Rattle.std.proofs.Common.{arith, true≢false, ap, sym, ◌∙◌, subst, inl, inr}
+use Rattle.std.specs.Prelude.{◌≡◌, refl, ◌⊎◌, ℕ, suc, ◌≤◌, ◌+◌, Bool, true, false, List, [], ◌∷◌, ◌++◌, map, length, Option, Some, None, option_map, pos, bytes_eq, codes, if◌then◌else◌}
+use Rattle.std.proofs.Common.{arith, ap, sym, ◌∙◌, subst, inl, inr}
 use Rattle.dm_token.specs.declared.place.Place.{Place}
 use Rattle.dm_int.specs.declared.Kind.TheVariants.{Int}
 use Rattle.dm_type.specs.CTypes.{CType}
 use Rattle.dm_tree.specs.declared.unit.Sort.{Sort}
-use Rattle.dm_tree.specs.Trees.{return, Spans, Tree, node, no_trees, more_trees, label_of, kind_of, trees_of, parts_of, Declarator, Initialiser}
+use Rattle.dm_tree.specs.Trees.{return, Spans, Tree, node, no_trees, more_trees, kind_of, trees_of, parts_of, Declarator, Initialiser}
 use Rattle.dm_tree.specs.Units.{Declaration}
 use Rattle.dm_meaning.specs.declared.cause.Cause.{Cause}
 use Rattle.dm_meaning.specs.declared.cause.Cause.TheVariants.{NoValue, External}
@@ -15,11 +15,11 @@ use Rattle.dm_meaning.specs.Among.{IsAmong}
 use Rattle.dm_meaning.specs.Machines.{Standing, going, exited, undefined, Goes}
 use Rattle.dm_meaning.specs.Simulation.{GoesWrong}
 use Rattle.dm_meaning.specs.Values.{At, numbered, Value, integer_value, unset, overlaps_any}
-use Rattle.dm_meaning.specs.Memory.{Memory, Block, look_up, new_block, killed, IsFresh}
+use Rattle.dm_meaning.specs.Memory.{Memory, look_up, new_block, killed, IsFresh}
 use Rattle.dm_meaning.specs.Causes.{is_unset}
 use Rattle.dm_meaning.specs.Programs.{Program, Definition, layout, declaration_of, definition_of}
 use Rattle.dm_meaning.specs.Operations.{of_value, World, Objects, object_named, whole}
-use Rattle.dm_meaning.specs.Running.{Run, done, to_do, Hole, Holes, here, within, in_first, in_others, more_runs, begun, filled_in, all_filled_in, IsOpen, hole_in, holes_in, locks_in}
+use Rattle.dm_meaning.specs.Running.{Run, done, to_do, Hole, here, within, begun, filled_in, IsOpen, hole_in, locks_in}
 use Rattle.dm_meaning.specs.Expressions.{Move, goes, calls, fails, exits, lifted, value_of, moves}
 use Rattle.dm_meaning.specs.States.{Use, returns, Task, begins, declares, initials, evaluates, again, tests, ends, ends_switch, leaves, skips, hands_back, Caller, State}
 use Rattle.dm_meaning.specs.Statements.{place_of, Turned, onward, refused, declared_in, type_declared, named_from, made_from, unfolded, concluded, begin_statement, begin_declarator, begin_initialiser, items_tasks, ended, after_break, after_continue}
@@ -29,7 +29,7 @@ use Rattle.dm_meaning.specs.Replaced.{renamed_declarator, Zipped, facts_of}
 use Rattle.dm_meaning.specs.Called.{Called, new_of}
 use Rattle.dm_meaning.specs.CalledWith.{Holds, Agrees, DefinitionAgrees, IsCallingWith}
 use Rattle.dm_meaning.specs.Extending.{AreAmong}
-use Rattle.dm_meaning.specs.MoreObjects.{LocksMade, TasksSettled, IsSpare, with_memory}
+use Rattle.dm_meaning.specs.MoreObjects.{TasksSettled, IsSpare, with_memory}
 use Rattle.dm_meaning.proofs.AmongLemmas.{among-map, among-map_from}
 use Rattle.dm_meaning.proofs.MoveLemmas.{IsToDo, move_lifts, locks_lift}
 use Rattle.dm_meaning.proofs.RunLemmas.{OptionAgrees, renamed_objects, object_renamed}
@@ -893,17 +893,17 @@ module _ (change : Called) (p : ℕ) (calling : IsCallingWith change p) where
         (subst (λ t'. IsAmong (opened change.old names other waits.rest waits.place waits.use_of t' (hole_in waits.hole inner) values (definition_of change.old g)) (next names change.old other)) (sym t) among) tasks))
 
     -- the phase after a step of the old program
-    evaluated_on : (now after : Run) → EvalAgrees change p n value now after → Reading change p 6 n value now after ⊎ (RunAgrees change p true now after × Left 6 now)
-    evaluated_on now after (inl (named, reads, still)) = inl (record { named = named; reads = reads; open_still = still; stage = stage_of_six named })
-    evaluated_on now after (inr plain) = inr (plain, left_of_six now)
+    evaluated_on : (present after : Run) → EvalAgrees change p n value present after → Reading change p 6 n value present after ⊎ (RunAgrees change p true present after × Left 6 present)
+    evaluated_on present after (inl (named, reads, still)) = inl (record { named = named; reads = reads; open_still = still; stage = stage_of_six named })
+    evaluated_on present after (inr plain) = inr (plain, left_of_six present)
 
     -- a step of its expression
-    inside_moved : (place : Place) (now : Run) → EvalAgrees change p n value now run → Yields caller.kind now → (m x : Move Run Hole) → MoveAgrees change.rename (EvalAgrees change p n value) (HoleEval change p n value) m x
+    inside_moved : (place : Place) (present : Run) → EvalAgrees change p n value present run → Yields caller.kind present → (m x : Move Run Hole) → MoveAgrees change.rename (EvalAgrees change p n value) (HoleEval change p n value) m x
         → MoveYields caller.kind m
         → IsAmong (moved change.old names other waits.rest waits.place waits.use_of (lifted (filled_in waits.hole) (hole_in waits.hole) x)) (next names change.old other)
-        → Met change p w all_spare other (moved (new_of change) names (in_added (evaluates place now returns ∷ [])) [] place returns m)
-    inside_moved place now agrees yields m (fails cause there) h y among = inl (goes_wrong _ among cause there refl)
-    inside_moved place now agrees yields (goes world next_run) (goes other_world other_run) h y among =
+        → Met change p w all_spare other (moved (new_of change) names (in_added (evaluates place present returns ∷ [])) [] place returns m)
+    inside_moved place present agrees yields m (fails cause there) h y among = inl (goes_wrong _ among cause there refl)
+    inside_moved place present agrees yields (goes world next_run) (goes other_world other_run) h y among =
         inr (inl (
           went_on other_run other_world,
           (names, fresh, among),
@@ -926,16 +926,16 @@ module _ (change : Called) (p : ℕ) (calling : IsCallingWith change p) where
             },
           ),
         ))
-    inside_moved place now agrees yields (goes world next_run) (calls g values kind hole) h y among = absurd h
-    inside_moved place now agrees yields (goes world next_run) (exits status) h y among = absurd h
-    inside_moved place now agrees yields (calls f arguments kind hole) (calls g values other_kind inner) h y among =
-        called_inside_by place f g arguments values kind other_kind hole inner h.0 h.1 h.2 h.3 y among (evaluates place now returns ∷ [])
-    inside_moved place now agrees yields (calls f arguments kind hole) (goes other_world other_run) h y among = absurd h
-    inside_moved place now agrees yields (calls f arguments kind hole) (exits status) h y among = absurd h
-    inside_moved place now agrees yields (fails cause at) (goes other_world other_run) h y among = absurd h
-    inside_moved place now agrees yields (fails cause at) (calls g values kind hole) h y among = absurd h
-    inside_moved place now agrees yields (fails cause at) (exits status) h y among = absurd h
-    inside_moved place now agrees yields (exits status) (exits other_status) h y among =
+    inside_moved place present agrees yields (goes world next_run) (calls g values kind hole) h y among = absurd h
+    inside_moved place present agrees yields (goes world next_run) (exits status) h y among = absurd h
+    inside_moved place present agrees yields (calls f arguments kind hole) (calls g values other_kind inner) h y among =
+        called_inside_by place f g arguments values kind other_kind hole inner h.0 h.1 h.2 h.3 y among (evaluates place present returns ∷ [])
+    inside_moved place present agrees yields (calls f arguments kind hole) (goes other_world other_run) h y among = absurd h
+    inside_moved place present agrees yields (calls f arguments kind hole) (exits status) h y among = absurd h
+    inside_moved place present agrees yields (fails cause at) (goes other_world other_run) h y among = absurd h
+    inside_moved place present agrees yields (fails cause at) (calls g values kind hole) h y among = absurd h
+    inside_moved place present agrees yields (fails cause at) (exits status) h y among = absurd h
+    inside_moved place present agrees yields (exits status) (exits other_status) h y among =
         inr (inl (
           record other { standing = exited other_status },
           (names, fresh, among),
@@ -964,15 +964,15 @@ module _ (change : Called) (p : ℕ) (calling : IsCallingWith change p) where
                 uses = waits.uses;
                 callers = waits.callers;
               };
-              phase = inr (inl (record { place = place; now = now; is = refl; agrees = evaluated_on now run agrees; yields = yields }));
+              phase = inr (inl (record { place = place; now = present; is = refl; agrees = evaluated_on present run agrees; yields = yields }));
               set = set;
               statics = refl;
               world = refl;
             },
           ),
         ))
-    inside_moved place now agrees yields (exits status) (goes other_world other_run) h y among = absurd h
-    inside_moved place now agrees yields (exits status) (calls g values kind hole) h y among = absurd h
+    inside_moved place present agrees yields (exits status) (goes other_world other_run) h y among = absurd h
+    inside_moved place present agrees yields (exits status) (calls g values kind hole) h y among = absurd h
 
     -- a step of the old program that meets it
     old_step : (x : Move Run Hole) → IsAmong x (moves (scene_of change.old other) other.world (locks_in whole_run) run)

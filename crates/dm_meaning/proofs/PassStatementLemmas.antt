@@ -1,12 +1,10 @@
 -- Statements and declarations in two programs of which one calls the added function with an argument: what begins, what a full expression
 -- decides and what ends agree.
-use Rattle.std.specs.Prelude.{◌≡◌, refl, ℕ, suc, Bool, true, false, ◌&&◌, ◌||◌, List, [], ◌∷◌, ◌++◌, map, drop, Option, Some, None, option_map, ℤ, if◌then◌else◌}
+use Rattle.std.specs.Prelude.{◌≡◌, refl, ℕ, suc, Bool, true, false, ◌&&◌, ◌||◌, List, [], ◌∷◌, ◌++◌, map, drop, Option, Some, None, ℤ, if◌then◌else◌}
 use Rattle.std.proofs.Common.{ap, sym, ◌∙◌, subst, inl, inr}
 use Rattle.dm_token.specs.declared.place.Place.{Place}
-use Rattle.dm_type.specs.CTypes.{CType, void}
-use Rattle.dm_tree.specs.declared.unit.Sort.{Sort}
+use Rattle.dm_type.specs.CTypes.{CType}
 use Rattle.dm_tree.specs.Trees.{Label, block, declare, full, if_statement, switch, case, default, while_loop, do_loop, for_loop, break, continue, return, Spans, Declarator, Initialiser, Initialisers, one_expression, in_braces, no_items, more_items, expressions_in, Tree, Trees, node, no_trees, more_trees, listed}
-use Rattle.dm_tree.specs.Units.{Declaration}
 use Rattle.dm_meaning.specs.Values.{At, Value, integer_value, pointer_value, parts as compound, unset}
 use Rattle.dm_meaning.specs.Objects.{Layout}
 use Rattle.dm_meaning.specs.Memory.{Memory, new_block, written, killed}
@@ -14,8 +12,8 @@ use Rattle.dm_meaning.specs.Programs.{layout, declaration_of, constant_of}
 use Rattle.dm_meaning.specs.Operations.{Result, Objects, object_named, Truth, holds, untold, truth_of}
 use Rattle.dm_meaning.specs.Expressions.{value_of}
 use Rattle.dm_meaning.specs.States.{Loop, Use, drops, chooses, selects, repeats, continues, returns, initialises, Task, begins, declares, initials, evaluates, again, tests, ends, ends_switch, leaves, skips, hands_back}
-use Rattle.dm_meaning.specs.Statements.{Turned, onward, refused, evaluation, is_automatic_sort, is_automatic_declaration, is_automatic, automatic_in, declared_by_label, declared_by, declared_in, kind_declared, type_declared, named_from, made_from, named_since, expressions_of, declarator_tasks, item_tasks_by, item_tasks, items_tasks, unlabelled, entered, memory_entered, start_task, start_tasks, as_list, begin_for, on_one_tree, on_first_tree, on_option_tree, on_tree_if, loop_with, returning, begin_form, begin_tree, begin_statement, initial_of, begin_declarator, part_tasks, begin_initialiser, initial_value, is_number, has_case, has_default, from_first, or_items, selected_by, by_test, begins_one, concluded, tested, continued, unfolded, ended, after_break, after_continue}
-use Rattle.dm_meaning.specs.Replaced.{renamed_declarator, relabelled, Zipped, facts_of}
+use Rattle.dm_meaning.specs.Statements.{Turned, onward, refused, evaluation, is_automatic_declaration, is_automatic, automatic_in, declared_by_label, declared_by, declared_in, type_declared, named_from, made_from, named_since, expressions_of, declarator_tasks, item_tasks_by, item_tasks, items_tasks, unlabelled, entered, memory_entered, start_task, start_tasks, as_list, begin_for, on_one_tree, on_first_tree, on_option_tree, on_tree_if, loop_with, returning, begin_form, begin_tree, begin_statement, initial_of, begin_declarator, part_tasks, begin_initialiser, initial_value, is_number, has_case, has_default, from_first, or_items, selected_by, by_test, begins_one, concluded, tested, continued, unfolded, ended, after_break, after_continue}
+use Rattle.dm_meaning.specs.Replaced.{renamed_declarator, relabelled, Zipped}
 use Rattle.dm_meaning.specs.Called.{Called, new_of, SameCase}
 use Rattle.dm_meaning.specs.CalledWith.{Agrees, AllAgree, IsCallingWith}
 use Rattle.dm_meaning.proofs.RunLemmas.{renamed_objects, object_renamed, OptionAgrees}

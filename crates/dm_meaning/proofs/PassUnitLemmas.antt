@@ -1,6 +1,6 @@
 -- Units of which one calls the added function have programs that agree.
-use Rattle.std.specs.Prelude.{◌≡◌, refl, ◌⊎◌, ℕ, List, [], ◌∷◌, ◌++◌, map}
-use Rattle.std.proofs.Common.{ap, sym, subst, inl, inr}
+use Rattle.std.specs.Prelude.{◌≡◌, refl, ℕ, List, [], ◌∷◌, ◌++◌, map}
+use Rattle.std.proofs.Common.{sym, subst, inl, inr}
 use Rattle.dm_type.specs.Tables.{Table}
 use Rattle.dm_tree.specs.Trees.{Tree, Trees, trees_of}
 use Rattle.dm_tree.specs.Units.{External, ExternalForm, declares, defines_function, TypedUnit}
@@ -11,7 +11,7 @@ use Rattle.dm_meaning.specs.Replaced.{Zipped}
 use Rattle.dm_meaning.specs.Called as called
 use Rattle.dm_meaning.specs.Called.{Called, AreRelatedBut}
 use Rattle.dm_meaning.specs.CalledWith as passed
-use Rattle.dm_meaning.specs.CalledUnits.{change_of, FormAgrees, ExternalAgrees, IsAdded, ExternalsAgree, IsUnitCalling, IsUnitCallingWith}
+use Rattle.dm_meaning.specs.CalledUnits.{change_of, FormAgrees, ExternalAgrees, ExternalsAgree, IsUnitCalling, IsUnitCallingWith}
 use Rattle.dm_meaning.proofs.StatementLemmas.{zipped_append}
 use Rattle.dm_meaning.proofs.CallStartLemmas.{called_refines}
 use Rattle.dm_meaning.proofs.PassRefineLemmas.{called_with_refines}

@@ -1,27 +1,27 @@
 -- Trees under evaluation in the added function, before its parameter is read: the old program has the value of the argument there. Each step
 -- of the new tree is met by the same step of the old one, or reads the parameter, where the old one takes none.
-use Rattle.std.specs.Prelude.{◌≡◌, refl, ◌⊎◌, ℕ, ◌==◌, Bool, true, false, not, ◌&&◌, ◌||◌, IsTrue, List, [], ◌∷◌, ◌++◌, map, Option, Some, None}
-use Rattle.std.proofs.Common.{true≢false, ap, sym, ◌∙◌, subst, inl, inr}
+use Rattle.std.specs.Prelude.{◌≡◌, refl, ◌⊎◌, ℕ, Bool, true, false, not, ◌&&◌, ◌||◌, IsTrue, List, [], ◌∷◌, ◌++◌, map, Option, Some, None}
+use Rattle.std.proofs.Common.{ap, sym, ◌∙◌, subst, inl, inr}
 use Rattle.dm_token.specs.declared.place.Place.{Place}
 use Rattle.dm_type.specs.CTypes.{CType, bare}
-use Rattle.dm_tree.specs.Trees.{Label, object, read, Tree, Trees, node, no_trees, more_trees, kind_of}
+use Rattle.dm_tree.specs.Trees.{object, read, Tree, Trees, node, no_trees, more_trees, kind_of}
 use Rattle.dm_meaning.specs.declared.cause.Cause.{Cause}
 use Rattle.dm_meaning.specs.declared.cause.Cause.TheVariants.{Conflict, Bounds, Life, Unset, OtherType}
 use Rattle.dm_meaning.specs.Among.{IsAmong}
-use Rattle.dm_meaning.specs.Values.{Name, numbered, literal_of, elsewhere, At, Value, same_name, along, overlaps, overlaps_any}
+use Rattle.dm_meaning.specs.Values.{Name, numbered, literal_of, elsewhere, At, Value, same_name, along, overlaps_any}
 use Rattle.dm_meaning.specs.Objects.{object_of}
 use Rattle.dm_meaning.specs.Memory.{Memory, Block, look_up, new_block, lives, reached_in, value_in, or_unset, contents_at}
 use Rattle.dm_meaning.specs.Causes.{when, is_unset, is_unset_object, is_outside, is_other, read_causes}
 use Rattle.dm_meaning.specs.Programs.{layout}
-use Rattle.dm_meaning.specs.Operations.{Result, of_value, designates, Operand, World, Objects, Scene, unless, plain, object_named, designated, whole}
-use Rattle.dm_meaning.specs.Running.{Doing, evaluates, Run, done, to_do, Runs, no_runs, more_runs, begun, all_begun, locks_in, locks_in_all, Open, first_open, others_open, open_of, open_parts, first_result, operands_in, Hole, here, within, Holes, in_first, in_others, filled_in, all_filled_in}
-use Rattle.dm_meaning.specs.Expressions.{Move, goes, calls, fails, exits, lifted, as_move, node_step, own_or_inner, where_open, moves, moves_in}
+use Rattle.dm_meaning.specs.Operations.{Result, of_value, designates, World, Objects, Scene, unless, plain, object_named, designated, whole}
+use Rattle.dm_meaning.specs.Running.{Doing, evaluates, Run, done, to_do, Runs, no_runs, more_runs, begun, all_begun, locks_in, locks_in_all, Open, first_open, others_open, open_of, open_parts, operands_in, Hole, here, within, Holes, in_first, in_others, filled_in, all_filled_in}
+use Rattle.dm_meaning.specs.Expressions.{Move, goes, lifted, as_move, node_step, own_or_inner, where_open, moves, moves_in}
 use Rattle.dm_meaning.specs.Statements.{type_declared}
 use Rattle.dm_meaning.specs.Extending.{AreAmong}
 use Rattle.dm_meaning.specs.Called.{Called, new_of}
-use Rattle.dm_meaning.specs.CalledWith.{IsParameter, Holds, HoldsBelow, IsCallingWith}
-use Rattle.dm_meaning.specs.MoreObjects.{IsMade, IsMadeName, LocksMade}
-use Rattle.dm_meaning.proofs.AmongLemmas.{among_left, among_right, among_either, among-map, among-map_from}
+use Rattle.dm_meaning.specs.CalledWith.{Holds, HoldsBelow, IsCallingWith}
+use Rattle.dm_meaning.specs.MoreObjects.{IsMadeName, LocksMade}
+use Rattle.dm_meaning.proofs.AmongLemmas.{among_right, among_either, among-map, among-map_from}
 use Rattle.dm_meaning.proofs.MoveLemmas.{IsToDo, moving_to_do, none_first, none_later, inner_steps, open_steps}
 use Rattle.dm_meaning.proofs.OptionLemmas.{none_is_some}
 use Rattle.dm_meaning.proofs.RunLemmas.{redone}

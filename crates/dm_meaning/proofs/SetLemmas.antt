@@ -1,6 +1,6 @@
 -- What the step of a node gives was set, for the forms that give a value and don't convert it.
-use Rattle.std.specs.Prelude.{◌≡◌, refl, ℕ, zero, suc, nat_lt, pos, option_map, Bool, true, false, not, ◌||◌, List, [], ◌∷◌, ◌++◌, map, Option, Some, None, slice_get, Result as Outcome, Ok, Err, ℤ, if◌then◌else◌}
-use Rattle.std.proofs.Common.{true≢false, ap, sym, ◌∙◌, subst, inl, inr}
+use Rattle.std.specs.Prelude.{◌≡◌, refl, ℕ, nat_lt, option_map, Bool, true, false, not, ◌||◌, List, [], ◌∷◌, ◌++◌, Option, Some, None, slice_get, Result as Outcome, Ok, Err, ℤ, if◌then◌else◌}
+use Rattle.std.proofs.Common.{true≢false, ap, sym, ◌∙◌, subst}
 use Rattle.dm_int.specs.declared.Fault.{Fault}
 use Rattle.dm_int.specs.declared.Op.{Op}
 use Rattle.dm_int.specs.declared.Kind.{Kind}
@@ -20,7 +20,7 @@ use Rattle.dm_meaning.specs.Memory.{Memory, Block, look_up, look, lives, reached
 use Rattle.dm_meaning.specs.Primitives.{Answer, answers, stops, refuses, put_character, get_character, text_at, most_in, written_line, put_line, end_program, Primitive, primitives, is_primitive, primitive_in, Prim}
 use Rattle.dm_meaning.specs.Programs.{layout}
 use Rattle.dm_meaning.specs.Causes.{when, is_null, store_causes, update_causes, is_unset, is_unset_object, is_outside, is_other, absence_causes, access_causes, read_causes, use_causes, order_causes}
-use Rattle.dm_meaning.specs.Operations.{Result, of_value, designates, Operand, World, Scene, Did, gives, breaks, ends_with, unless, decided, faulted, on_one, on_two, on_value, on_set, ill, on_place, converted, store_at, Made, made_number, kind_in, updated, counted, replace_at, count_at, update_at, Truth, holds, untold, truth_of, on_truth, truth_in, typed_bare, typed, plain, read_at, part_of, byte_at, ordered, signed, pointer_plus, on_pointers, on_move, on_plus, combined, operate}
+use Rattle.dm_meaning.specs.Operations.{Result, of_value, designates, Operand, World, Scene, Did, gives, breaks, ends_with, unless, faulted, on_one, on_two, on_value, on_set, ill, on_place, converted, store_at, made_number, kind_in, updated, counted, count_at, update_at, Truth, holds, untold, truth_of, on_truth, truth_in, typed_bare, typed, plain, read_at, part_of, byte_at, ordered, signed, pointer_plus, on_pointers, on_move, on_plus, combined, operate}
 use Rattle.dm_meaning.proofs.OptionLemmas.{none_is_some}
 use Rattle.dm_meaning.proofs.ExtendLemmas.{nil_left, nil_right, when_false}
 

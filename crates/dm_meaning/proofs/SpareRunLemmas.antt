@@ -7,19 +7,18 @@ use Rattle.dm_tree.specs.Trees.{Label, both, either, choose, comma, call, sizeof
 use Rattle.dm_tree.specs.Units.{Declaration}
 use Rattle.dm_meaning.specs.declared.cause.Cause.{Cause}
 use Rattle.dm_meaning.specs.Among.{IsAmong}
-use Rattle.dm_meaning.specs.Values.{Name, numbered, literal_of, elsewhere, Path, At, Pointer, null, to, Value, integer_value, pointer_value, parts as compound, unset, with_part}
+use Rattle.dm_meaning.specs.Values.{Name, numbered, literal_of, elsewhere, Path, At, null, to, Value, integer_value, pointer_value, parts as compound, unset, with_part}
 use Rattle.dm_meaning.specs.Memory.{Memory, Block, look_up, changed_block, written}
 use Rattle.dm_meaning.specs.Causes.{earliest, use_causes}
 use Rattle.dm_meaning.specs.Primitives.{Answer, answers, stops, refuses, Prim}
 use Rattle.dm_meaning.specs.Programs.{Definition, layout, declaration_of, definition_of}
-use Rattle.dm_meaning.specs.Operations.{Result, of_value, designates, Operand, World, Scene, Did, gives, breaks, ends_with, Truth, holds, untold, told, truth_of, truth_in, operate}
-use Rattle.dm_meaning.specs.Running.{Doing, evaluates, gives_truth, gives_value, Run, done, to_do, Runs, no_runs, more_runs, locks_in, locks_in_all, Open, first_open, others_open, open_parts, operands_in, Hole, here, within, Holes, in_first, in_others, filled_in, all_filled_in}
+use Rattle.dm_meaning.specs.Operations.{of_value, Operand, World, Scene, Did, gives, breaks, ends_with, Truth, holds, untold, told, truth_of, truth_in, operate}
+use Rattle.dm_meaning.specs.Running.{Doing, evaluates, gives_truth, gives_value, Run, done, to_do, Runs, no_runs, more_runs, locks_in, locks_in_all, Open, first_open, others_open, open_parts, operands_in, Hole, within, Holes, in_first, in_others, all_filled_in}
 use Rattle.dm_meaning.specs.Expressions.{Move, goes, calls, fails, exits, lifted, as_move, by_truth, on_operand, value_of, nth_run, both_chosen, either_chosen, operand_chosen, answered, undefined_called, called, call_step, function_named, form_step, node_step, own_or_inner, where_open, moves, moves_in}
-use Rattle.dm_meaning.specs.Extending.{HasAll, Extends, AreAmong, SameUnlessUndefined, SameOptionalAnswer}
+use Rattle.dm_meaning.specs.Extending.{HasAll, AreAmong, SameUnlessUndefined, SameOptionalAnswer}
 use Rattle.dm_meaning.specs.Replaced.{Zipped}
 use Rattle.dm_meaning.specs.MoreObjects.{IsMade, IsMadeName, LocksMade, unfilled, IsSpare, Grown}
 use Rattle.dm_meaning.proofs.AmongLemmas.{among_left, among_right, among_either}
-use Rattle.dm_meaning.proofs.OptionLemmas.{none_is_some}
 use Rattle.dm_meaning.proofs.ExtendLemmas.{look_changed, same_object, same_absence, operate_same}
 use Rattle.dm_meaning.proofs.PrimLemmas.{prim_same}
 use Rattle.dm_meaning.proofs.StatementLemmas.{zipped_append}

@@ -1,5 +1,5 @@
 -- A step from a state with more objects in memory is one from the state without them, unless that goes wrong, and leaves them alone.
-use Rattle.std.specs.Prelude.{◌≡◌, refl, ◌⊎◌, ℕ, zero, suc, ◌+◌, ◌==◌, Bool, true, false, List, [], ◌∷◌, ◌++◌, map, length, take, drop, Option, Some, None, pos, if◌then◌else◌}
+use Rattle.std.specs.Prelude.{◌≡◌, refl, ◌⊎◌, ℕ, suc, ◌+◌, ◌==◌, Bool, true, false, List, [], ◌∷◌, ◌++◌, map, length, drop, Option, Some, None, pos, if◌then◌else◌}
 use Rattle.std.proofs.Common.{arith, ap, sym, ◌∙◌, subst, inl, inr}
 use Rattle.dm_token.specs.declared.place.Place.{Place}
 use Rattle.dm_int.specs.declared.Kind.TheVariants.{Int}
@@ -10,23 +10,23 @@ use Rattle.dm_meaning.specs.declared.cause.Cause.TheVariants.{NoValue, External}
 use Rattle.dm_meaning.specs.Among.{IsAmong}
 use Rattle.dm_meaning.specs.Machines.{Standing, going, exited, undefined, Goes}
 use Rattle.dm_meaning.specs.Simulation.{GoesWrong}
-use Rattle.dm_meaning.specs.Values.{At, numbered, Value, integer_value, unset}
+use Rattle.dm_meaning.specs.Values.{At, Value, integer_value, unset}
 use Rattle.dm_meaning.specs.Objects.{Layout, all_zero}
 use Rattle.dm_meaning.specs.Memory.{Memory, Block, look_up, new_block, killed, written, IsFresh}
 use Rattle.dm_meaning.specs.Programs.{Program, Definition, layout, declaration_of, definition_of}
-use Rattle.dm_meaning.specs.Operations.{Result, of_value, Objects, object_named, whole, part_of, Truth, holds, untold, truth_of, World}
-use Rattle.dm_meaning.specs.Running.{Run, done, to_do, Runs, more_runs, begun, all_begun, locks_in, locks_in_all, Hole, here, within, Holes, in_first, in_others, filled_in, all_filled_in}
-use Rattle.dm_meaning.specs.Expressions.{Move, goes, calls, fails, exits, value_of, moves}
-use Rattle.dm_meaning.specs.States.{Loop, Use, drops, chooses, selects, repeats, continues, returns, initialises, Task, begins, declares, initials, evaluates, again, tests, ends, ends_switch, leaves, skips, hands_back, Frame, Caller, State}
-use Rattle.dm_meaning.specs.Statements.{Turned, onward, refused, Local, with_expressions, evaluation, is_automatic, type_declared, named_from, declared_in, declarator_tasks, item_tasks_by, item_tasks, items_tasks, unlabelled, start_task, start_tasks, as_list, entered, memory_entered, begin_for, loop_with, on_one_tree, on_first_tree, on_option_tree, on_tree_if, returning, begin_form, begin_tree, begin_statement, initial_of, begin_declarator, part_tasks, count_items, value_listed, begin_initialiser, initial_value, selected_by, by_test, begins_one, concluded, tested, continued, unfolded, named_since, ended, after_break, after_continue}
-use Rattle.dm_meaning.specs.Steps.{opened_frame, opened_memory, given_from, opened, resumed, lacks_value, gone_back, handed_back, is_main, gives_nothing, body_place, no_place, closed, turned, moved, scene_of, expression_steps, task_steps, steps_from, next, Step}
+use Rattle.dm_meaning.specs.Operations.{Result, of_value, Objects, object_named, Truth, holds, untold, truth_of, World}
+use Rattle.dm_meaning.specs.Running.{Run, done, to_do, begun, all_begun, locks_in, locks_in_all, Hole, here, within, Holes, in_first, in_others, filled_in, all_filled_in}
+use Rattle.dm_meaning.specs.Expressions.{Move, goes, calls, fails, exits, value_of}
+use Rattle.dm_meaning.specs.States.{Loop, Use, drops, chooses, selects, repeats, continues, returns, initialises, Task, begins, declares, initials, evaluates, again, tests, ends, ends_switch, leaves, skips, hands_back, Caller, State}
+use Rattle.dm_meaning.specs.Statements.{Turned, onward, refused, Local, with_expressions, evaluation, is_automatic, type_declared, named_from, declared_in, item_tasks_by, item_tasks, items_tasks, unlabelled, start_task, start_tasks, as_list, entered, memory_entered, begin_for, loop_with, on_one_tree, on_first_tree, on_option_tree, on_tree_if, returning, begin_form, begin_tree, begin_statement, initial_of, begin_declarator, part_tasks, count_items, value_listed, begin_initialiser, initial_value, selected_by, by_test, begins_one, concluded, tested, continued, unfolded, named_since, ended, after_break, after_continue}
+use Rattle.dm_meaning.specs.Steps.{opened_frame, opened_memory, given_from, opened, lacks_value, gone_back, handed_back, is_main, gives_nothing, body_place, no_place, turned, moved, scene_of, expression_steps, task_steps, steps_from, next, Step}
 use Rattle.dm_meaning.specs.Units.{static_numbers, statics_memory, argv_kind, arguments_for, start, Begins, machine_of}
 use Rattle.dm_meaning.specs.Extending.{HasAll}
 use Rattle.dm_meaning.specs.Lifetimes.{numbers_of}
 use Rattle.dm_meaning.specs.Replaced.{Zipped}
-use Rattle.dm_meaning.specs.MoreObjects.{IsMade, IsMadeName, ObjectsMade, LocksMade, UseSettled, TaskSettled, TasksSettled, FrameSettled, unfilled, CallerSettled, CallersSettled, IsSettled, IsSpare, Grown, with_memory, Spared}
+use Rattle.dm_meaning.specs.MoreObjects.{IsMade, IsMadeName, ObjectsMade, LocksMade, UseSettled, TaskSettled, TasksSettled, FrameSettled, CallersSettled, IsSettled, Grown, with_memory, Spared}
 use Rattle.dm_meaning.proofs.OptionLemmas.{none_is_some, some_is_some}
-use Rattle.dm_meaning.proofs.GrowLemmas.{equal_of, grown_same, grown_join, grown_written, grown_killed, FreshFrom, AreApart, grown_made, objects_made, given_made, given_all, fresh_from, since_made}
+use Rattle.dm_meaning.proofs.GrowLemmas.{grown_same, grown_join, grown_written, grown_killed, FreshFrom, AreApart, grown_made, objects_made, given_made, given_all, fresh_from, since_made}
 use Rattle.dm_meaning.proofs.SpareRunLemmas.{name_made_later, locks_made_later, locks_made_joined, no_locks_made, TruthSpared, truth_spared, RunSpared, hole_locks, moves_spared}
 use Rattle.dm_meaning.proofs.StateLemmas.{from_steps}
 

@@ -8,14 +8,13 @@ use Rattle.dm_type.specs.CTypes.{CType, void, integer, pointer, array, struct, f
 use Rattle.dm_tree.specs.Scenes.{is_void}
 use Rattle.dm_tree.specs.Trees.{Label, number, enumerator, read, decay, convert, address, unary, binary, both, either, choose, comma, store, update, count, call, sizeof_tree, sizeof_kind, Tree, Trees, node, no_trees, more_trees, label_of, kind_of}
 use Rattle.dm_tree.specs.Units.{Declaration}
-use Rattle.dm_meaning.specs.declared.cause.Cause.{Cause}
 use Rattle.dm_meaning.specs.Among.{IsAmong}
 use Rattle.dm_meaning.specs.Values.{At, Value, unset}
 use Rattle.dm_meaning.specs.Causes.{is_unset}
 use Rattle.dm_meaning.specs.Primitives.{Answer, answers, stops, refuses, Prim}
 use Rattle.dm_meaning.specs.Programs.{Definition, layout, declaration_of, definition_of}
 use Rattle.dm_meaning.specs.Operations.{Result, of_value, Operand, World, Scene, Did, gives, breaks, ends_with, on_one, convert_bare, Truth, holds, untold, truth_of, truth_in, typed, operate}
-use Rattle.dm_meaning.specs.Running.{Doing, evaluates, gives_truth, gives_value, Run, done, to_do, Runs, no_runs, more_runs, begun, all_begun, Hole, here, within, Holes, in_first, in_others, filled_in, all_filled_in, locks_in_all, open_parts, operands_in}
+use Rattle.dm_meaning.specs.Running.{Doing, evaluates, gives_truth, gives_value, Run, done, to_do, Runs, no_runs, more_runs, begun, all_begun, Hole, here, within, Holes, in_first, filled_in, all_filled_in, locks_in_all, open_parts, operands_in}
 use Rattle.dm_meaning.specs.Expressions.{Move, goes, calls, fails, exits, lifted, as_move, by_truth, on_operand, answered, undefined_called, called, call_step, function_named, nth_run, value_of, both_chosen, either_chosen, operand_chosen, form_step, node_step, own_or_inner, moves, moves_in}
 use Rattle.dm_meaning.specs.Steps.{lacks_value}
 use Rattle.dm_meaning.specs.Called.{gives_value as root_gives_value, Gives, GivesPicked}

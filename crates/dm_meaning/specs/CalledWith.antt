@@ -4,7 +4,7 @@
 --                                                     first reads the parameter, once and first, where the second has the argument
 --     Agrees change parameter tree other      a tree of the new program and one of the old are the same but for such calls
 --     IsCallingWith change parameter      the programs are the same but for such calls and the added function
-use Rattle.std.specs.Prelude.{◌≡◌, ◌⊎◌, ℕ, Bool, true, false, List, [], ◌∷◌, map, option_map, IsTrue}
+use Rattle.std.specs.Prelude.{◌≡◌, ◌⊎◌, ℕ, true, false, List, [], ◌∷◌, map, option_map, IsTrue}
 use Rattle.dm_type.specs.CTypes.{CType, bare}
 use Rattle.dm_tree.specs.Scenes.{is_void}
 use Rattle.dm_tree.specs.Trees.{Label, object, function, read, call, return, Spans, Tree, Trees, node, no_trees, more_trees, label_of, kind_of, trees_of, parts_of}
@@ -30,8 +30,7 @@ pub record IsParameter (change : Called) (parameter : ℕ) (tree other argument 
 
 abbrev mutual
   -- Below a node the parameter is read once, and first: on the way there each node may evaluate that operand before it picks another one
-  -- or none (6.5.13p4, 6.5.14p4, 6.5.15p4, 6.5.17p2, 6.5.3.4p2). The rest names no object
-  -- but those of static storage duration.
+  -- or none (6.5.13p4, 6.5.14p4, 6.5.15p4, 6.5.17p2, 6.5.3.4p2). The rest names no objects but those of static storage duration.
   pub Holds : Called → ℕ → Tree → Tree → Tree → Type 0
   Holds change parameter (node label kind spans parts) other argument =
       (label ≡ relabelled change.rename (label_of other)) × (kind ≡ kind_of other) × (means_the_same change.old (label_of other) ≡ true)
@@ -92,8 +91,8 @@ abbrev pub FunctionsAgree : Called → ℕ → List Definition → List Definiti
 FunctionsAgree change parameter definitions others = AreRelatedBut change.added (DefinitionAgrees change parameter) definitions others
 
 -- The programs differ in such calls and in the added function alone: each old declaration has one number among the new ones, with its name,
--- sort and type, and the added function and its parameter have others; the functions and the static objects agree. The added function has one parameter, isn't
--- `main`, and its body is one `return` of an expression that gives a value.
+-- sort and type, and the added function and its parameter have others; the functions and the static objects agree. The added function has
+-- one parameter, isn't `main`, and its body is one `return` of an expression that gives a value.
 pub record IsCallingWith (change : Called) (parameter : ℕ) : Type 0 where
   pub injective : (c d : ℕ) → change.rename c ≡ change.rename d → c ≡ d
   pub apart : (d : ℕ) → change.rename d ≡ change.added.function → ⊥

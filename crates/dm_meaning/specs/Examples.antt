@@ -13,10 +13,10 @@ use Rattle.dm_type.specs.Tables.{Table, with_struct, with_content}
 use Rattle.dm_tree.specs.declared.unit.Sort.TheVariants.{Object, Function}
 use Rattle.dm_tree.specs.declared.unit.Linkage.TheVariants.{External as ExternalLinkage, Absent}
 use Rattle.dm_tree.specs.Trees.{Label, number, literal, object, function, read, decay, convert, address, follow, member, binary, both, choose, comma, store, update, count, call, block, declare, full, if_statement, switch, case, default, while_loop, do_loop, for_loop, break, continue, return, Tree, node, trees, Initialiser, one_expression, in_braces, no_items, more_items}
-use Rattle.dm_tree.specs.Units.{Declaration, External, declares, defines_function}
+use Rattle.dm_tree.specs.Units.{Declaration, External, declares, defines_function, TypedUnit}
 use Rattle.dm_meaning.specs.Machines.{Standing}
 use Rattle.dm_meaning.specs.Called.{Called}
-use Rattle.dm_meaning.specs.Programs.{Definition, Program}
+use Rattle.dm_meaning.specs.Programs.{Program}
 use Rattle.dm_meaning.specs.Units.{program_of}
 use Rattle.dm_meaning.specs.Choices.{run_by}
 use Rattle.dm_meaning.specs.States.{State}
@@ -122,14 +122,18 @@ external d initialiser expressions =
     record { span = no_span; constants = []; form = declares (record { declared = d; defines = true; initialiser = initialiser } ∷ []) expressions }
 
 -- struct { int a; int b; }, which has the number 0
-abbrev types : Table
+abbrev pub types : Table
 types =
     let bare : Table = with_struct (record { shapes = IntegerShape Int ∷ []; structs = [] }) None in
     with_content bare 0 (contained bare (record { name = codes "a"; kind = 0 } ∷ record { name = codes "b"; kind = 0 } ∷ []))
 
--- a program whose declaration 0 is `int main(void)`
+-- a unit whose declaration 0 is `int main(void)`
+abbrev unit : List Declaration → List External → TypedUnit
+unit declared externals = record { declared = of_function (codes "main") int_of_nothing ∷ declared; externals = externals }
+
+-- its program
 abbrev program : List Declaration → List External → Program
-program declared externals = program_of types (record { declared = of_function (codes "main") int_of_nothing ∷ declared; externals = externals })
+program declared externals = program_of types (unit declared externals)
 
 -- a program of `main` alone
 abbrev alone : List Declaration → List Tree → Program
@@ -450,18 +454,34 @@ calling_with_twice = record {
   body = summed (reading 4);
 }
 
+abbrev pub called_one : Tree → Tree
+called_one argument = called 0 1 int (argument ∷ [])
+
+-- int main(void) { int k = 4; return k++ ? 0 : 1; }
+abbrev pub inverted : Tree → Tree
+inverted operand = tree 0 choose int (operand ∷ constant 0 ∷ constant 1 ∷ [])
+
+abbrev pub inverted_unit : TypedUnit
+inverted_unit = unit (local (codes "k") int ∷ []) (defined 0 [] (declared_as 1 (constant 4) ∷ returned (inverted (counted 1)) ∷ []) ∷ [])
+
+-- int none(int x) { return x ? 0 : 1; } int main(void) { int k = 4; return none(k++); }
+abbrev pub inverting : Tree
+inverting = tree 9 block void (returned (inverted (reading 2)) ∷ [])
+
+abbrev pub inverting_unit : TypedUnit
+inverting_unit =
+    unit (of_function (codes "none") int_of_int ∷ local (codes "x") int ∷ local (codes "k") int ∷ [])
+    (defined 1 (2 ∷ []) (returned (inverted (reading 2)) ∷ []) ∷ defined 0 [] (declared_as 3 (constant 4) ∷ returned (called_one (counted 3)) ∷ []) ∷ [])
+
 -- int main(void) { int k = 4; return k++ * 2 * 2; }
 abbrev pub doubled_count : Program
 doubled_count = alone (local (codes "k") int ∷ []) (declared_as 1 (constant 4) ∷ returned (doubled (doubled (counted 1))) ∷ [])
 
 -- int twice(int x) { return x * 2; } int main(void) { int k = 4; return twice(twice(k++)); }
-abbrev pub called_double : Tree → Tree
-called_double argument = called 0 1 int (argument ∷ [])
-
 abbrev pub called_count : Program
 called_count =
     program (of_function (codes "twice") int_of_int ∷ local (codes "x") int ∷ local (codes "k") int ∷ [])
-    (defined 1 (2 ∷ []) (returned (doubled (reading 2)) ∷ []) ∷ defined 0 [] (declared_as 3 (constant 4) ∷ returned (called_double (called_double (counted 3))) ∷ []) ∷ [])
+    (defined 1 (2 ∷ []) (returned (doubled (reading 2)) ∷ []) ∷ defined 0 [] (declared_as 3 (constant 4) ∷ returned (called_one (called_one (counted 3))) ∷ []) ∷ [])
 
 -- the numbers of the declarations where a second and a third are added
 abbrev pub beyond_main : ℕ → ℕ

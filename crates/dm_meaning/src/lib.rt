@@ -7,8 +7,9 @@ mod laws;
 
 pub use cause::Cause;
 pub use laws::{
-    Simulation, called_refines, called_units_refine, called_with_refines, called_with_units_refine, enumerated_refines, extended_answers, extended_steps, inner_locks,
-    inner_steps, own_lifetimes, refines_itself, refines_through, settled_beginnings, simulated, spared_steps, unended_steps,
+    Simulation, called_refines, called_units_refine, called_with_refines, called_with_units_refine,
+    enumerated_refines, extended_answers, extended_steps, inner_locks, inner_steps, own_lifetimes,
+    refines_itself, refines_through, settled_beginnings, simulated, spared_steps, unended_steps,
     units_refine,
 };
 

@@ -10,7 +10,7 @@ ghost use Rattle.dm_meaning.specs.Machines.{going, exited, undefined};
 ghost use Rattle.dm_meaning.specs.Called.{new_of, IsCalling};
 ghost use Rattle.dm_meaning.specs.CalledWith.{IsCallingWith};
 ghost use Rattle.dm_meaning.specs.Refinement.{Refines};
-ghost use Rattle.dm_meaning.specs.Units.{machine_of};
+ghost use Rattle.dm_meaning.specs.Units.{machine_of, program_of};
 ghost use Rattle.dm_meaning.specs.Examples as examples;
 ghost use Rattle.dm_meaning.specs.Examples.{at, by_choice};
 
@@ -129,6 +129,12 @@ fn nested_calls_with_a_parameter_refine()
     ensures refines { Refines (machine_of examples.called_count) (machine_of examples.doubled_count) }
 {}
 
+fn units_with_calls_refine()
+    ensures inverted { by_choice 0 90 [] (program_of examples.types examples.inverted_unit) ≡ Some (exited 0, []) }
+    ensures called { by_choice 0 90 [] (program_of examples.types examples.inverting_unit) ≡ Some (exited 0, []) }
+    ensures refines { Refines (machine_of (program_of examples.types examples.inverting_unit)) (machine_of (program_of examples.types examples.inverted_unit)) }
+{}
+
 #[test]
 fn examples_come_to_what_c_says() {
     functions_have_frames_of_their_own();
@@ -145,4 +151,5 @@ fn examples_come_to_what_c_says() {
     calls_of_an_added_function_refine();
     calls_with_a_parameter_refine();
     nested_calls_with_a_parameter_refine();
+    units_with_calls_refine();
 }
