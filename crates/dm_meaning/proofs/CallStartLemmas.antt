@@ -19,7 +19,8 @@ use Rattle.dm_meaning.proofs.KnownLemmas.{AreKnown, begins_known, known_later}
 use Rattle.dm_meaning.proofs.RunLemmas.{OptionAgrees, renamed_objects}
 use Rattle.dm_meaning.proofs.StartLemmas as plain
 use Rattle.dm_meaning.proofs.StaticLemmas.{statics_memory_same}
-use Rattle.dm_meaning.proofs.CallStatementLemmas.{unfolded_agree}
+use Rattle.dm_meaning.proofs.LikenessLemmas.{unfolded_agree}
+use Rattle.dm_meaning.proofs.CallStatementLemmas.{likeness}
 use Rattle.dm_meaning.proofs.CallStateLemmas.{StateAgrees, Related, Met, same_main, frame_objects, frame_tasks, frame_memory, step_met}
 
 module _ (change : Called) (calling : IsCalling change) where
@@ -97,7 +98,7 @@ module _ (change : Called) (calling : IsCalling change) where
         objects =
             ap (λ n. (opened_frame (new_of change) (λ i. names (suc n + i)) main).objects) count
             ∙ frame_objects change calling (λ i. names (suc (length change.old.statics) + i)) main other h;
-        tasks = unfolded_agree change calling _ _ (frame_tasks change calling (λ i. names (suc (length change.old.statics) + i)) main other h);
+        tasks = unfolded_agree change (likeness change calling) _ _ (frame_tasks change calling (λ i. names (suc (length change.old.statics) + i)) main other h);
         callers = tt;
         statics = statics_agree names;
         world =

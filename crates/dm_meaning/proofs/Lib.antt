@@ -32,3 +32,4 @@ mod PassStateLemmas
 mod PassRefineLemmas
 mod KnownLemmas
 mod PassUnitLemmas
+mod LikenessLemmas

@@ -25,7 +25,8 @@ use Rattle.dm_meaning.proofs.KnownLemmas.{AreKnown, begins_known, known_later}
 use Rattle.dm_meaning.proofs.RunLemmas.{OptionAgrees, renamed_objects}
 use Rattle.dm_meaning.proofs.StartLemmas as plain
 use Rattle.dm_meaning.proofs.StaticLemmas.{statics_memory_same}
-use Rattle.dm_meaning.proofs.PassStatementLemmas.{unfolded_agree}
+use Rattle.dm_meaning.proofs.LikenessLemmas.{unfolded_agree}
+use Rattle.dm_meaning.proofs.PassStatementLemmas.{likeness}
 use Rattle.dm_meaning.proofs.GrowLemmas.{equal_is, look_added, look_beside}
 use Rattle.dm_meaning.proofs.SpareStateLemmas.{unfolded_settled, spared_steps, settled_beginnings}
 use Rattle.dm_meaning.proofs.ReadLemmas.{parameter_block}
@@ -106,7 +107,7 @@ module _ (change : Called) (p : ℕ) (calling : IsCallingWith change p) where
         objects =
             ap (λ n. (opened_frame (new_of change) (λ i. names (suc n + i)) main).objects) count
             ∙ frame_objects change p calling (λ i. names (suc (length change.old.statics) + i)) main other h;
-        tasks = unfolded_agree change p calling _ _ (frame_tasks change p calling (λ i. names (suc (length change.old.statics) + i)) main other h);
+        tasks = unfolded_agree change (likeness change p calling) _ _ (frame_tasks change p calling (λ i. names (suc (length change.old.statics) + i)) main other h);
         callers = tt;
         statics = statics_agree names;
         world =

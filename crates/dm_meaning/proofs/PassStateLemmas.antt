@@ -37,7 +37,8 @@ use Rattle.dm_meaning.proofs.PassRunLemmas.{hole_of, hole_to_do, RunAgrees, Hole
 use Rattle.dm_meaning.proofs.ReadLemmas.{Reads, HoleReads, begun_reads, filled_reads, AfterRead, parameter_block, unlocked, fewer_read, reads_matched}
 use Rattle.dm_meaning.proofs.YieldLemmas.{begun_yields, Yields, HoleYields, MoveYields, filled_yields, move_yields_on}
 use Rattle.dm_meaning.proofs.StatementLemmas.{map_append, numbers_renamed, named_from_renamed, length_renamed}
-use Rattle.dm_meaning.proofs.PassStatementLemmas.{UseAgrees, TasksAgree, TurnedAgrees, listed_agrees, same_type, declared_in_agrees, made_from_agrees, items_agree, statement_begins, declarator_begins, initialiser_begins, conclusion_agrees, unfolded_agree, ended_agrees, break_agrees, continue_agrees}
+use Rattle.dm_meaning.proofs.LikenessLemmas.{listed_agrees, same_type, declared_in_agrees, made_from_agrees, items_agree, statement_begins, declarator_begins, initialiser_begins, conclusion_agrees, unfolded_agree, ended_agrees, break_agrees, continue_agrees}
+use Rattle.dm_meaning.proofs.PassStatementLemmas.{UseAgrees, TasksAgree, TurnedAgrees, likeness, alike_agreeing}
 use Rattle.dm_meaning.proofs.OptionLemmas.{none_is_some, some_is_some}
 use Rattle.dm_meaning.proofs.KnownLemmas.{AreKnown, same_static, own_named}
 
@@ -276,10 +277,10 @@ module _ (change : Called) (p : ℕ) (calling : IsCallingWith change p) where
   given_agrees names i [] [] memory = refl
   given_agrees names i [] (value ∷ values) memory = refl
   given_agrees names i (d ∷ ds) [] memory =
-      ap (λ kind. given_from (new_of change) names (suc i) (map change.rename ds) [] ((names i, new_block (layout change.old) kind) ∷ memory)) (same_type change p calling d)
+      ap (λ kind. given_from (new_of change) names (suc i) (map change.rename ds) [] ((names i, new_block (layout change.old) kind) ∷ memory)) (same_type change (likeness change p calling) d)
       ∙ given_agrees names (suc i) ds [] ((names i, new_block (layout change.old) (type_declared change.old d)) ∷ memory)
   given_agrees names i (d ∷ ds) (value ∷ values) memory =
-      ap (λ kind. given_from (new_of change) names (suc i) (map change.rename ds) values ((names i, record (new_block (layout change.old) kind) { contents = value }) ∷ memory)) (same_type change p calling d)
+      ap (λ kind. given_from (new_of change) names (suc i) (map change.rename ds) values ((names i, record (new_block (layout change.old) kind) { contents = value }) ∷ memory)) (same_type change (likeness change p calling) d)
       ∙ given_agrees names (suc i) ds values ((names i, record (new_block (layout change.old) (type_declared change.old d)) { contents = value }) ∷ memory)
 
   pub frame_objects : (names : ℕ → ℕ) (definition other : Definition) → DefinitionAgrees change p definition other
@@ -288,13 +289,13 @@ module _ (change : Called) (p : ℕ) (calling : IsCallingWith change p) where
       ap (λ ps. named_from names (length ps) (declared_in (new_of change) (parts_of definition.body)) (named_from names 0 ps [])) h.1
       ∙ ap (λ n. named_from names n (declared_in (new_of change) (parts_of definition.body)) (named_from names 0 (map change.rename other.parameters) [])) (length_renamed change.rename other.parameters)
       ∙ ap (λ ds. named_from names (length other.parameters) ds (named_from names 0 (map change.rename other.parameters) []))
-      (declared_in_agrees change p calling (parts_of definition.body) (parts_of other.body) (listed_agrees change p (trees_of definition.body) (trees_of other.body) h.2))
+      (declared_in_agrees change (likeness change p calling) (parts_of definition.body) (parts_of other.body) (listed_agrees (Agrees change p) (trees_of definition.body) (trees_of other.body) (alike_agreeing change p (trees_of definition.body) (trees_of other.body) h.2)))
       ∙ ap (named_from names (length other.parameters) (map change.rename (declared_in change.old (parts_of other.body)))) (named_from_renamed change.rename names 0 other.parameters [])
       ∙ named_from_renamed change.rename names (length other.parameters) (declared_in change.old (parts_of other.body)) (named_from names 0 other.parameters [])
 
   pub frame_tasks : (names : ℕ → ℕ) (definition other : Definition) → DefinitionAgrees change p definition other
       → TasksAgree change p (opened_frame (new_of change) names definition).tasks (opened_frame change.old names other).tasks
-  frame_tasks names definition other h = items_agree change p calling (parts_of definition.body) (parts_of other.body) (listed_agrees change p (trees_of definition.body) (trees_of other.body) h.2)
+  frame_tasks names definition other h = items_agree change (likeness change p calling) (parts_of definition.body) (parts_of other.body) (listed_agrees (Agrees change p) (trees_of definition.body) (trees_of other.body) (alike_agreeing change p (trees_of definition.body) (trees_of other.body) h.2))
 
   pub frame_memory : (names : ℕ → ℕ) (definition other : Definition) (arguments : List Value) (memory : Memory) → DefinitionAgrees change p definition other
       → opened_memory (new_of change) names definition arguments memory ≡ opened_memory change.old names other arguments memory
@@ -302,9 +303,9 @@ module _ (change : Called) (p : ℕ) (calling : IsCallingWith change p) where
       ap (λ ps. made_from (new_of change) names (length ps) (declared_in (new_of change) (parts_of definition.body)) (given_from (new_of change) names 0 ps arguments memory)) h.1
       ∙ ap (λ n. made_from (new_of change) names n (declared_in (new_of change) (parts_of definition.body)) (given_from (new_of change) names 0 (map change.rename other.parameters) arguments memory)) (length_renamed change.rename other.parameters)
       ∙ ap (λ ds. made_from (new_of change) names (length other.parameters) ds (given_from (new_of change) names 0 (map change.rename other.parameters) arguments memory))
-      (declared_in_agrees change p calling (parts_of definition.body) (parts_of other.body) (listed_agrees change p (trees_of definition.body) (trees_of other.body) h.2))
+      (declared_in_agrees change (likeness change p calling) (parts_of definition.body) (parts_of other.body) (listed_agrees (Agrees change p) (trees_of definition.body) (trees_of other.body) (alike_agreeing change p (trees_of definition.body) (trees_of other.body) h.2)))
       ∙ ap (made_from (new_of change) names (length other.parameters) (map change.rename (declared_in change.old (parts_of other.body)))) (given_agrees names 0 other.parameters arguments memory)
-      ∙ made_from_agrees change p calling names (length other.parameters) (declared_in change.old (parts_of other.body)) (given_from change.old names 0 other.parameters arguments memory)
+      ∙ made_from_agrees change (likeness change p calling) names (length other.parameters) (declared_in change.old (parts_of other.body)) (given_from change.old names 0 other.parameters arguments memory)
 
   -- ---- the frame of the added function
 
@@ -354,7 +355,7 @@ module _ (change : Called) (p : ℕ) (calling : IsCallingWith change p) where
             standing = refl;
             function = refl;
             objects = h.0;
-            tasks = unfolded_agree change p calling ts us h.1;
+            tasks = unfolded_agree change (likeness change p calling) ts us h.1;
             callers = callers_agree;
             statics = refl;
             world = ap (λ m. record { memory = m; input = other.world.input; output = other.world.output }) h.2;
@@ -386,7 +387,7 @@ module _ (change : Called) (p : ℕ) (calling : IsCallingWith change p) where
         let place = body_place (definition_of (new_of change) (change.rename other.frame.function)) no_place in
         let at = body_place (definition_of change.old other.frame.function) no_place in
         subst (λ main. Met change p w spare other (closed_by now place main (gives_nothing (type_declared (new_of change) (change.rename other.frame.function))))) (sym (same_main other.frame.function))
-        (subst (λ type. Met change p w spare other (closed_by now place (is_main (declaration_of change.old other.frame.function)) (gives_nothing type))) (sym (same_type change p calling other.frame.function))
+        (subst (λ type. Met change p w spare other (closed_by now place (is_main (declaration_of change.old other.frame.function)) (gives_nothing type))) (sym (same_type change (likeness change p calling) other.frame.function))
         (closed_bools place at (is_main (declaration_of change.old other.frame.function)) (gives_nothing (type_declared change.old other.frame.function)) among))
 
     -- ---- the end of a frame
@@ -521,7 +522,7 @@ module _ (change : Called) (p : ℕ) (calling : IsCallingWith change p) where
               standing = refl;
               function = k.0;
               objects = frame_objects names definition other_definition k;
-              tasks = unfolded_agree change p calling _ _ (frame_tasks names definition other_definition k);
+              tasks = unfolded_agree change (likeness change p calling) _ _ (frame_tasks names definition other_definition k);
               callers = with_caller spare (record { frame = record { function = change.rename other.frame.function; objects = renamed_objects change.rename other.frame.objects; tasks = rest }; place = place; kind = kind; hole = hole; use_of = use_of }) (record { frame = record { function = other.frame.function; objects = other.frame.objects; tasks = other_rest }; place = at; kind = kind; hole = other_hole; use_of = other_use }) callers other.callers (record { function = refl; objects = refl; tasks = rest_agrees; kind = refl; hole = h; use_of = use_agrees }) callers_agree;
               statics = refl;
               world = ap (λ m. record { memory = m; input = other.world.input; output = other.world.output }) (frame_memory names definition other_definition arguments other.world.memory k);
@@ -604,7 +605,7 @@ module _ (change : Called) (p : ℕ) (calling : IsCallingWith change p) where
           subst (Met change p w spare other) (sym k)
           (subst (λ r. Met change p w spare other (turned now (concluded (new_of change) now.frame.objects rest other.world.memory place use_of r))) (sym h.1)
           (turned_met (concluded (new_of change) now.frame.objects rest other.world.memory place use_of other_result) (concluded change.old other.frame.objects other_rest other.world.memory at other_use other_result)
-          (conclusion_agrees change p calling other.frame.objects rest other_rest other.world.memory rest_agrees place at use_of other_use use_agrees other_result)
+          (conclusion_agrees change (likeness change p calling) other.frame.objects rest other_rest other.world.memory rest_agrees place at use_of other_use use_agrees other_result)
           (old_among _ e _ (inl refl))))
       expression_met (done kind result locks) (done other_kind other_result other_locks) h e state (inr k) = absurd k
       expression_met (done kind result locks) (to_do doing other_kind spot parts) h e state k = absurd h
@@ -650,7 +651,7 @@ module _ (change : Called) (p : ℕ) (calling : IsCallingWith change p) where
     declares_met declarator other_declarator trees others ts us d h r e state k =
         single_met (declares other_declarator others ∷ us) e (begin_declarator (new_of change) now.frame.objects ts other.world.memory (renamed_declarator change.rename other_declarator) trees)
         (begin_declarator change.old other.frame.objects us other.world.memory other_declarator others)
-        (declarator_begins change p calling other.frame.objects ts us other.world.memory r other_declarator trees others h) (inl refl) state
+        (declarator_begins change (likeness change p calling) other.frame.objects ts us other.world.memory r other_declarator trees others h) (inl refl) state
         (subst (λ x. IsAmong state (task_steps (new_of change) names now (declares x trees ∷ ts))) d k)
 
     initials_met : (at : At) (kind : CType) (initialiser : Initialiser) (trees others : List Tree) (ts us : List Task) → Zipped (Agrees change p) trees others → TasksAgree change p ts us
@@ -658,13 +659,13 @@ module _ (change : Called) (p : ℕ) (calling : IsCallingWith change p) where
     initials_met at kind initialiser trees others ts us h r e state k =
         single_met (initials at kind initialiser others ∷ us) e (begin_initialiser (new_of change) now.frame.objects ts other.world.memory at kind initialiser trees)
         (begin_initialiser change.old other.frame.objects us other.world.memory at kind initialiser others)
-        (initialiser_begins change p calling other.frame.objects ts us other.world.memory r at kind initialiser trees others h) (inl refl) state k
+        (initialiser_begins change (likeness change p calling) other.frame.objects ts us other.world.memory r at kind initialiser trees others h) (inl refl) state k
 
     task_met : (t u : Task) (ts us : List Task) → TasksAgree change p (t ∷ ts) (u ∷ us) → unfolded other.frame.tasks ≡ u ∷ us → (state : State) → IsAmong state (task_steps (new_of change) names now (t ∷ ts)) → Met change p w spare other state
     task_met (begins tree) (begins other_tree) ts us h e state k =
         single_met (begins other_tree ∷ us) e (begin_statement (new_of change) names now.frame.objects ts other.world.memory tree)
         (begin_statement change.old names other.frame.objects us other.world.memory other_tree)
-        (statement_begins change p calling names other.frame.objects ts us other.world.memory h.1 tree other_tree h.0) (inl refl) state k
+        (statement_begins change (likeness change p calling) names other.frame.objects ts us other.world.memory h.1 tree other_tree h.0) (inl refl) state k
     task_met (declares declarator trees) (declares other_declarator others) ts us h e state k = declares_met declarator other_declarator trees others ts us h.0.0 h.0.1 h.1 e state k
     task_met (initials at kind initialiser trees) (initials other_at other_kind other_initialiser others) ts us h e state k =
         initials_met other_at other_kind other_initialiser trees others ts us h.0.3 h.1 e state
@@ -675,13 +676,13 @@ module _ (change : Called) (p : ℕ) (calling : IsCallingWith change p) where
     task_met (again objects loop) (again others other_loop) ts us h e state k = absurd k
     task_met (tests objects loop) (tests others other_loop) ts us h e state k = absurd k
     task_met (ends saved) (ends others) ts us h e state k =
-        single_met (ends others ∷ us) e (ended saved now.frame.objects ts other.world.memory) (ended others other.frame.objects us other.world.memory) (ended_agrees change p calling saved others other.frame.objects ts us other.world.memory h.0 h.1) (inl refl) state k
+        single_met (ends others ∷ us) e (ended saved now.frame.objects ts other.world.memory) (ended others other.frame.objects us other.world.memory) (ended_agrees change (likeness change p calling) saved others other.frame.objects ts us other.world.memory h.0 h.1) (inl refl) state k
     task_met (ends_switch saved) (ends_switch others) ts us h e state k =
-        single_met (ends_switch others ∷ us) e (ended saved now.frame.objects ts other.world.memory) (ended others other.frame.objects us other.world.memory) (ended_agrees change p calling saved others other.frame.objects ts us other.world.memory h.0 h.1) (inl refl) state k
+        single_met (ends_switch others ∷ us) e (ended saved now.frame.objects ts other.world.memory) (ended others other.frame.objects us other.world.memory) (ended_agrees change (likeness change p calling) saved others other.frame.objects ts us other.world.memory h.0 h.1) (inl refl) state k
     task_met leaves leaves ts us h e state k =
-        single_met (leaves ∷ us) e (after_break now.frame.objects other.world.memory ts) (after_break other.frame.objects other.world.memory us) (break_agrees change p calling other.frame.objects other.world.memory ts us h.1) (inl refl) state k
+        single_met (leaves ∷ us) e (after_break now.frame.objects other.world.memory ts) (after_break other.frame.objects other.world.memory us) (break_agrees change (likeness change p calling) other.frame.objects other.world.memory ts us h.1) (inl refl) state k
     task_met skips skips ts us h e state k =
-        single_met (skips ∷ us) e (after_continue now.frame.objects other.world.memory ts) (after_continue other.frame.objects other.world.memory us) (continue_agrees change p calling other.frame.objects other.world.memory ts us h.1) (inl refl) state k
+        single_met (skips ∷ us) e (after_continue now.frame.objects other.world.memory ts) (after_continue other.frame.objects other.world.memory us) (continue_agrees change (likeness change p calling) other.frame.objects other.world.memory ts us h.1) (inl refl) state k
     task_met (hands_back value) (hands_back other_value) ts us h e state (inl k) =
         subst (Met change p w spare other) (sym k) (subst (λ v. Met change p w spare other (handed_back now v callers)) (sym h.0) (back_met other_value callers other.callers callers_agree (old_among _ e _ (inl refl))))
     task_met (hands_back value) (hands_back other_value) ts us h e state (inr k) = absurd k
@@ -850,7 +851,7 @@ module _ (change : Called) (p : ℕ) (calling : IsCallingWith change p) where
               standing = refl;
               function = k.0;
               objects = frame_objects names definition other_definition k;
-              tasks = unfolded_agree change p calling _ _ (frame_tasks names definition other_definition k);
+              tasks = unfolded_agree change (likeness change p calling) _ _ (frame_tasks names definition other_definition k);
               callers = inr (
                 (n, value),
                 spare,
