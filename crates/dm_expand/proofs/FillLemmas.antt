@@ -1,6 +1,15 @@
 -- Pieces of a replacement list.
-use Rattle.std.proofs.Common.{◌≡◌, ℕ, ◌<◌, ◌≤◌, Bool, List, [], ◌∷◌, length, map, refl, ap, ◌∙◌, arith, set as set_at, get_or, Result, Ok, Err}
+use Rattle.std.proofs.Common.{◌≡◌, ℕ, ◌<◌, ◌≤◌, Bool, List, [], ◌∷◌, ◌++◌, length, map, refl, sym, ap, ◌∙◌, arith, append_assoc, set as set_at, get_or, Result, Ok, Err}
+use Rattle.dm_token.specs.declared.expansion.Mark.{Mark}
+use Rattle.dm_token.specs.declared.expansion.Mark.TheVariants.{Argument}
+use Rattle.dm_expand.specs.declared.body.Role.{Role}
+use Rattle.dm_expand.specs.declared.substitute.Content as code_content
+use Rattle.dm_expand.specs.declared.substitute.Content.TheVariants.{One, Tokens, Whole}
 use Rattle.dm_expand.specs.Items.{Item, with_blank, first_with_blank}
+use Rattle.dm_expand.specs.Trails.{past, body_trail, argument_trail}
+use Rattle.dm_expand.specs.Ways.{Way, way_of, moved}
+use Rattle.dm_expand.specs.Views.{part_with}
+use Rattle.dm_expand.specs.Works.{IsContent, content_value}
 use Rattle.dm_expand.specs.Pastes.{Site, token, placemarker, operator, made}
 use Rattle.std.specs.FinSet as set
 use Rattle.dm_token.specs.declared.token.PpToken.{PpToken}
@@ -9,7 +18,7 @@ use Rattle.dm_token.specs.declared.stop.Stop.{Stop}
 use Rattle.dm_expand.specs.Steps.{Progress, Output, ◌>>=◌, take_argument}
 use Rattle.dm_expand.specs.Bodies.{plain, hash, beside, whole, paste}
 use Rattle.dm_expand.specs.Strings.{quoted}
-use Rattle.dm_expand.specs.Substitution.{Expander, Filled, operands, filled, body_item, argument_for, placed}
+use Rattle.dm_expand.specs.Substitution.{Expander, Filled, operands, filled, body_item, argument_for, argument_item, placed}
 use Rattle.dm_expand.specs.ListViews.{fills}
 
 pub operands-nothing : (blank : Bool) (items : List Item) → length items ≡ 0 → operands blank items ≡ placemarker blank ∷ []
@@ -32,7 +41,38 @@ unfolding first_with_blank
 first-some blank [] first changed some is with = absurd (omega arith)
 first-some blank (item ∷ items) first changed some is with = ap (λ (x : Item). x ∷ items) (with ∙ ap (with_blank blank) is)
 
+map-same : {A B : Type 0} (f g : A → B) (xs : List A) → ((x : A) → f x ≡ g x) → map f xs ≡ map g xs
+map-same f g [] are = refl
+map-same f g (x ∷ xs) are = ap (λ y. y ∷ map f xs) (are x) ∙ ap (λ ys. g x ∷ ys) (map-same f g xs are)
+
+-- the way of an argument to one of its parameter's places
+abbrev argument_way : Site → ℕ → ℕ → Way
+argument_way site parameter occurrence = way_of site.name.trail (body_trail site.name.trail site.mark ++ Argument parameter occurrence ∷ [])
+
+moved-item : (site : Site) (parameter occurrence : ℕ) (item : Item) → moved (argument_way site parameter occurrence) item ≡ argument_item site parameter occurrence item
+unfolding argument_item argument_trail
+moved-item site parameter occurrence item =
+    ap (λ (trail : List Mark). record item { trail = trail }) (append_assoc (body_trail site.name.trail site.mark) (Argument parameter occurrence ∷ []) (past site.name.trail item.trail))
+
+-- tokens that were led on their argument's way
+pub moved-placed : (site : Site) (pp : PpToken) (parameter occurrence : ℕ) (items : List Item) → first_with_blank pp.blank_before (map (moved (argument_way site parameter occurrence)) items) ≡ placed site pp parameter occurrence items
+unfolding placed
+moved-placed site pp parameter occurrence items =
+    ap (first_with_blank pp.blank_before) (map-same (moved (argument_way site parameter occurrence)) (argument_item site parameter occurrence) items (moved-item site parameter occurrence))
+
 -- WHAT A PART BECOMES
+
+operands-are_some : (blank : Bool) (items : List Item) → [] ≡ operands blank items → ⊥
+unfolding operands
+operands-are_some blank [] is = cc
+operands-are_some blank (item ∷ items) is = cc
+
+-- a part that is filled with the operand of `##` that an argument is
+pub operand-is : (site : Site) (pp : PpToken) (role : Role) (p q : Progress) (content : code_content.Content) (blank : Bool) (items : List Item)
+    → content_value content ≡ operands blank items → ((expander : Expander) → filled expander site (part_with pp role) p ≡ Ok (fills (operands blank items) q)) → IsContent site pp role p q content
+operand-is site pp role p q (One piece) blank items is are = λ expander. are expander ∙ ap (λ xs. Ok (fills xs q)) (sym is)
+operand-is site pp role p q (Tokens tokens) blank items is are = λ expander. are expander ∙ ap (λ xs. Ok (fills xs q)) (sym is)
+operand-is site pp role p q (Whole parameter occurrence) blank items is are = absurd (operands-are_some blank items is)
 
 pub filled-plain : (expander : Expander) (site : Site) (pp : PpToken) (p : Progress) → filled expander site (plain pp) p ≡ Ok (fills (token (body_item site pp) ∷ []) p)
 unfolding filled

@@ -1,6 +1,7 @@
 -- Hide sets that are kept as lists of their numbers.
-use Rattle.std.proofs.Common.{◌||◌, ap, ◌≡◌, ℕ, Bool, true, false, cond, ◌&&◌, List, [], ◌∷◌, ◌++◌, refl, sym, ◌∙◌, nat_eq, rules}
+use Rattle.std.proofs.Common.{◌||◌, ap, ◌≡◌, ℕ, Bool, true, false, cond, ◌&&◌, ◌+◌, ◌<◌, length, take, get_or, List, [], ◌∷◌, ◌++◌, refl, sym, ◌∙◌, nat_eq, rules}
 use Rattle.std.specs.List.{list_any, filter}
+use Rattle.std.proofs.lemmas.List.{take_more}
 use Rattle.std.proofs.lemmas.List.Folds.{list_any-append}
 use Rattle.std.specs.Ordering.{nat_cmp}
 use Rattle.std.specs.Cmp.{nat_cmp_total}
@@ -18,6 +19,19 @@ same s t are = set.same_set nat_cmp_total nat_cmp-IsAntisymmetric s t are
 
 pub among-is : (numbers : List ℕ) (number : ℕ) → list_any (λ other. nat_eq other number) numbers ≡ set.contains (of_list numbers) number
 among-is numbers number = sym (contains-from_list_nat numbers number)
+
+-- whether a number is among the first ones, and one more
+pub among-more : (numbers : List ℕ) (number i : ℕ) (found : Bool) → i < length numbers → found ≡ list_any (λ other. nat_eq other number) (take i numbers)
+    → (found || nat_eq (get_or numbers i 0) number) ≡ list_any (λ other. nat_eq other number) (take (i + 1) numbers)
+among-more numbers number i found lt is =
+    let test : ℕ → Bool = λ other. nat_eq other number in
+    ap (λ b. b || test (get_or numbers i 0)) is
+    ∙ ap (λ b. list_any test (take i numbers) || b) (sym (or_last (test (get_or numbers i 0))))
+    ∙ sym (ap (list_any test) (take_more numbers i 0 lt) ∙ list_any-append test (take i numbers) (get_or numbers i 0 ∷ []))
+  where
+    or_last : (b : Bool) → (b || false) ≡ b
+    or_last true = refl
+    or_last false = refl
 
 -- one number more at the end
 pub push-is : (numbers : List ℕ) (number : ℕ) → of_list (numbers ++ number ∷ []) ≡ set.insert (of_list numbers) number
@@ -62,11 +76,6 @@ within_left : (a b : Bool) → (a || b) ≡ (a || (a || b))
 within_left true b = refl
 within_left false b = refl
 
-within_right : (a b : Bool) → (a || b) ≡ ((a || b) || a)
-within_right true b = refl
-within_right false true = refl
-within_right false false = refl
-
 within_both : (a b : Bool) → a ≡ (a && (a || b))
 within_both true b = refl
 within_both false b = refl
@@ -81,15 +90,6 @@ union-front mine theirs rest s t is are front =
     ∙ ap (λ u. set.union (of_list mine) u) (ap of_list (sym front) ∙ are)
     ∙ ap (λ u. set.union u t) is
 
-pub union-back : (mine theirs rest : List ℕ) (s t : set.FinSet nat_cmp) → of_list mine ≡ s → of_list theirs ≡ t → mine ≡ theirs ++ rest → s ≡ set.union s t
-union-back mine theirs rest s t is are back =
-    sym is
-    ∙ ap of_list back
-    ∙ same _ _ (λ q. append-is theirs rest q ∙ within_right (set.contains (of_list theirs) q) (set.contains (of_list rest) q)
-    ∙ ap (λ b. b || set.contains (of_list theirs) q) (sym (append-is theirs rest q)) ∙ sym (set.contains-union nat_cmp_total (of_list (theirs ++ rest)) (of_list theirs) q))
-    ∙ ap (λ u. set.union u (of_list theirs)) (ap of_list (sym back) ∙ is)
-    ∙ ap (λ u. set.union s u) are
-
 pub meet-front : (mine theirs rest : List ℕ) (s t : set.FinSet nat_cmp) → of_list mine ≡ s → of_list theirs ≡ t → theirs ≡ mine ++ rest → s ≡ set.intersection s t
 meet-front mine theirs rest s t is are front =
     sym is
@@ -97,3 +97,15 @@ meet-front mine theirs rest s t is are front =
     ∙ ap (λ b. set.contains (of_list mine) q && b) (sym (append-is mine rest q)) ∙ sym (set.contains-intersection nat_cmp_total (of_list mine) (of_list (mine ++ rest)) q))
     ∙ ap (λ u. set.intersection (of_list mine) u) (ap of_list (sym front) ∙ are)
     ∙ ap (λ u. set.intersection u t) is
+
+-- what is hidden already adds nothing
+pub union-present : (s : set.FinSet nat_cmp) (numbers : List ℕ) (number : ℕ) → s ≡ set.union s (of_list numbers) → set.contains s number ≡ true → s ≡ set.union s (of_list (numbers ++ number ∷ []))
+union-present s numbers number before there =
+    insert_present s number there
+    ∙ ap (λ t. set.insert t number) before
+    ∙ union-insert s (of_list numbers) number
+    ∙ ap (λ t. set.union s t) (sym (push-is numbers number))
+
+-- it adds to the set of no numbers what it has
+pub nothing-union : (s : set.FinSet nat_cmp) → s ≡ set.union set.empty s
+nothing-union s = same _ _ (λ q. grind (members, tests, rules))

@@ -1,11 +1,12 @@
 -- `##`, a piece at a time.
-use Rattle.std.proofs.Common.{◌≡◌, Bool, List, [], ◌∷◌, ◌++◌, refl, sym, ap, append_assoc, Result, Ok, Err}
+use Rattle.std.proofs.Common.{◌≡◌, Bool, List, [], ◌∷◌, ◌++◌, length, map, arith, refl, sym, ap, ◌∙◌, append_assoc, Result, Ok, Err}
 use Rattle.dm_token.specs.declared.stop.Stop.{Stop}
 use Rattle.dm_token.specs.declared.stop.Stop.TheVariants.{Memory, Refused, Limit, ReadFault}
+use Rattle.dm_expand.specs.declared.paste.Piece as code_piece
 use Rattle.dm_expand.specs.Items.{Item}
 use Rattle.dm_expand.specs.Steps.{◌>>=◌}
 use Rattle.dm_expand.specs.Pastes.{Site, Piece, token, placemarker, operator, joined, piece_before, pasted_behind, pasted, tokens_of}
-use Rattle.dm_expand.specs.Views.{StopsAs, tokens_left, tokens_behind, all_before}
+use Rattle.dm_expand.specs.Views.{StopsAs, piece_value, tokens_left, tokens_behind, all_before}
 
 -- a stop goes through
 pub stops_through : {A B : Type 0} (first : Result A Stop) (whole : Result B Stop) (stop : Stop) → ((other : Stop) → first ≡ Err other → whole ≡ Err other) → StopsAs first stop → StopsAs whole stop
@@ -68,3 +69,17 @@ all_before-append done more (Err stop) = refl
 pub all_before-nothing : (r : Result (List Item) Stop) → all_before [] r ≡ r
 all_before-nothing (Ok others) = refl
 all_before-nothing (Err stop) = refl
+
+pub no_pieces : (pieces : List code_piece.Piece) → length pieces ≡ 0 → map piece_value pieces ≡ []
+no_pieces [] none = refl
+no_pieces (piece ∷ pieces) none = absurd (omega arith)
+
+-- tokens alone stay as they are
+tokens-behind : (site : Site) (item : Item) (items : List Item) → tokens_behind site (token item) (map token items) ≡ Ok (item ∷ items)
+unfolding tokens_of
+tokens-behind site item [] = behind-nothing site (token item)
+tokens-behind site item (next ∷ items) = behind-token site (token item) next (map token items) ∙ ap (all_before (item ∷ [])) (tokens-behind site next items)
+
+pub left-tokens : (site : Site) (items : List Item) → tokens_left site (map token items) ≡ Ok items
+left-tokens site [] = left-nothing site
+left-tokens site (item ∷ items) = left-first site (token item) (map token items) ∙ tokens-behind site item items

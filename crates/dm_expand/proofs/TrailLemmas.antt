@@ -1,6 +1,6 @@
 -- Trails: what they have in common, and walks from their innermost marks.
-use Rattle.std.proofs.Common.{inl, inr, ◌≡◌, ◌≤◌, Bool, true, List, [], ◌∷◌, ◌++◌, length, drop, refl, sym, ap, ◌∙◌, subst, arith, IsTrue, append_assoc, length-append, reverse, eqb, ◌↔◌}
-use Rattle.std.proofs.lemmas.List.{reverse-append, drop_at}
+use Rattle.std.proofs.Common.{inl, inr, ◌≡◌, ℕ, ◌+◌, ◌-◌, ◌<◌, ◌≤◌, Bool, true, false, cond, List, [], ◌∷◌, ◌++◌, length, take, drop, refl, sym, ap, ◌∙◌, subst, arith, IsTrue, append_assoc, length-append, reverse, eqb, ◌↔◌}
+use Rattle.std.proofs.lemmas.List.{reverse-append, take_at, drop_at}
 use Rattle.std.proofs.lemmas.Bool.{cases_Bool, and_parts, and_from, eqb-true, eq-eqb, cond-true, cond-false, false≢true}
 use Rattle.dm_token.specs.declared.expansion.Mark.{Mark}
 use Rattle.dm_token.specs.declared.expansion.Mark.TheVariants.{Expansion, Argument}
@@ -101,3 +101,68 @@ last-is xs ys x y same = heads (reverse xs) (reverse ys) x y (sym (reverse-appen
   where
     heads : (us vs : List Mark) (a b : Mark) → a ∷ us ≡ b ∷ vs → a ≡ b
     heads us vs a b e = cc
+
+-- WAYS
+
+past-shorter : (name trail : List Mark) → length (past name trail) ≤ length trail
+unfolding past
+past-shorter [] trail = omega arith
+past-shorter (mark ∷ name) [] = omega arith
+past-shorter (mark ∷ name) (first ∷ trail) =
+    elim (same_mark mark first) as (λ b. length (cond b (past name trail) (first ∷ trail)) ≤ length (first ∷ trail)) [
+      | true ↦ let shorter = past-shorter name trail in omega (arith, shorter)
+      | false ↦ omega arith
+    ]
+
+-- what is left of two trails that begin alike, where something of that is left
+abbrev pub Shares : List Mark → List Mark → List Mark → List Mark → Type 0
+Shares name known mine theirs = (kept : List Mark) × (past name (known ++ mine) ≡ kept ++ mine) × (past name (known ++ theirs) ≡ kept ++ theirs)
+
+past-shares : (name known mine theirs : List Mark) → length mine < length (past name (known ++ mine)) → Shares name known mine theirs
+unfolding past
+past-shares [] known mine theirs more = (known, refl, refl)
+past-shares (mark ∷ name) [] mine theirs more = let shorter = past-shorter (mark ∷ name) mine in absurd (omega (arith, more, shorter))
+past-shares (mark ∷ name) (first ∷ known) mine theirs more =
+    elim (same_mark mark first) as (λ b. length mine < length (cond b (past name (known ++ mine)) (first ∷ (known ++ mine)))
+    → (kept : List Mark) × (cond b (past name (known ++ mine)) (first ∷ (known ++ mine)) ≡ kept ++ mine) × (cond b (past name (known ++ theirs)) (first ∷ (known ++ theirs)) ≡ kept ++ theirs)) [
+      | true ↦ λ more. past-shares name known mine theirs more
+      | false ↦ λ more. (first ∷ known, refl, refl)
+    ] more
+
+-- What a trail becomes begins like what became of another one, as far as both begin alike past what is the name's.
+pub led_front : (name base last became trail known : List Mark) → became ≡ base ++ past name last → IsLongestCommonPrefix last trail known → length last - length known < length became - length base
+    → take (length became - (length last - length known)) became ++ drop (length known) trail ≡ base ++ past name trail
+led_front name base last became trail known is alike longer =
+    let mine : List Mark = alike.0.0 in
+    let theirs : List Mark = alike.1.0 in
+    let behind : length last ≡ length known + length mine = ap length alike.0.1 ∙ length-append known mine in
+    let ahead : length became ≡ length base + length (past name (known ++ mine)) = ap length is ∙ length-append base (past name last) ∙ ap (λ x. length base + length (past name x)) alike.0.1 in
+    let shares : Shares name known mine theirs = past-shares name known mine theirs (omega (arith, behind, ahead, longer)) in
+    let kept : List Mark = shares.0 in
+    let front : became ≡ (base ++ kept) ++ mine = is ∙ ap (λ x. base ++ past name x) alike.0.1 ∙ ap (λ x. base ++ x) shares.1 ∙ sym (append_assoc base kept mine) in
+    let long : length became ≡ length (base ++ kept) + length mine = ap length front ∙ length-append (base ++ kept) mine in
+    let count : length (base ++ kept) ≡ length became - (length last - length known) = omega (arith, long, behind) in
+    ap (λ x. take (length became - (length last - length known)) x ++ drop (length known) trail) front
+    ∙ ap (λ x. x ++ drop (length known) trail) (take_at (base ++ kept) mine _ count)
+    ∙ ap (λ x. (base ++ kept) ++ drop (length known) x) alike.1.1
+    ∙ ap (λ x. (base ++ kept) ++ x) (drop_at known theirs (length known) refl)
+    ∙ append_assoc base kept theirs
+    ∙ ap (λ x. base ++ x) (sym shares.2 ∙ ap (past name) (sym alike.1.1))
+
+-- the other trail is no shorter than what both begin with
+pub common-left : (last trail known : List Mark) → IsLongestCommonPrefix last trail known → length known ≤ length last
+common-left last trail known is = omega (arith, ap length is.0.1, length-append known is.0.0)
+
+-- what became of a trail is no shorter than the base
+pub base-shorter : (name base last became : List Mark) → became ≡ base ++ past name last → length base ≤ length became
+base-shorter name base last became is = omega (arith, ap length is, length-append base (past name last))
+
+-- nothing is left of no marks
+pub past-nothing : (name : List Mark) → past name [] ≡ []
+unfolding past
+past-nothing [] = refl
+past-nothing (mark ∷ name) = refl
+
+-- the front of a walk
+pub front-is : (whole left passed : List Mark) (count : ℕ) → IsWalk whole left passed → count ≤ length left → length left ≤ count → left ≡ take count whole
+front-is whole left passed count walk most least = sym (ap (take count) walk ∙ take_at left passed count (omega (arith, most, least)))

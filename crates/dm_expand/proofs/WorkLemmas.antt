@@ -16,7 +16,7 @@ use Rattle.dm_expand.specs.Bodies.{Part, whole, parts_of}
 use Rattle.dm_expand.specs.Pastes.{Site, Piece, token}
 use Rattle.dm_expand.specs.Substitution.{Filled, filled, filled_all, placed, argument_for, substituted}
 use Rattle.dm_expand.specs.Expansion.{Macros, expanded, replaced, site_of}
-use Rattle.dm_expand.specs.Views.{piece_value}
+use Rattle.dm_expand.specs.Views.{pieces_in}
 use Rattle.dm_expand.specs.ListViews.{gives, fills, pieces_before, tokens_before, counted_if, invocation_value}
 use Rattle.dm_expand.specs.Works.{parts_from, whole_and_others, argument_pieces, put_together, goes_on, completed, filled_behind, taken_up, outward, scanned_on, invoked_on, load}
 use Rattle.dm_expand.proofs.SubstitutionLemmas.{operators-are, parts_of-is, pieces_before-append, pieces_before-nothing, tokens_before-nothing}
@@ -87,12 +87,12 @@ load-push (other ∷ waiting) waits = omega (arith, load-push waiting waits)
 -- an argument's list is entered
 pub enter-is : (macros : Macros) (waiting : List code_waiting.Waiting) (waits : code_waiting.Waiting) (inner : code_level.Level) (p : Progress)
     → inner.out.items ≡ [] → inner.rest.items ≡ argument_for waits.filling.site waits.whole.parameter
-    → outward macros waiting (completed macros waits.level waits.filling.site waits.filling.hidden waits.filling.definition.now (pieces_before (map piece_value waits.filling.pieces.items)
+    → outward macros waiting (completed macros waits.level waits.filling.site waits.filling.hidden waits.filling.definition.now (pieces_before (pieces_in waits.filling.pieces)
     (filled_all (expanded macros) waits.filling.site (not (list_any is_hash_hash waits.filling.definition.now.body)) (whole_and_others waits.filling.definition.now waits.whole) p)))
     ≡ outward macros (waiting ++ waits ∷ []) (scanned_on macros inner p)
 unfolding taken_up
 enter-is macros waiting waits inner p nothing argument =
-    ap (λ (r : Result Filled Stop). outward macros waiting (completed macros waits.level waits.filling.site waits.filling.hidden waits.filling.definition.now (pieces_before (map piece_value waits.filling.pieces.items) r)))
+    ap (λ (r : Result Filled Stop). outward macros waiting (completed macros waits.level waits.filling.site waits.filling.hidden waits.filling.definition.now (pieces_before (pieces_in waits.filling.pieces) r)))
     (filled_all-whole macros waits.filling.site (not (list_any is_hash_hash waits.filling.definition.now.body)) waits.whole.token.now waits.whole.parameter waits.whole.occurrence (parts_from waits.filling.definition.now waits.whole.behind) p)
     ∙ ap (λ (xs : List Item). outward macros waiting (taken_up macros waits (expanded macros xs p))) (sym argument)
     ∙ ap (λ (r : Result Output Stop). outward macros waiting (taken_up macros waits r)) (sym (tokens_before-nothing (expanded macros inner.rest.items p)))
@@ -119,14 +119,14 @@ leave-stops macros level site hidden definition pieces stop together =
 pub take_up-is : (macros : Macros) (waits : code_waiting.Waiting) (output : Output) (more all : List Piece) (q : Progress)
     → more ≡ argument_pieces waits.filling.site waits.whole output.tokens
     → counted_if (not (list_any is_hash_hash waits.filling.definition.now.body)) waits.filling.site.name.pp.place (length (argument_pieces waits.filling.site waits.whole output.tokens)) output.progress ≡ Ok q
-    → all ≡ map piece_value waits.filling.pieces.items ++ more
+    → all ≡ pieces_in waits.filling.pieces ++ more
     → taken_up macros waits (Ok output)
     ≡ completed macros waits.level waits.filling.site waits.filling.hidden waits.filling.definition.now (pieces_before all
     (filled_all (expanded macros) waits.filling.site (not (list_any is_hash_hash waits.filling.definition.now.body)) (parts_from waits.filling.definition.now waits.whole.behind) q))
 unfolding taken_up filled_behind
 take_up-is macros waits output more all q is counted are =
     let becomes : Result Filled Stop → Result Output Stop = λ r. completed macros waits.level waits.filling.site waits.filling.hidden waits.filling.definition.now r in
-    let pieces : List Piece = map piece_value waits.filling.pieces.items in
+    let pieces : List Piece = pieces_in waits.filling.pieces in
     let others : Progress → Result Filled Stop = λ p. filled_all (expanded macros) waits.filling.site (not (list_any is_hash_hash waits.filling.definition.now.body)) (parts_from waits.filling.definition.now waits.whole.behind) p in
     ap (λ (r : Result Progress Stop). becomes (pieces_before pieces (r >>= λ counted. pieces_before (argument_pieces waits.filling.site waits.whole output.tokens) (others counted)))) counted
     ∙ ap (λ (xs : List Piece). becomes (pieces_before pieces (pieces_before xs (others q)))) (sym is)
@@ -140,7 +140,7 @@ unfolding taken_up filled_behind completed
 take_up-count-stops macros waits output stop counted =
     let counts : Bool = not (list_any is_hash_hash waits.filling.definition.now.body) in
     let others : Progress → Result Filled Stop = λ p. filled_all (expanded macros) waits.filling.site counts (parts_from waits.filling.definition.now waits.whole.behind) p in
-    ap (λ (r : Result Progress Stop). completed macros waits.level waits.filling.site waits.filling.hidden waits.filling.definition.now (pieces_before (map piece_value waits.filling.pieces.items) (r >>= λ counted. pieces_before (argument_pieces waits.filling.site waits.whole output.tokens) (others counted)))) counted
+    ap (λ (r : Result Progress Stop). completed macros waits.level waits.filling.site waits.filling.hidden waits.filling.definition.now (pieces_before (pieces_in waits.filling.pieces) (r >>= λ counted. pieces_before (argument_pieces waits.filling.site waits.whole output.tokens) (others counted)))) counted
 
 -- a macro is replaced
 pub replace-is : (macros : Macros) (level : code_level.Level) (invocation : code_invocation.Invocation) (site : Site) (p q : Progress)

@@ -1,6 +1,7 @@
 pub mod Hides
 pub mod Items
 pub mod Trails
+pub mod Ways
 pub mod Steps
 pub mod Arguments
 pub mod Bodies

@@ -1,5 +1,5 @@
 -- What the code's values and answers mean.
-use Rattle.std.specs.Prelude.{◌≡◌, ◌≤◌, ◌||◌, ℕ, Bool, true, false, List, [], ◌∷◌, ◌++◌, Option, None, Some, Result, Ok, Err}
+use Rattle.std.specs.Prelude.{◌≡◌, ◌≤◌, ◌||◌, ℕ, Bool, true, false, List, [], ◌∷◌, ◌++◌, map, Option, None, Some, Result, Ok, Err}
 use Rattle.std.specs.List.{list_any}
 use Rattle.dm_token.specs.declared.expansion.Expansion.{Expansion}
 use Rattle.dm_token.specs.declared.expansion.Mark.{Mark}
@@ -10,6 +10,7 @@ use Rattle.dm_expand.specs.declared.arguments.Enclosed as code_enclosed
 use Rattle.dm_expand.specs.declared.body.Role.{Role}
 use Rattle.dm_expand.specs.declared.body.Role.TheVariants.{Plain, Hash, Beside, Whole, Paste}
 use Rattle.dm_expand.specs.declared.paste.Piece as code_piece
+use Rattle.dm_expand.specs.declared.paste.Pieces as code_pieces
 use Rattle.dm_expand.specs.declared.paste.Piece.TheVariants.{Token, Placemarker, Operator}
 use Rattle.dm_expand.specs.Items.{Item}
 use Rattle.dm_expand.specs.Trails.{marks_instance}
@@ -78,6 +79,10 @@ abbrev pub piece_value : code_piece.Piece → Piece
 piece_value (Token item) = token item
 piece_value (Placemarker blank) = placemarker blank
 piece_value (Operator item) = operator item
+
+-- pieces of a replacement list
+abbrev pub pieces_in : code_pieces.Pieces → List Piece
+pieces_in pieces = map piece_value pieces.front.items ++ map token pieces.tokens.items
 
 -- the tokens that are left when each `##` is done
 unfoldable pub tokens_left : Site → List Piece → Result (List Item) Stop

@@ -8,7 +8,7 @@ use Rattle.dm_macro.specs.HideSets.{HiddenNumbers}
 use Rattle.dm_macro.specs.Signs.{is_hash_hash}
 use Rattle.dm_expand.specs.declared.body.Role.{Role}
 use Rattle.dm_expand.specs.declared.substitute.Content as code_content
-use Rattle.dm_expand.specs.declared.substitute.Content.TheVariants.{One, Pieces, Whole}
+use Rattle.dm_expand.specs.declared.substitute.Content.TheVariants.{One, Tokens, Whole}
 use Rattle.dm_expand.specs.declared.substitute.Whole as code_whole
 use Rattle.dm_expand.specs.declared.head.Invocation as code_invocation
 use Rattle.dm_expand.specs.declared.machine.Level as code_level
@@ -20,15 +20,21 @@ use Rattle.dm_expand.specs.Bodies.{Part, whole, parameters_of, parts_behind, par
 use Rattle.dm_expand.specs.Pastes.{Site, Piece, token, pasted, tokens_of}
 use Rattle.dm_expand.specs.Substitution.{Expander, Filled, filled, filled_all, is_operator, placed, finished}
 use Rattle.dm_expand.specs.Expansion.{Macros, expanded, replaced}
-use Rattle.dm_expand.specs.Views.{part_with, piece_value}
+use Rattle.dm_expand.specs.Views.{part_with, piece_value, pieces_in}
 use Rattle.dm_expand.specs.ListViews.{gives, fills, pieces_before, tokens_before, counted_if, invocation_value}
 
 -- PARTS
 
+-- the pieces that a part is filled with at once
+abbrev pub content_value : code_content.Content → List Piece
+content_value (One piece) = piece_value piece ∷ []
+content_value (Tokens tokens) = map token tokens.items
+content_value (Whole parameter occurrence) = []
+
 -- what a part is filled with at once, or that its argument is expanded first
 abbrev pub IsContent : Site → PpToken → Role → Progress → Progress → code_content.Content → Type 0
 IsContent site pp role before after (One piece) = (expander : Expander) → filled expander site (part_with pp role) before ≡ Ok (fills (piece_value piece ∷ []) after)
-IsContent site pp role before after (Pieces pieces) = (expander : Expander) → filled expander site (part_with pp role) before ≡ Ok (fills (map piece_value pieces.items) after)
+IsContent site pp role before after (Tokens tokens) = (expander : Expander) → filled expander site (part_with pp role) before ≡ Ok (fills (map token tokens.items) after)
 IsContent site pp role before after (Whole parameter occurrence) = (part_with pp role ≡ whole pp parameter occurrence) × (after ≡ before)
 
 -- the parts of a replacement list from a token on
@@ -86,7 +92,7 @@ completed macros level site hidden definition given =
 abbrev pub completed_from : Macros → code_level.Level → code_filling.Filling → ℕ → Progress → Result Output Stop
 completed_from macros level filling from progress =
     completed macros level filling.site filling.hidden filling.definition.now
-    (pieces_before (map piece_value filling.pieces.items)
+    (pieces_before (pieces_in filling.pieces)
     (filled_all (expanded macros) filling.site (not (list_any is_hash_hash filling.definition.now.body)) (parts_from filling.definition.now from) progress))
 
 -- the other parts, behind the pieces of an argument
@@ -99,7 +105,7 @@ filled_behind macros site counts parts pieces progress = do
 unfoldable pub taken_up : Macros → code_waiting.Waiting → Result Output Stop → Result Output Stop
 taken_up macros waits argument =
     completed macros waits.level waits.filling.site waits.filling.hidden waits.filling.definition.now
-    (pieces_before (map piece_value waits.filling.pieces.items)
+    (pieces_before (pieces_in waits.filling.pieces)
     (argument >>= λ output. filled_behind macros waits.filling.site (not (list_any is_hash_hash waits.filling.definition.now.body))
     (parts_from waits.filling.definition.now waits.whole.behind) (argument_pieces waits.filling.site waits.whole output.tokens) output.progress))
 

@@ -1,4 +1,4 @@
-ghost use Rattle.std.specs.Prelude.{◌≡◌, ℕ, [], ◌∷◌, ◌++◌, IfOk, map};
+ghost use Rattle.std.specs.Prelude.{◌≡◌, [], ◌∷◌, ◌++◌, IfOk, OnOk, map};
 ghost use Rattle.dm_token.specs.declared.expansion.Mark.TheVariants.{Argument};
 ghost use Rattle.dm_token.specs.declared.token.PpKind.TheVariants.{Literal};
 ghost use Rattle.dm_expand.specs.Items.{first_with_blank};
@@ -7,19 +7,17 @@ ghost use Rattle.dm_expand.specs.Strings.{quoted as string_of};
 ghost use Rattle.dm_expand.specs.Steps.{take_argument};
 ghost use Rattle.dm_expand.specs.Trails.{body_trail};
 ghost use Rattle.dm_expand.specs.Substitution as substitution;
-ghost use Rattle.dm_expand.specs.Views.{piece_value};
+ghost use Rattle.dm_expand.specs.Ways.{way_of, moved};
 ghost use Rattle.std.specs.FinSet as set;
 
-use crate::arguments::next_of;
 use crate::hidden::Hidden;
 use crate::item::{Item, copied};
-use crate::paste::{Piece, Site, make_token};
+use crate::paste::{Site, make_token};
 use crate::progress::Progress;
 use crate::string::quoted;
-use crate::trails::{argument_trail, grown};
-use dm_token::{Mark, Memory, PpKind, PpToken, Trail};
+use crate::trails::{Way, grown};
+use dm_token::{Mark, Memory, PpKind, PpToken};
 use std::alloc::Global;
-use std::collections::VecDeque;
 
 /// The argument for a parameter.
 #[tactic(auto, unfolding(crate::specs::Substitution::argument_for))]
@@ -57,37 +55,34 @@ fn argument_mark(parameter: usize, occurrence: usize) -> Result<Mark, Memory>
     })
 }
 
-// An argument's token that came to one of its parameter's places.
-#[tactic(auto, unfolding(crate::specs::Substitution::argument_item, crate::specs::Trails::argument_trail))]
-fn argument_item(alloc: Global, site: &Site, base: &Trail, item: Item) -> Result<Item, Memory>
-    ensures { IfOk result (λ placed. (parameter occurrence : ℕ) →
-        base.now ≡ body_trail site.now.name.trail site.now.mark ++ Argument parameter occurrence ∷ [] → placed ≡ substitution.argument_item site.now parameter occurrence item) }
+// Leads a token on its argument's way.
+fn move_item(way: &mut Way, item: &mut Item) -> Result<(), Memory>
+    ensures moved { OnOk result (item.new ≡ moved way.old item.old) }
+    ensures same { way.new ≡ way.old }
 {
-    let Item { pp, hidden, trail } = item;
-    let name = &site.name;
-    let trail = argument_trail(alloc, &name.trail, base, &trail)?;
-    Ok(Item { pp, hidden, trail })
+    item.trail = way.lead(&item.trail)?;
+    Ok(())
 }
 
-// The same of all its tokens.
-fn argument_items(
-    alloc: Global,
-    site: &Site,
-    parameter: usize,
-    occurrence: usize,
-    items: Vec<Item>,
-) -> Result<Vec<Item>, Memory>
-    ensures { IfOk result (λ placed. placed.items ≡ map (substitution.argument_item site.now parameter occurrence) items.items) }
+// The same of all of these tokens.
+fn move_items(way: &mut Way, items: &mut [Item]) -> Result<(), Memory>
+    ensures { OnOk result (items.new ≡ map (moved way.old) items.old) }
+{
+    for item in items.iter_mut() {
+        move_item(way, item)?;
+    }
+    Ok(())
+}
+
+// The way of an argument to one of its parameter's places.
+fn way_to(alloc: Global, site: &Site, parameter: usize, occurrence: usize) -> Result<Way, Memory>
+    ensures { IfOk result (λ way. way ≡ way_of site.now.name.trail (body_trail site.now.name.trail site.now.mark ++ Argument parameter occurrence ∷ [])) }
 {
     let mark = argument_mark(parameter, occurrence)?;
     let base = grown(&site.inside, mark)?;
-    let mut placed = Vec::with_capacity(alloc, items.len())?;
-    let mut queue = VecDeque::from(items);
-    'items: while let Some(item) = next_of(&mut queue) {
-        let one = argument_item(alloc, site, &base, item)?;
-        placed.push(one)?;
-    }
-    Ok(placed)
+    let name = &site.name;
+    let way = Way::new(alloc, &name.trail, base)?;
+    Ok(way)
 }
 
 /// Gives the first of these tokens a blank before it, or none.
@@ -100,42 +95,21 @@ pub fn set_first_blank(items: &mut [Item], blank: bool)
     }
 }
 
-/// An argument's tokens in the place of a parameter.
-#[tactic(auto, unfolding(crate::specs::Substitution::placed))]
-pub fn placed(
+/// Puts an argument's tokens in the place of a parameter.
+pub fn place(
     alloc: Global,
     site: &Site,
     token: &PpToken,
     parameter: usize,
     occurrence: usize,
-    items: Vec<Item>,
-) -> Result<Vec<Item>, Memory>
-    ensures { IfOk result (λ placed. placed.items ≡ substitution.placed site.now token.now parameter occurrence items.items) }
+    items: &mut [Item],
+) -> Result<(), Memory>
+    ensures { OnOk result (items.new ≡ substitution.placed site.now token.now parameter occurrence items.old) }
 {
-    let mut placed = argument_items(alloc, site, parameter, occurrence, items)?;
-    set_first_blank(placed.as_mut_slice(), token.blank_before);
-    Ok(placed)
-}
-
-// One piece.
-fn one_piece(alloc: Global, piece: Piece) -> Result<Vec<Piece>, Memory>
-    ensures { IfOk result (λ pieces. map piece_value pieces.items ≡ piece_value piece ∷ []) }
-{
-    let mut pieces = Vec::new(alloc);
-    pieces.push(piece)?;
-    Ok(pieces)
-}
-
-/// Tokens as pieces.
-pub fn token_pieces(alloc: Global, tokens: Vec<Item>) -> Result<Vec<Piece>, Memory>
-    ensures { IfOk result (λ pieces. map piece_value pieces.items ≡ map pastes.token tokens.items) }
-{
-    let mut pieces = Vec::with_capacity(alloc, tokens.len())?;
-    let mut queue = VecDeque::from(tokens);
-    'tokens: while let Some(item) = next_of(&mut queue) {
-        pieces.push(Piece::Token(item))?;
-    }
-    Ok(pieces)
+    let mut way = way_to(alloc, site, parameter, occurrence)?;
+    move_items(&mut way, items)?;
+    set_first_blank(items, token.blank_before);
+    Ok(())
 }
 
 /// What `#` makes of an argument (6.10.3.2).
@@ -162,7 +136,7 @@ pub fn fill_hash(
     Ok(made)
 }
 
-/// A parameter beside `##`: its argument as it is, or a placemarker where that is empty (6.10.3.3p2).
+/// A parameter beside `##`: its argument as it is (6.10.3.3p2).
 pub fn fill_beside(
     alloc: Global,
     site: &Site,
@@ -170,29 +144,20 @@ pub fn fill_beside(
     parameter: usize,
     occurrence: usize,
     progress: &mut Progress,
-) -> Result<Vec<Piece>, Memory>
-    ensures pieces { IfOk result (λ pieces. map piece_value pieces.items
-        ≡ substitution.operands token.now.blank_before (substitution.placed site.now token.now parameter occurrence (substitution.argument_for site.now parameter))) }
+) -> Result<Vec<Item>, Memory>
+    ensures tokens { IfOk result (λ tokens. tokens.items ≡ substitution.placed site.now token.now parameter occurrence (substitution.argument_for site.now parameter)) }
     ensures taken { progress.new ≡ take_argument (substitution.argument_for site.now parameter) progress.old }
 {
     let argument = argument_for(site, parameter);
     progress.take(argument);
-    let copies = copied(alloc, argument)?;
-    let tokens = placed(alloc, site, token, parameter, occurrence, copies)?;
-    let pieces = operands(alloc, token.blank_before, tokens)?;
-    Ok(pieces)
-}
-
-// An operand of `##`, or a placemarker in its place.
-fn operands(alloc: Global, blank: bool, tokens: Vec<Item>) -> Result<Vec<Piece>, Memory>
-    ensures { IfOk result (λ pieces. map piece_value pieces.items ≡ substitution.operands blank tokens.items) }
-{
-    let count = tokens.as_slice().len();
-    if count == 0 {
-        let pieces = one_piece(alloc, Piece::Placemarker(blank))?;
-        Ok(pieces)
-    } else {
-        let pieces = token_pieces(alloc, tokens)?;
-        Ok(pieces)
-    }
+    let mut tokens = copied(alloc, argument)?;
+    place(
+        alloc,
+        site,
+        token,
+        parameter,
+        occurrence,
+        tokens.as_mut_slice(),
+    )?;
+    Ok(tokens)
 }

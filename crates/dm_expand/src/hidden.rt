@@ -67,13 +67,25 @@ impl Hidden {
         is_among(self.numbers(), number)
     }
 
+    // Whether all of these numbers are hidden.
+    fn hides_all(&self, numbers: &[u32]) -> bool
+        ensures { IsTrue result → self.now ≡ set.union self.now (set.from_list numbers.now) }
+    {
+        for number in numbers {
+            if !self.holds(*number) {
+                return false;
+            }
+        }
+        true
+    }
+
     /// The set with one macro more.
     pub fn with(&self, number: u32) -> Result<Hidden, Memory>
         ensures { IfOk result (λ more. more ≡ set.insert self.now number) }
     {
         let mine = self.numbers();
         let mut all = copied(self.alloc, mine)?;
-        add_to(&mut all, number)?;
+        all.push(number)?;
         let more = Hidden::of(self.alloc, all)?;
         Ok(more)
     }
@@ -88,7 +100,7 @@ impl Hidden {
             let longer = other.copy()?;
             return Ok(longer);
         }
-        if is_front(theirs, mine) {
+        if self.hides_all(theirs) {
             let longer = self.copy()?;
             return Ok(longer);
         }
@@ -135,6 +147,69 @@ impl Hidden {
     }
 }
 
+/// A hide set that is added to those of a replacement's tokens. Contracts see the set. Neighbours mostly hide the same, so
+/// the last set that it was added to is kept with what became of it.
+#[derive(Drop)]
+pub struct Hiding {
+    hidden: Hidden,
+    last: Hidden,
+    became: Hidden,
+}
+
+impl Model for Hiding {
+    ghost use Rattle.std.specs.Prelude.{◌≡◌};
+    ghost use Rattle.std.specs.Coded.{coded_ℕ};
+    ghost use Rattle.std.specs.FinSet as set;
+    ghost use Rattle.dm_macro.specs.HideSets.{HiddenNumbers};
+
+    ghost Value = { HiddenNumbers };
+
+    ghost coded = { set.code coded_ℕ };
+
+    ghost view = { λ hiding. hiding.hidden };
+
+    ghost invariant = { λ hiding. hiding.became ≡ set.union hiding.last hiding.hidden };
+}
+
+impl Hiding {
+    pub fn new(alloc: Global, hidden: &Hidden) -> Result<Hiding, Memory>
+        ensures { IfOk result (λ hiding. hiding ≡ hidden.now) }
+    {
+        let mine = hidden.copy()?;
+        let became = hidden.copy()?;
+        Ok(Hiding {
+            hidden: mine,
+            last: Hidden::nothing(alloc),
+            became,
+        })
+    }
+
+    /// What a token hides, and this set.
+    pub fn besides(&mut self, other: &Hidden) -> Result<Hidden, Memory>
+        ensures besides { IfOk result (λ both. both ≡ set.union other.now self.old) }
+        ensures same { self.new ≡ self.old }
+    {
+        if are_same(&self.last, other) {
+            return self.became.copy();
+        }
+        let became = other.union(&self.hidden)?;
+        let last = other.copy()?;
+        let both = became.copy()?;
+        self.last = last;
+        self.became = became;
+        Ok(both)
+    }
+}
+
+// Whether it is sure that two sets are the same.
+fn are_same(left: &Hidden, right: &Hidden) -> bool
+    ensures { IsTrue result → left.now ≡ right.now }
+{
+    let mine = left.numbers();
+    let theirs = right.numbers();
+    mine.len() == theirs.len() && is_front(mine, theirs)
+}
+
 // Numbers, with room for one more.
 fn copied(alloc: Global, numbers: &[u32]) -> Result<Vec<u32>, Memory>
     ensures { IfOk result (λ copy. copy.items ≡ numbers.now) }
@@ -154,11 +229,15 @@ fn add_to(numbers: &mut Vec<u32>, number: u32) -> Result<(), Memory>
     Ok(())
 }
 
-// Whether a number is in a list.
+// Whether a number is in a list. No number ends the look, so several are compared at once.
 fn is_among(numbers: &[u32], number: u32) -> bool
     ensures { result ≡ list_any (λ other. nat_eq other number) numbers.now }
 {
-    numbers.iter().any(|other| *other == number)
+    let mut found = false;
+    for other in numbers {
+        found |= *other == number;
+    }
+    found
 }
 
 // Whether a list begins with another.

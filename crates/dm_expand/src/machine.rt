@@ -1,4 +1,4 @@
-ghost use Rattle.std.specs.Prelude.{◌≡◌, ◌≤◌, ◌<◌, ◌+◌, ◌-◌, suc, not, ◌∷◌, ◌++◌, IfOk, IfErr, OnOk, Ok, length, map};
+ghost use Rattle.std.specs.Prelude.{◌≡◌, ◌≤◌, ◌<◌, ◌+◌, ◌-◌, suc, not, ◌∷◌, ◌++◌, IfOk, IfErr, OnOk, Ok, length};
 ghost use Rattle.std.specs.List.{list_any};
 ghost use Rattle.dm_macro.specs.Signs.{is_hash_hash};
 ghost use Rattle.dm_token.specs.declared.expansion.Mark.TheVariants.{Expansion};
@@ -7,7 +7,7 @@ ghost use Rattle.dm_expand.specs.Steps.{Progress as Progressed};
 ghost use Rattle.dm_expand.specs.Substitution.{filled_all};
 ghost use Rattle.dm_expand.specs.Expansion as expansion;
 ghost use Rattle.dm_expand.specs.Expansion.{Macros as LookedUp, expanded};
-ghost use Rattle.dm_expand.specs.Views.{StopsAs, IsWithin, piece_value};
+ghost use Rattle.dm_expand.specs.Views.{StopsAs, IsWithin, pieces_in};
 ghost use Rattle.dm_expand.specs.HeadViews.{macros_of, site_with};
 ghost use Rattle.dm_expand.specs.ListViews.{gives, fills, pieces_before, tokens_before};
 ghost use Rattle.dm_expand.specs.Works.{outward, load, completed, completed_from, whole_and_others, taken_up, scanned_on, invoked_on, passed_on, found_on, IsEnd};
@@ -17,9 +17,10 @@ use crate::fill::argument_for;
 use crate::head::{Head, Invocation, Macros, head_of};
 use crate::hidden::Hidden;
 use crate::item::{Item, copied};
-use crate::paste::{Piece, Site};
+use crate::paste::{Pieces, Site};
 use crate::progress::Progress;
-use crate::substitute::{Whole, append, complete, fill_from, fill_whole, has_paste};
+use crate::sign::is_identifier;
+use crate::substitute::{Whole, complete, fill_from, fill_whole, has_paste};
 use crate::trails::grown;
 use dm_token::{Definition, List, Mark, Memory, Place, Refusal, Stop};
 use std::alloc::Global;
@@ -40,7 +41,7 @@ pub struct Filling<'a> {
     pub site: Site,
     pub hidden: Hidden,
     pub definition: &'a Definition,
-    pub pieces: Vec<Piece>,
+    pub pieces: Pieces,
 }
 
 /// A replacement that waits for the expansion of an argument, with the list that it goes into.
@@ -106,15 +107,15 @@ fn enter<'a>(
     waiting: &mut Vec<Waiting<'a>>,
 ) -> Result<(), Memory>
     ensures ok { OnOk result ((macros : LookedUp) (progress : Progressed) →
-        outward macros waiting.old.items (completed macros level.old filling.entry.site filling.entry.hidden filling.entry.definition.now (pieces_before (map piece_value filling.entry.pieces.items)
+        outward macros waiting.old.items (completed macros level.old filling.entry.site filling.entry.hidden filling.entry.definition.now (pieces_before (pieces_in filling.entry.pieces)
         (filled_all (expanded macros) filling.entry.site (not (list_any is_hash_hash filling.entry.definition.now.body)) (whole_and_others filling.entry.definition.now whole.entry) progress)))
         ≡ outward macros waiting.new.items (scanned_on macros level.new progress)) }
     ensures load { OnOk result (load waiting.new.items ≡ load waiting.old.items + suc (length filling.entry.definition.now.body - whole.entry.behind)) }
 {
     let argument = copied(alloc, argument_for(&filling.site, whole.parameter))?;
     let inner = Level {
+        out: Vec::with_capacity(alloc, argument.len())?,
         rest: VecDeque::from(argument),
-        out: Vec::new(alloc),
     };
     let outer = mem::replace(level, inner);
     waiting.push(Waiting {
@@ -134,11 +135,11 @@ fn leave(
 ) -> Result<(), Stop>
     requires { IsWithin progress.old }
     ensures ok { OnOk result ((macros : LookedUp) →
-        completed macros level.old filling.entry.site filling.entry.hidden filling.entry.definition.now (Ok (fills (map piece_value filling.entry.pieces.items) progress.old))
+        completed macros level.old filling.entry.site filling.entry.hidden filling.entry.definition.now (Ok (fills (pieces_in filling.entry.pieces) progress.old))
         ≡ scanned_on macros level.new progress.new) }
     ensures follows { OnOk result (Follows progress.old progress.new) }
     ensures stop { IfErr result (λ stop. (macros : LookedUp) →
-        StopsAs (completed macros level.old filling.entry.site filling.entry.hidden filling.entry.definition.now (Ok (fills (map piece_value filling.entry.pieces.items) progress.old))) stop) }
+        StopsAs (completed macros level.old filling.entry.site filling.entry.hidden filling.entry.definition.now (Ok (fills (pieces_in filling.entry.pieces) progress.old))) stop) }
 {
     let Filling {
         site,
@@ -167,29 +168,18 @@ fn go_on<'a>(
     ensures load { OnOk result (load waiting.new.items ≤ load waiting.old.items + (length filling.entry.definition.now.body - from)) }
     ensures stop { IfErr result (λ stop. (macros : LookedUp) → StopsAs (completed_from macros level.old filling.entry from progress.old) stop) }
 {
-    let Filling {
-        site,
-        hidden,
-        definition,
-        pieces,
-    } = filling;
-    let mut pieces = pieces;
-    let counts = !has_paste(definition);
+    let mut filling = filling;
+    let mine = &mut filling;
+    let counts = !has_paste(mine.definition);
     let left = fill_from(
         alloc,
-        &site,
-        definition,
+        &mine.site,
+        mine.definition,
         from,
         counts,
         progress,
-        &mut pieces,
+        &mut mine.pieces,
     )?;
-    let filling = Filling {
-        site,
-        hidden,
-        definition,
-        pieces,
-    };
     match left {
         Some(whole) => {
             enter(alloc, filling, whole, level, waiting)?;
@@ -226,7 +216,7 @@ fn take_up<'a>(
     let Level { rest: _, out } = mem::replace(level, outer);
     let counts = !has_paste(filling.definition);
     let more = fill_whole(alloc, &filling.site, whole, out, counts, progress)?;
-    append(&mut filling.pieces, more)?;
+    filling.pieces.append(more)?;
     go_on(alloc, filling, whole.behind, level, waiting, progress)?;
     Ok(())
 }
@@ -245,6 +235,10 @@ fn scan_next<'a>(
     ensures stop { IfErr result (λ stop.
         StopsAs (tokens_before level.old.out.items (expanded (macros_of macros.now) (item ∷ level.old.rest.items) progress.now)) stop) }
 {
+    if !is_identifier(&item.pp) {
+        level.out.push(item)?;
+        return Ok(None);
+    }
     let place = item.pp.place;
     match head_of(macros, progress, item, &mut level.rest)? {
         Head::Put(item) => {
@@ -332,7 +326,7 @@ fn replace<'a>(
         site,
         hidden,
         definition: found.definition,
-        pieces: Vec::new(alloc),
+        pieces: Pieces::new(alloc),
     };
     go_on(alloc, filling, 0, level, waiting, progress)?;
     Ok(())

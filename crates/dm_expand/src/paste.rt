@@ -1,6 +1,6 @@
 ghost use Rattle.std.specs.Prelude.{◌≡◌, ◌≤◌, [], ◌∷◌, ◌++◌, IfOk, IfErr, OnOk, Ok, map, length};
 ghost use Rattle.dm_expand.specs.Pastes as pastes;
-ghost use Rattle.dm_expand.specs.Views.{StopsAs, piece_value, tokens_left, tokens_behind, all_before};
+ghost use Rattle.dm_expand.specs.Views.{StopsAs, piece_value, pieces_in, tokens_left, tokens_behind, all_before};
 
 use crate::arguments::next_of;
 use crate::hidden::Hidden;
@@ -10,6 +10,7 @@ use dm_token::{List, Mark, Memory, PpKind, PpToken, Refusal, Stop, Text, Trail};
 use std::alloc::Global;
 use std::collections::VecDeque;
 use std::marker::Model;
+use std::mem;
 
 /// One expansion: the macro's name, the mark that its tokens get, and the arguments. Contracts see the three.
 #[derive(Drop)]
@@ -45,6 +46,69 @@ pub enum Piece {
     Token(Item),
     Placemarker(bool),
     Operator(Item),
+}
+
+/// Pieces of a replacement list: those up to the last one that isn't a token, and the tokens behind it. Where `##` isn't
+/// in the list, they are all tokens.
+#[derive(Drop)]
+pub struct Pieces {
+    pub front: Vec<Piece>,
+    pub tokens: Vec<Item>,
+}
+
+impl Pieces {
+    pub fn new(alloc: Global) -> Pieces
+        ensures { pieces_in result ≡ [] }
+    {
+        Pieces {
+            front: Vec::new(alloc),
+            tokens: Vec::new(alloc),
+        }
+    }
+
+    /// Adds a piece.
+    pub fn push(&mut self, piece: Piece) -> Result<(), Memory>
+        ensures { OnOk result (pieces_in self.new ≡ pieces_in self.old ++ piece_value piece ∷ []) }
+    {
+        match piece {
+            Piece::Token(item) => {
+                self.tokens.push(item)?;
+                Ok(())
+            }
+            Piece::Placemarker(blank) => self.push_behind(Piece::Placemarker(blank)),
+            Piece::Operator(item) => self.push_behind(Piece::Operator(item)),
+        }
+    }
+
+    /// Adds tokens.
+    pub fn append(&mut self, items: Vec<Item>) -> Result<(), Memory>
+        ensures { OnOk result (pieces_in self.new ≡ pieces_in self.old ++ map pastes.token items.items) }
+    {
+        let mut items = items;
+        self.tokens.append(&mut items)?;
+        Ok(())
+    }
+
+    // Adds a piece behind the tokens.
+    fn push_behind(&mut self, piece: Piece) -> Result<(), Memory>
+        ensures { OnOk result (pieces_in self.new ≡ pieces_in self.old ++ piece_value piece ∷ []) }
+    {
+        let tokens = mem::replace(&mut self.tokens, Vec::new(*self.front.allocator()));
+        add_tokens(tokens, &mut self.front)?;
+        self.front.push(piece)?;
+        Ok(())
+    }
+}
+
+// Adds tokens to pieces.
+fn add_tokens(tokens: Vec<Item>, to: &mut Vec<Piece>) -> Result<(), Memory>
+    ensures { OnOk result (map piece_value to.new.items ≡ map piece_value to.old.items ++ map pastes.token tokens.items) }
+{
+    let mut queue = VecDeque::from(tokens);
+    'tokens: while let Some(item) = next_of(&mut queue) {
+        to.push(Piece::Token(item))?;
+    }
+    Ok(())
 }
 
 /// A token that `#` or `##` makes: it has the place of the name whose expansion makes it.
@@ -231,8 +295,8 @@ fn advance(
     }
 }
 
-/// Does each `##`, from the left, and gives the tokens that are left when placemarkers are gone (6.10.3.3).
-pub fn paste(alloc: Global, site: &Site, pieces: Vec<Piece>) -> Result<Vec<Item>, Stop>
+// Does each `##`, from the left, and gives the tokens that are left when placemarkers are gone (6.10.3.3).
+fn paste_all(alloc: Global, site: &Site, pieces: Vec<Piece>) -> Result<Vec<Item>, Stop>
     ensures ok { IfOk result (λ items. tokens_left site.now (map piece_value pieces.items) ≡ Ok items.items) }
     ensures stop { IfErr result (λ stop. StopsAs (tokens_left site.now (map piece_value pieces.items)) stop) }
 {
@@ -246,5 +310,21 @@ pub fn paste(alloc: Global, site: &Site, pieces: Vec<Piece>) -> Result<Vec<Item>
         left = advance(alloc, site, left, next, &mut queue, &mut done)?;
     }
     put(left, &mut done)?;
+    Ok(done)
+}
+
+/// The same, which is nothing to do where all are tokens.
+pub fn paste(alloc: Global, site: &Site, pieces: Pieces) -> Result<Vec<Item>, Stop>
+    ensures ok { IfOk result (λ items. tokens_left site.now (pieces_in pieces) ≡ Ok items.items) }
+    ensures stop { IfErr result (λ stop. StopsAs (tokens_left site.now (pieces_in pieces)) stop) }
+{
+    let Pieces { front, tokens } = pieces;
+    let count = front.as_slice().len();
+    if count == 0 {
+        return Ok(tokens);
+    }
+    let mut all = front;
+    add_tokens(tokens, &mut all)?;
+    let done = paste_all(alloc, site, all)?;
     Ok(done)
 }

@@ -1,4 +1,4 @@
-ghost use Rattle.std.specs.Prelude.{◌≡◌, IfOk};
+ghost use Rattle.std.specs.Prelude.{◌≡◌, false, IfOk};
 ghost use Rattle.std.specs.Fmt.{decimal};
 ghost use Rattle.dm_expand.specs.Predefined as predefined;
 
@@ -6,7 +6,7 @@ use crate::item::Item;
 use crate::progress::Progress;
 use crate::sign::is_word;
 use crate::trails::first_mark;
-use dm_token::{Mark, Memory, Place, PpKind, Text};
+use dm_token::{Mark, Memory, Place, PpKind, PpToken, Text};
 use std::alloc::Global;
 
 // The place of a token's root (6.10.8.1p1): the token itself, or the name of the first expansion that it came through.
@@ -58,6 +58,16 @@ fn line_number(alloc: Global, line: u32) -> Result<Text, Memory>
     Text::from_bytes(alloc, digits.as_bytes())
 }
 
+// Whether a token may be a predefined name: each begins with `_`.
+fn may_be_predefined(token: &PpToken) -> bool
+    ensures { result ≡ false → predefined.is_predefined token.now ≡ false }
+{
+    match token.spelling.bytes() {
+        [] => false,
+        [first, ..] => *first == b'_',
+    }
+}
+
 /// Replaces a predefined name (6.10.8); any other token stays.
 #[tactic(auto, unfolding(crate::specs::Predefined::predefined))]
 pub fn replaced(
@@ -68,6 +78,9 @@ pub fn replaced(
 ) -> Result<Item, Memory>
     ensures { IfOk result (λ out. out ≡ predefined.predefined names.now (predefined.root_of progress.now.expansions item.trail item.pp.place) item) }
 {
+    if !may_be_predefined(&item.pp) {
+        return Ok(item);
+    }
     if is_word(&item.pp, b"__LINE__") {
         let spelling = line_number(alloc, root_of(progress, &item).line)?;
         return Ok(in_place_of(item, PpKind::Number, spelling));

@@ -1,33 +1,43 @@
-ghost use Rattle.std.specs.Prelude.{◌≡◌, ◌<◌, ◌+◌, ◌++◌, IfOk, IfErr, OnOk, Ok, map, length};
+ghost use Rattle.std.specs.Prelude.{◌≡◌, ◌<◌, ◌+◌, IfOk, IfErr, OnOk, Ok, map, length};
 ghost use Rattle.std.specs.List.{list_any};
 ghost use Rattle.dm_macro.specs.Signs as sign;
 ghost use Rattle.dm_expand.specs.Bodies as bodies;
 ghost use Rattle.dm_expand.specs.Laws.{Follows};
 ghost use Rattle.dm_expand.specs.Substitution as substitution;
 ghost use Rattle.dm_expand.specs.Substitution.{Expander};
-ghost use Rattle.dm_expand.specs.Views.{StopsAs, IsWithin, piece_value};
+ghost use Rattle.dm_expand.specs.Pastes as pastes;
+ghost use Rattle.dm_expand.specs.Views.{StopsAs, IsWithin, pieces_in};
 ghost use Rattle.dm_expand.specs.ListViews.{gives, fills, pieces_before, counted_if};
-ghost use Rattle.dm_expand.specs.Works.{IsContent, parts_from, parts_left, parts_waiting, IsBefore, IsFrom, argument_pieces, put_together};
+ghost use Rattle.dm_expand.specs.Works.{IsContent, content_value, parts_from, parts_left, parts_waiting, IsBefore, IsFrom, argument_pieces, put_together};
 
-use crate::arguments::next_of;
 use crate::body::{Role, role_at, token_at};
-use crate::fill::{body_item, fill_beside, fill_hash, placed, set_first_blank, token_pieces};
-use crate::hidden::Hidden;
+use crate::fill::{body_item, fill_beside, fill_hash, place, set_first_blank};
+use crate::hidden::{Hidden, Hiding};
 use crate::item::Item;
-use crate::paste::{Piece, Site, paste};
+use crate::paste::{Piece, Pieces, Site, paste};
 use crate::progress::Progress;
 use crate::sign::is_hash_hash;
 use dm_token::{Definition, Memory, Place, PpToken, Stop};
 use std::alloc::Global;
-use std::collections::VecDeque;
 
 /// What a part of a replacement list is filled with at once, or that its argument is to be completely expanded first
 /// (6.10.3.1p1), with the parameter and which of its places this is.
 #[derive(Drop)]
 enum Content {
     One(Piece),
-    Pieces(Vec<Piece>),
+    Tokens(Vec<Item>),
     Whole(usize, usize),
+}
+
+// The operand of `##` that an argument is: a placemarker in the place of none of its tokens (6.10.3.3p2).
+fn operand(blank: bool, tokens: Vec<Item>) -> Content
+    ensures { content_value result ≡ substitution.operands blank tokens.items }
+{
+    let count = tokens.as_slice().len();
+    if count == 0 {
+        return Content::One(Piece::Placemarker(blank));
+    }
+    Content::Tokens(tokens)
 }
 
 // What one part of the replacement list becomes.
@@ -56,8 +66,8 @@ fn fill(
             Ok(Content::One(Piece::Token(made)))
         }
         Role::Beside(parameter, occurrence) => {
-            let pieces = fill_beside(alloc, site, token, parameter, occurrence, progress)?;
-            Ok(Content::Pieces(pieces))
+            let tokens = fill_beside(alloc, site, token, parameter, occurrence, progress)?;
+            Ok(operand(token.blank_before, tokens))
         }
         Role::Whole(parameter, occurrence) => Ok(Content::Whole(parameter, occurrence)),
     }
@@ -88,28 +98,12 @@ pub fn has_paste(definition: &Definition) -> bool
     false
 }
 
-/// Adds pieces at the end of others.
-pub fn append(pieces: &mut Vec<Piece>, more: Vec<Piece>) -> Result<(), Memory>
-    ensures { OnOk result (pieces.new.items ≡ pieces.old.items ++ more.items) }
-{
-    let mut more = more;
-    pieces.append(&mut more)?;
-    Ok(())
-}
-
 // The place of the name whose expansion this is.
 fn place_of(site: &Site) -> Place
     ensures { result ≡ site.now.name.pp.place }
 {
     let name = &site.name;
     name.pp.place
-}
-
-// How many pieces there are.
-fn piece_count(pieces: &[Piece]) -> usize
-    ensures { result ≡ length (map piece_value pieces.now) }
-{
-    pieces.len()
 }
 
 // How many tokens there are.
@@ -137,17 +131,17 @@ fn fill_at<'a>(
     index: usize,
     counts: bool,
     progress: &mut Progress,
-    pieces: &mut Vec<Piece>,
+    pieces: &mut Pieces,
 ) -> Result<Option<Whole<'a>>, Stop>
     requires within { IsWithin progress.old }
     requires inside { index < length definition.now.body }
     ensures ok { IfOk result (λ whole. (expander : Expander) →
-        pieces_before (map piece_value pieces.old.items) (substitution.filled_all expander site.now counts (parts_from definition.now index) progress.old)
-        ≡ pieces_before (map piece_value pieces.new.items) (substitution.filled_all expander site.now counts (parts_left definition.now (index + 1) whole) progress.new)) }
+        pieces_before (pieces_in pieces.old) (substitution.filled_all expander site.now counts (parts_from definition.now index) progress.old)
+        ≡ pieces_before (pieces_in pieces.new) (substitution.filled_all expander site.now counts (parts_left definition.now (index + 1) whole) progress.new)) }
     ensures follows { OnOk result (Follows progress.old progress.new) }
     ensures at { IfOk result (IsBefore index) }
     ensures stop { IfErr result (λ stop. (expander : Expander) →
-        StopsAs (pieces_before (map piece_value pieces.old.items) (substitution.filled_all expander site.now counts (parts_from definition.now index) progress.old)) stop) }
+        StopsAs (pieces_before (pieces_in pieces.old) (substitution.filled_all expander site.now counts (parts_from definition.now index) progress.old)) stop) }
 {
     let token = token_at(definition, index);
     let Some(role) = role_at(definition, index, token) else {
@@ -165,14 +159,14 @@ fn fill_at<'a>(
             pieces.push(piece)?;
             Ok(None)
         }
-        Content::Pieces(more) => {
+        Content::Tokens(more) => {
             count_if(
                 progress,
                 counts,
                 place_of(site),
-                piece_count(more.as_slice()),
+                token_count(more.as_slice()),
             )?;
-            append(pieces, more)?;
+            pieces.append(more)?;
             Ok(None)
         }
     }
@@ -186,16 +180,16 @@ pub fn fill_from<'a>(
     from: usize,
     counts: bool,
     progress: &mut Progress,
-    pieces: &mut Vec<Piece>,
+    pieces: &mut Pieces,
 ) -> Result<Option<Whole<'a>>, Stop>
     requires { IsWithin progress.old }
     ensures ok { IfOk result (λ whole. (expander : Expander) →
-        pieces_before (map piece_value pieces.old.items) (substitution.filled_all expander site.now counts (parts_from definition.now from) progress.old)
-        ≡ pieces_before (map piece_value pieces.new.items) (substitution.filled_all expander site.now counts (parts_waiting definition.now whole) progress.new)) }
+        pieces_before (pieces_in pieces.old) (substitution.filled_all expander site.now counts (parts_from definition.now from) progress.old)
+        ≡ pieces_before (pieces_in pieces.new) (substitution.filled_all expander site.now counts (parts_waiting definition.now whole) progress.new)) }
     ensures follows { OnOk result (Follows progress.old progress.new) }
     ensures inside { IfOk result (IsFrom from (length definition.now.body)) }
     ensures stop { IfErr result (λ stop. (expander : Expander) →
-        StopsAs (pieces_before (map piece_value pieces.old.items) (substitution.filled_all expander site.now counts (parts_from definition.now from) progress.old)) stop) }
+        StopsAs (pieces_before (pieces_in pieces.old) (substitution.filled_all expander site.now counts (parts_from definition.now from) progress.old)) stop) }
 {
     'parts: for index in from..definition.body.len() {
         let whole = fill_at(alloc, site, definition, index, counts, progress, pieces)?;
@@ -206,27 +200,34 @@ pub fn fill_from<'a>(
     Ok(None)
 }
 
-// Adds a hide set to each of these tokens.
-fn hidden_besides(alloc: Global, hidden: &Hidden, tokens: Vec<Item>) -> Result<Vec<Item>, Memory>
-    ensures { IfOk result (λ hiding. hiding.items ≡ map (substitution.hidden_besides hidden.now) tokens.items) }
+// Adds a hide set to that of a token.
+#[tactic(auto, unfolding(crate::specs::Substitution::hidden_besides))]
+fn hide(hiding: &mut Hiding, item: &mut Item) -> Result<(), Memory>
+    ensures hidden { OnOk result (item.new ≡ substitution.hidden_besides hiding.old item.old) }
+    ensures same { hiding.new ≡ hiding.old }
 {
-    let mut hiding = Vec::with_capacity(alloc, tokens.len())?;
-    let mut queue = VecDeque::from(tokens);
-    'tokens: while let Some(item) = next_of(&mut queue) {
-        let one = hide(item, hidden)?;
-        hiding.push(one)?;
-    }
-    Ok(hiding)
+    item.hidden = hiding.besides(&item.hidden)?;
+    Ok(())
 }
 
-// A token that more names are hidden for.
-#[tactic(auto, unfolding(crate::specs::Substitution::hidden_besides))]
-fn hide(item: Item, hidden: &Hidden) -> Result<Item, Memory>
-    ensures { IfOk result (λ hiding. hiding ≡ substitution.hidden_besides hidden.now item) }
+// The same for each of these tokens.
+fn hide_all(hiding: &mut Hiding, items: &mut [Item]) -> Result<(), Memory>
+    ensures { OnOk result (items.new ≡ map (substitution.hidden_besides hiding.old) items.old) }
 {
-    let mut item = item;
-    item.hidden = item.hidden.union(hidden)?;
-    Ok(item)
+    for item in items.iter_mut() {
+        hide(hiding, item)?;
+    }
+    Ok(())
+}
+
+// Adds a hide set to each of these tokens.
+fn hidden_besides(alloc: Global, hidden: &Hidden, tokens: Vec<Item>) -> Result<Vec<Item>, Memory>
+    ensures { IfOk result (λ done. done.items ≡ map (substitution.hidden_besides hidden.now) tokens.items) }
+{
+    let mut done = tokens;
+    let mut hiding = Hiding::new(alloc, hidden)?;
+    hide_all(&mut hiding, done.as_mut_slice())?;
+    Ok(done)
 }
 
 // The tokens of a replacement, as they are scanned again.
@@ -251,15 +252,15 @@ pub fn complete(
     site: &Site,
     hidden: &Hidden,
     definition: &Definition,
-    pieces: Vec<Piece>,
+    pieces: Pieces,
     progress: &mut Progress,
 ) -> Result<Vec<Item>, Stop>
     requires { IsWithin progress.old }
     ensures ok { IfOk result (λ tokens.
-        put_together site.now hidden.now (bodies.parts_of definition.now) (fills (map piece_value pieces.items) progress.old) ≡ Ok (gives tokens.items progress.new)) }
+        put_together site.now hidden.now (bodies.parts_of definition.now) (fills (pieces_in pieces) progress.old) ≡ Ok (gives tokens.items progress.new)) }
     ensures follows { OnOk result (Follows progress.old progress.new) }
     ensures stop { IfErr result (λ stop.
-        StopsAs (put_together site.now hidden.now (bodies.parts_of definition.now) (fills (map piece_value pieces.items) progress.old)) stop) }
+        StopsAs (put_together site.now hidden.now (bodies.parts_of definition.now) (fills (pieces_in pieces) progress.old)) stop) }
 {
     let tokens = paste(alloc, site, pieces)?;
     count_if(
@@ -272,7 +273,7 @@ pub fn complete(
     Ok(done)
 }
 
-/// The pieces of a parameter whose argument expands to these tokens, which count as work unless `##` is still to come.
+/// The tokens of a parameter whose argument expands to these, which count as work unless `##` is still to come.
 pub fn fill_whole(
     alloc: Global,
     site: &Site,
@@ -280,29 +281,29 @@ pub fn fill_whole(
     tokens: Vec<Item>,
     counts: bool,
     progress: &mut Progress,
-) -> Result<Vec<Piece>, Stop>
+) -> Result<Vec<Item>, Stop>
     requires { IsWithin progress.old }
-    ensures ok { IfOk result (λ pieces.
-        (map piece_value pieces.items ≡ argument_pieces site.now whole.entry tokens.items)
+    ensures ok { IfOk result (λ placed.
+        (map pastes.token placed.items ≡ argument_pieces site.now whole.entry tokens.items)
         × (counted_if counts site.now.name.pp.place (length (argument_pieces site.now whole.entry tokens.items)) progress.old ≡ Ok progress.new)) }
     ensures follows { OnOk result (Follows progress.old progress.new) }
     ensures stop { IfErr result (λ stop.
         StopsAs (counted_if counts site.now.name.pp.place (length (argument_pieces site.now whole.entry tokens.items)) progress.old) stop) }
 {
-    let placed = placed(
+    let mut placed = tokens;
+    place(
         alloc,
         site,
         whole.token,
         whole.parameter,
         whole.occurrence,
-        tokens,
+        placed.as_mut_slice(),
     )?;
-    let pieces = token_pieces(alloc, placed)?;
     count_if(
         progress,
         counts,
         place_of(site),
-        piece_count(pieces.as_slice()),
+        token_count(placed.as_slice()),
     )?;
-    Ok(pieces)
+    Ok(placed)
 }

@@ -1,15 +1,15 @@
-use Rattle.std.proofs.Common.{◌≡◌, ◌<◌, ℕ, not, List, Result, ap, ◌∙◌, sym, map, arith}
+use Rattle.std.proofs.Common.{◌≡◌, ◌<◌, ℕ, not, List, Result, ap, ◌∙◌, sym, arith}
 use Rattle.std.specs.List.{list_any}
 use Rattle.dm_token.specs.declared.stop.Stop.{Stop}
 use Rattle.dm_token.specs.declared.expansion.Mark.TheVariants.{Expansion}
 use Rattle.dm_macro.specs.Signs.{is_hash_hash}
-use Rattle.dm_expand.specs.declared.paste.Piece as code_piece
 use Rattle.dm_expand.specs.Steps.{Progress, Output, begin}
 use Rattle.dm_expand.specs.Laws.{Follows}
+use Rattle.dm_expand.specs.Pastes.{Piece}
 use Rattle.dm_expand.specs.Substitution.{filled_all}
 use Rattle.dm_expand.specs.Expansion.{Macros, Invocation, expanded, site_of}
 use Rattle.dm_expand.specs.HeadViews.{site_with}
-use Rattle.dm_expand.specs.Views.{piece_value}
+use Rattle.dm_expand.specs.Views.{pieces_in}
 use Rattle.dm_expand.specs.ListViews.{invocation_value, pieces_before}
 use Rattle.dm_expand.specs.Works.{parts_from, completed, invoked_on, outward}
 use Rattle.dm_expand.proofs.ProgressLemmas.{begin-follows, follows_on}
@@ -41,10 +41,10 @@ returns-in_err-go_on-clause-stop c =
     let invocation : Invocation = invocation_value c.args.invocation c.args.level.now.rest.items in
     let site : c.in_ok-site.site ≡ site_of invocation progress.instance =
     c.in_ok-site.ensures ∙ ap (λ (n : ℕ). site_with invocation.name (Expansion invocation.macro.number n) invocation.arguments) c.next_instance-instance.ensures in
-    let starts : Macros → List code_piece.Piece → Result Output Stop = λ macros xs. completed macros c.args.level.now c.in_ok-site.site c.args.invocation.hidden definition (pieces_before (map piece_value xs)
+    let starts : Macros → List Piece → Result Output Stop = λ macros xs. completed macros c.args.level.now c.in_ok-site.site c.args.invocation.hidden definition (pieces_before xs
     (filled_all (expanded macros) c.in_ok-site.site (not (list_any is_hash_hash definition.body)) (parts_from definition 0) now)) in
-    stops_handed_each c.from_residual-in_err-go_on.result c.in_err-go_on.field-0.0 (λ macros. starts macros c.new.result.items) (λ macros. invoked_on macros c.args.level.now c.args.invocation progress) c.from_residual-in_err-go_on.ensures.1
-    (λ macros other is. replace-is macros c.args.level.now c.args.invocation c.in_ok-site.site progress now site c.in_ok-begin.ensures.ok ∙ ap (starts macros) (sym c.new.ensures.items) ∙ is)
+    stops_handed_each c.from_residual-in_err-go_on.result c.in_err-go_on.field-0.0 (λ macros. starts macros (pieces_in c.new.result)) (λ macros. invoked_on macros c.args.level.now c.args.invocation progress) c.from_residual-in_err-go_on.ensures.1
+    (λ macros other is. replace-is macros c.args.level.now c.args.invocation c.in_ok-site.site progress now site c.in_ok-begin.ensures.ok ∙ ap (starts macros) (sym c.new.ensures) ∙ is)
     c.in_err-go_on.ensures.stop
 
 pub returns-clause-ok : goal.returns-clause-ok
@@ -56,10 +56,10 @@ returns-clause-ok c = λ macros.
     let invocation : Invocation = invocation_value c.args.invocation c.args.level.now.rest.items in
     let site : c.in_ok-site.site ≡ site_of invocation progress.instance =
     c.in_ok-site.ensures ∙ ap (λ (n : ℕ). site_with invocation.name (Expansion invocation.macro.number n) invocation.arguments) c.next_instance-instance.ensures in
-    let starts : List code_piece.Piece → Result Output Stop = λ xs. completed macros c.args.level.now c.in_ok-site.site c.args.invocation.hidden definition (pieces_before (map piece_value xs)
+    let starts : List Piece → Result Output Stop = λ xs. completed macros c.args.level.now c.in_ok-site.site c.args.invocation.hidden definition (pieces_before xs
     (filled_all (expanded macros) c.in_ok-site.site (not (list_any is_hash_hash definition.body)) (parts_from definition 0) now)) in
     ap (outward macros c.args.waiting.now.items)
-    (replace-is macros c.args.level.now c.args.invocation c.in_ok-site.site progress now site c.in_ok-begin.ensures.ok ∙ ap starts (sym c.new.ensures.items))
+    (replace-is macros c.args.level.now c.args.invocation c.in_ok-site.site progress now site c.in_ok-begin.ensures.ok ∙ ap starts (sym c.new.ensures))
     ∙ c.in_ok-go_on.ensures.ok macros
 
 pub returns-clause-follows : goal.returns-clause-follows

@@ -1,6 +1,5 @@
 use Rattle.std.proofs.Common.{◌≡◌, Bool, not, List, Result, Ok, ap, ◌∙◌, sym, map, length}
 use Rattle.std.specs.List.{list_any}
-use Rattle.std.proofs.lemmas.List.{map-append}
 use Rattle.dm_token.specs.declared.stop.Stop.{Stop}
 use Rattle.dm_macro.specs.Signs.{is_hash_hash}
 use Rattle.dm_expand.specs.declared.machine.Level as code_level
@@ -10,7 +9,7 @@ use Rattle.dm_expand.specs.Steps.{Progress, Output}
 use Rattle.dm_expand.specs.Pastes as pastes
 use Rattle.dm_expand.specs.Substitution.{filled_all}
 use Rattle.dm_expand.specs.Expansion.{Macros, expanded}
-use Rattle.dm_expand.specs.Views.{piece_value}
+use Rattle.dm_expand.specs.Views.{pieces_in}
 use Rattle.dm_expand.specs.ListViews.{gives, pieces_before, counted_if}
 use Rattle.dm_expand.specs.Works.{parts_from, argument_pieces, completed, taken_up, outward}
 use Rattle.dm_expand.proofs.StepLemmas.{stops_handed_each}
@@ -38,14 +37,14 @@ returns-in_err-go_on-clause-stop c =
     let put : List Item = c.args.level.now.out.items in
     let counted : Bool → List Item → Result Progress Stop = λ pastes xs. counted_if (not pastes) filling.site.name.pp.place (length (argument_pieces filling.site c.args.waits.whole xs)) progress in
     let same : c.replace-out.result.out.items ≡ put = ap (λ (level : code_level.Level). level.out.items) c.replace-out.ensures.value in
-    let more : List pastes.Piece = map piece_value c.in_ok-more.more.items in
-    let starts : Macros → code_level.Level → Result Output Stop = λ macros level. completed macros level filling.site filling.hidden definition (pieces_before (map piece_value c.append.new.pieces.items)
+    let more : List pastes.Piece = map pastes.token c.in_ok-more.more.items in
+    let starts : Macros → code_level.Level → Result Output Stop = λ macros level. completed macros level filling.site filling.hidden definition (pieces_before (pieces_in c.append.new.self)
     (filled_all (expanded macros) filling.site (not (list_any is_hash_hash definition.body)) (parts_from definition c.args.waits.whole.behind) now)) in
     let becomes : (macros : Macros) → taken_up macros c.args.waits (Ok (gives put progress)) ≡ starts macros c.replace-out.new.dest = λ macros.
-    take_up-is macros c.args.waits (gives put progress) more (map piece_value c.append.new.pieces.items) now
+    take_up-is macros c.args.waits (gives put progress) more (pieces_in c.append.new.self) now
     (c.in_ok-more.ensures.ok.0 ∙ ap (argument_pieces filling.site c.args.waits.whole) same)
     (ap (counted (list_any is_hash_hash definition.body)) (sym same) ∙ ap (λ (b : Bool). counted b c.replace-out.result.out.items) (sym c.has_paste-counts.ensures) ∙ c.in_ok-more.ensures.ok.1)
-    (ap (map piece_value) c.in_ok-append.ensures ∙ map-append piece_value filling.pieces.items c.in_ok-more.more.items)
+    c.in_ok-append.ensures
     ∙ ap (starts macros) (sym c.replace-out.ensures.after) in
     stops_handed_each c.from_residual-in_err-go_on.result c.in_err-go_on.field-0.0 (λ macros. starts macros c.replace-out.new.dest) (λ macros. taken_up macros c.args.waits (Ok (gives put progress))) c.from_residual-in_err-go_on.ensures.1
     (λ macros other is. becomes macros ∙ is)
@@ -60,13 +59,13 @@ returns-clause-ok c = λ macros.
     let put : List Item = c.args.level.now.out.items in
     let counted : Bool → List Item → Result Progress Stop = λ pastes xs. counted_if (not pastes) filling.site.name.pp.place (length (argument_pieces filling.site c.args.waits.whole xs)) progress in
     let same : c.replace-out.result.out.items ≡ put = ap (λ (level : code_level.Level). level.out.items) c.replace-out.ensures.value in
-    let more : List pastes.Piece = map piece_value c.in_ok-more.more.items in
-    let starts : Macros → code_level.Level → Result Output Stop = λ macros level. completed macros level filling.site filling.hidden definition (pieces_before (map piece_value c.append.new.pieces.items)
+    let more : List pastes.Piece = map pastes.token c.in_ok-more.more.items in
+    let starts : Macros → code_level.Level → Result Output Stop = λ macros level. completed macros level filling.site filling.hidden definition (pieces_before (pieces_in c.append.new.self)
     (filled_all (expanded macros) filling.site (not (list_any is_hash_hash definition.body)) (parts_from definition c.args.waits.whole.behind) now)) in
     let becomes : (macros : Macros) → taken_up macros c.args.waits (Ok (gives put progress)) ≡ starts macros c.replace-out.new.dest = λ macros.
-    take_up-is macros c.args.waits (gives put progress) more (map piece_value c.append.new.pieces.items) now
+    take_up-is macros c.args.waits (gives put progress) more (pieces_in c.append.new.self) now
     (c.in_ok-more.ensures.ok.0 ∙ ap (argument_pieces filling.site c.args.waits.whole) same)
     (ap (counted (list_any is_hash_hash definition.body)) (sym same) ∙ ap (λ (b : Bool). counted b c.replace-out.result.out.items) (sym c.has_paste-counts.ensures) ∙ c.in_ok-more.ensures.ok.1)
-    (ap (map piece_value) c.in_ok-append.ensures ∙ map-append piece_value filling.pieces.items c.in_ok-more.more.items)
+    c.in_ok-append.ensures
     ∙ ap (starts macros) (sym c.replace-out.ensures.after) in
     ap (outward macros c.args.waiting.now.items) (becomes macros) ∙ c.in_ok-go_on.ensures.ok macros

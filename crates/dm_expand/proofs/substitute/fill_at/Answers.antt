@@ -1,15 +1,15 @@
 use Rattle.std.proofs.Common.{[], ℕ, ◌+◌, ◌++◌, ◌∷◌, List, ap, ◌∙◌, sym, subst, map, length}
-use Rattle.std.proofs.lemmas.List.{map-append}
 use Rattle.dm_token.specs.declared.place.Place.{Place}
 use Rattle.dm_token.specs.declared.token.PpToken.{PpToken}
-use Rattle.dm_expand.specs.declared.paste.Piece as code_piece
+use Rattle.dm_expand.specs.Items.{Item}
 use Rattle.dm_expand.specs.Bodies as bodies
 use Rattle.dm_expand.specs.Steps.{Progress}
 use Rattle.dm_expand.specs.Pastes as pastes
 use Rattle.dm_expand.specs.Substitution as substitution
-use Rattle.dm_expand.specs.Views.{piece_value, part_with}
+use Rattle.dm_expand.specs.Views.{piece_value, pieces_in, part_with}
 use Rattle.dm_expand.specs.ListViews.{fills, pieces_before, counted_if}
 use Rattle.dm_expand.specs.Works.{IsContent, parts_from}
+use Rattle.dm_expand.proofs.ListLemmas.{length_map}
 use Rattle.dm_expand.proofs.StepLemmas.{stops_handed_each}
 use Rattle.dm_expand.proofs.SubstitutionLemmas.{parts-at, filled_all-part, filled_all-count-stops, pieces_before-append}
 use Rattle.dm_expand.proofs.substitute.fill_at.Goals as goal
@@ -21,31 +21,31 @@ returns-in_default-clause-ok c = λ expander.
     let body : List PpToken = definition.body in
     let i = c.args.index in
     let rest : List bodies.Part = parts_from definition (i + 1) in
-    ap (λ (parts : List bodies.Part). pieces_before (map piece_value c.args.pieces.now.items) (substitution.filled_all expander c.args.site.now c.args.counts parts c.args.progress.now))
+    ap (λ (parts : List bodies.Part). pieces_before (pieces_in c.args.pieces.now) (substitution.filled_all expander c.args.site.now c.args.counts parts c.args.progress.now))
     (parts-at names body i c.token_at-token.result.now c.requires.inside c.token_at-token.ensures.is ∙ ap (λ (xs : List bodies.Part). xs ++ rest) (sym c.in_default.ensures))
 
-pub returns-in_err-count_if-in-Pieces-clause-stop : goal.returns-in_err-count_if-in-Pieces-clause-stop
-returns-in_err-count_if-in-Pieces-clause-stop c =
+pub returns-in_err-count_if-in-Tokens-clause-stop : goal.returns-in_err-count_if-in-Tokens-clause-stop
+returns-in_err-count_if-in-Tokens-clause-stop c =
     let definition = c.args.definition.now in
     let names : List (List ℕ) = bodies.parameters_of definition in
     let body : List PpToken = definition.body in
     let i = c.args.index in
     let rest : List bodies.Part = parts_from definition (i + 1) in
     let part : bodies.Part = part_with c.token_at-token.result.now c.in-Some.role in
-    let pieces : List pastes.Piece = map piece_value c.args.pieces.now.items in
+    let pieces : List pastes.Piece = pieces_in c.args.pieces.now in
     let progress : Progress = c.args.progress.now in
     let now : Progress = c.fill.new.progress in
-    let content = subst (IsContent c.args.site.now c.token_at-token.result.now c.in-Some.role progress now) c.in-Pieces.is c.in_ok-parameter.ensures.content in
-    let more : List pastes.Piece = map piece_value c.in-Pieces.more.items in
-    stops_handed_each c.from_residual-in_err-count_if-in-Pieces.result c.in_err-count_if-in-Pieces.field-0.0 (λ expander. counted_if c.args.counts c.place_of-in-Pieces.result c.piece_count.result now) _ c.from_residual-in_err-count_if-in-Pieces.ensures.1
+    let content = subst (IsContent c.args.site.now c.token_at-token.result.now c.in-Some.role progress now) c.in-Tokens.is c.in_ok-parameter.ensures.content in
+    let more : List pastes.Piece = map pastes.token c.in-Tokens.more.items in
+    stops_handed_each c.from_residual-in_err-count_if-in-Tokens.result c.in_err-count_if-in-Tokens.field-0.0 (λ expander. counted_if c.args.counts c.place_of-in-Tokens.result c.token_count.result now) _ c.from_residual-in_err-count_if-in-Tokens.ensures.1
     (λ expander other is.
     ap (λ (parts : List bodies.Part). pieces_before pieces (substitution.filled_all expander c.args.site.now c.args.counts parts progress))
     (parts-at names body i c.token_at-token.result.now c.requires.inside c.token_at-token.ensures.is ∙ ap (λ (xs : List bodies.Part). xs ++ rest) (sym c.in-Some.ensures))
     ∙ ap (pieces_before pieces) (filled_all-count-stops expander c.args.site.now c.args.counts part rest progress (fills more now) other (content expander)
-    (ap (λ (place : Place). counted_if c.args.counts place (length more) now) (sym c.place_of-in-Pieces.ensures)
-    ∙ ap (λ (n : ℕ). counted_if c.args.counts c.place_of-in-Pieces.result n now) (sym (c.piece_count.ensures ∙ ap (λ (xs : List code_piece.Piece). length (map piece_value xs)) c.as_slice.ensures.value))
+    (ap (λ (place : Place). counted_if c.args.counts place (length more) now) (sym c.place_of-in-Tokens.ensures)
+    ∙ ap (λ (n : ℕ). counted_if c.args.counts c.place_of-in-Tokens.result n now) (sym (c.token_count.ensures ∙ ap (λ (xs : List Item). length xs) c.as_slice.ensures.value ∙ sym (length_map pastes.token c.in-Tokens.more.items)))
     ∙ is)))
-    (λ expander. c.in_err-count_if-in-Pieces.ensures.stop)
+    (λ expander. c.in_err-count_if-in-Tokens.ensures.stop)
 
 pub returns-in-Whole-clause-ok : goal.returns-in-Whole-clause-ok
 returns-in-Whole-clause-ok c = λ expander.
@@ -55,7 +55,7 @@ returns-in-Whole-clause-ok c = λ expander.
     let i = c.args.index in
     let rest : List bodies.Part = parts_from definition (i + 1) in
     let part : bodies.Part = part_with c.token_at-token.result.now c.in-Some.role in
-    let pieces : List pastes.Piece = map piece_value c.args.pieces.now.items in
+    let pieces : List pastes.Piece = pieces_in c.args.pieces.now in
     let progress : Progress = c.args.progress.now in
     let now : Progress = c.fill.new.progress in
     let content = subst (IsContent c.args.site.now c.token_at-token.result.now c.in-Some.role progress now) c.in-Whole.is c.in_ok-parameter.ensures.content in
@@ -66,29 +66,29 @@ returns-in-Whole-clause-ok c = λ expander.
     ∙ ap (λ (p : bodies.Part). p ∷ rest) content.0)
     ∙ ap (λ (q : Progress). pieces_before pieces (substitution.filled_all expander c.args.site.now c.args.counts (waits ∷ rest) q)) (sym content.1)
 
-pub returns-in_ok-append-in-Pieces-clause-ok : goal.returns-in_ok-append-in-Pieces-clause-ok
-returns-in_ok-append-in-Pieces-clause-ok c = λ expander.
+pub returns-in_ok-append-in-Tokens-clause-ok : goal.returns-in_ok-append-in-Tokens-clause-ok
+returns-in_ok-append-in-Tokens-clause-ok c = λ expander.
     let definition = c.args.definition.now in
     let names : List (List ℕ) = bodies.parameters_of definition in
     let body : List PpToken = definition.body in
     let i = c.args.index in
     let rest : List bodies.Part = parts_from definition (i + 1) in
     let part : bodies.Part = part_with c.token_at-token.result.now c.in-Some.role in
-    let pieces : List pastes.Piece = map piece_value c.args.pieces.now.items in
+    let pieces : List pastes.Piece = pieces_in c.args.pieces.now in
     let progress : Progress = c.args.progress.now in
     let now : Progress = c.fill.new.progress in
-    let content = subst (IsContent c.args.site.now c.token_at-token.result.now c.in-Some.role progress now) c.in-Pieces.is c.in_ok-parameter.ensures.content in
-    let more : List pastes.Piece = map piece_value c.in-Pieces.more.items in
-    let after : Progress = c.count_if-in-Pieces.new.progress in
+    let content = subst (IsContent c.args.site.now c.token_at-token.result.now c.in-Some.role progress now) c.in-Tokens.is c.in_ok-parameter.ensures.content in
+    let more : List pastes.Piece = map pastes.token c.in-Tokens.more.items in
+    let after : Progress = c.count_if-in-Tokens.new.progress in
     let behind = substitution.filled_all expander c.args.site.now c.args.counts rest after in
     ap (λ (parts : List bodies.Part). pieces_before pieces (substitution.filled_all expander c.args.site.now c.args.counts parts progress))
     (parts-at names body i c.token_at-token.result.now c.requires.inside c.token_at-token.ensures.is ∙ ap (λ (xs : List bodies.Part). xs ++ rest) (sym c.in-Some.ensures))
     ∙ ap (pieces_before pieces) (filled_all-part expander c.args.site.now c.args.counts part rest progress (fills more now) after (content expander)
-    (ap (λ (place : Place). counted_if c.args.counts place (length more) now) (sym c.place_of-in-Pieces.ensures)
-    ∙ ap (λ (n : ℕ). counted_if c.args.counts c.place_of-in-Pieces.result n now) (sym (c.piece_count.ensures ∙ ap (λ (xs : List code_piece.Piece). length (map piece_value xs)) c.as_slice.ensures.value))
-    ∙ c.in_ok-count_if-in-Pieces.ensures.ok))
+    (ap (λ (place : Place). counted_if c.args.counts place (length more) now) (sym c.place_of-in-Tokens.ensures)
+    ∙ ap (λ (n : ℕ). counted_if c.args.counts c.place_of-in-Tokens.result n now) (sym (c.token_count.ensures ∙ ap (λ (xs : List Item). length xs) c.as_slice.ensures.value ∙ sym (length_map pastes.token c.in-Tokens.more.items)))
+    ∙ c.in_ok-count_if-in-Tokens.ensures.ok))
     ∙ pieces_before-append pieces more behind
-    ∙ ap (λ (xs : List pastes.Piece). pieces_before xs behind) (sym (ap (map piece_value) c.in_ok-append-in-Pieces.ensures ∙ map-append piece_value c.args.pieces.now.items c.in-Pieces.more.items))
+    ∙ ap (λ (xs : List pastes.Piece). pieces_before xs behind) (sym c.in_ok-append-in-Tokens.ensures)
 
 pub returns-in_err-count_if-in-One-clause-stop : goal.returns-in_err-count_if-in-One-clause-stop
 returns-in_err-count_if-in-One-clause-stop c =
@@ -98,7 +98,7 @@ returns-in_err-count_if-in-One-clause-stop c =
     let i = c.args.index in
     let rest : List bodies.Part = parts_from definition (i + 1) in
     let part : bodies.Part = part_with c.token_at-token.result.now c.in-Some.role in
-    let pieces : List pastes.Piece = map piece_value c.args.pieces.now.items in
+    let pieces : List pastes.Piece = pieces_in c.args.pieces.now in
     let progress : Progress = c.args.progress.now in
     let now : Progress = c.fill.new.progress in
     let content = subst (IsContent c.args.site.now c.token_at-token.result.now c.in-Some.role progress now) c.in-One.is c.in_ok-parameter.ensures.content in
@@ -120,7 +120,7 @@ returns-in_ok-push-in-One-clause-ok c = λ expander.
     let i = c.args.index in
     let rest : List bodies.Part = parts_from definition (i + 1) in
     let part : bodies.Part = part_with c.token_at-token.result.now c.in-Some.role in
-    let pieces : List pastes.Piece = map piece_value c.args.pieces.now.items in
+    let pieces : List pastes.Piece = pieces_in c.args.pieces.now in
     let progress : Progress = c.args.progress.now in
     let now : Progress = c.fill.new.progress in
     let content = subst (IsContent c.args.site.now c.token_at-token.result.now c.in-Some.role progress now) c.in-One.is c.in_ok-parameter.ensures.content in
@@ -133,4 +133,4 @@ returns-in_ok-push-in-One-clause-ok c = λ expander.
     (ap (λ (place : Place). counted_if c.args.counts place (length more) now) (sym c.place_of.ensures)
     ∙ c.in_ok-count_if-in-One.ensures.ok))
     ∙ pieces_before-append pieces more behind
-    ∙ ap (λ (xs : List pastes.Piece). pieces_before xs behind) (sym (ap (map piece_value) c.in_ok-push-in-One.ensures.items ∙ map-append piece_value c.args.pieces.now.items (c.in-One.piece ∷ [])))
+    ∙ ap (λ (xs : List pastes.Piece). pieces_before xs behind) (sym c.in_ok-push-in-One.ensures)

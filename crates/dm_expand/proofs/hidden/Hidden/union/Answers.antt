@@ -1,14 +1,15 @@
 use Rattle.std.proofs.Common.{ap, ◌∙◌, sym, get_or}
 use Rattle.std.specs.FinSet as set
 use Rattle.std.proofs.lemmas.List.{take_all, take_more}
-use Rattle.dm_expand.proofs.HiddenLemmas.{of_list, push-is, union-nothing, union-insert, union-front, union-back}
+use Rattle.dm_expand.proofs.HiddenLemmas.{of_list, push-is, union-nothing, union-insert, union-front}
 use Rattle.dm_expand.proofs.hidden.Hidden.union.Goals as goal
 
 pub returns-then-is_front : goal.returns-then-is_front
 returns-then-is_front c = c.in_ok-longer.ensures ∙ union-front _ _ _ _ _ c.numbers-mine.ensures c.numbers-theirs.ensures (c.is_front.ensures c.if-is_front.true)
 
-pub returns-then-is_front-2 : goal.returns-then-is_front-2
-returns-then-is_front-2 c = c.in_ok-longer-2.ensures ∙ union-back _ _ _ _ _ c.numbers-mine.ensures c.numbers-theirs.ensures (c.is_front-2.ensures c.if-is_front-2.true)
+pub returns-then-hides_all : goal.returns-then-hides_all
+returns-then-hides_all c =
+    c.in_ok-longer-2.ensures ∙ c.hides_all.ensures c.if-hides_all.true ∙ ap (λ s. set.union c.args.self.now s) c.numbers-theirs.ensures
 
 pub loop-number-init : goal.loop-number-init
 loop-number-init c = ap of_list c.in_ok-all.ensures ∙ c.numbers-mine.ensures ∙ union-nothing _

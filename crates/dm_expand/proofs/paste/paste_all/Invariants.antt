@@ -1,6 +1,6 @@
 use Rattle.std.proofs.Common.{◌≡◌, map, length}
 use Rattle.dm_expand.specs.Views.{piece_value, tokens_left, tokens_behind, all_before}
-use Rattle.dm_expand.proofs.paste.paste.Given as goal
+use Rattle.dm_expand.proofs.paste.paste_all.Given as goal
 
 abbrev pub invariant-pieces : goal.invariant-pieces
 invariant-pieces l =

@@ -1,0 +1,21 @@
+-- How an argument's tokens come to one of its parameter's places.
+use Rattle.std.specs.Prelude.{List, ◌++◌}
+use Rattle.dm_token.specs.declared.expansion.Mark.{Mark}
+use Rattle.dm_expand.specs.Items.{Item}
+use Rattle.dm_expand.specs.Trails.{past}
+
+-- the trail of the macro's name, and that trail with the marks of the expansion and of the argument
+pub record Way : Type 0 where
+  pub name : List Mark
+  pub base : List Mark
+
+abbrev pub way_of : List Mark → List Mark → Way
+way_of name base = record { name = name; base = base }
+
+-- what becomes of a token's trail
+abbrev pub led : Way → List Mark → List Mark
+led way trail = way.base ++ past way.name trail
+
+-- what becomes of a token
+abbrev pub moved : Way → Item → Item
+moved way item = record item { trail = led way item.trail }
