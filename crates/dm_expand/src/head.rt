@@ -8,6 +8,7 @@ ghost use Rattle.dm_expand.specs.Trails as trails;
 ghost use Rattle.dm_expand.specs.HeadViews.{macros_of, macro_value, head_value, replace_with, Stays, PutsNothing};
 
 use crate::arguments::{Enclosed, arguments_of, next_of, take_enclosed};
+use crate::extension::Extensions;
 use crate::hidden::Hidden;
 use crate::item::Item;
 use crate::predefined::replaced;
@@ -73,10 +74,15 @@ fn macro_of<'a>(macros: &Macros<'a>, token: &PpToken) -> Option<Macro<'a>>
 
 // An object-like macro's name.
 #[tactic(auto, unfolding(crate::specs::Expansion::object_like))]
-fn object_like<'a>(alloc: Global, found: Macro<'a>, name: Item) -> Result<Head<'a>, Memory>
+fn object_like<'a>(
+    alloc: Global,
+    extensions: &mut Extensions,
+    found: Macro<'a>,
+    name: Item,
+) -> Result<Head<'a>, Memory>
     ensures { IfOk result (λ head. (rest : List Token) → head_value rest head ≡ expansion.object_like (macro_value found.entry) name rest) }
 {
-    let hidden = name.hidden.with(found.number)?;
+    let hidden = extensions.with(&name.hidden, found.number)?;
     Ok(Head::Replace(Invocation {
         found,
         name,
@@ -88,6 +94,7 @@ fn object_like<'a>(alloc: Global, found: Macro<'a>, name: Item) -> Result<Head<'
 
 // A function-like macro's name, the `)` that closes the invocation, and the arguments.
 fn with_arguments<'a>(
+    extensions: &mut Extensions,
     found: Macro<'a>,
     name: Item,
     closing: &Item,
@@ -98,7 +105,7 @@ fn with_arguments<'a>(
     ensures head { IfOk result (λ head. (rest : List Token) → head_value rest head ≡ replace_with (macro_value found.entry) name arguments (set.insert (set.intersection name.hidden closing.now.hidden) found.entry.number) foreign rest) }
 {
     let both = name.hidden.meet(&closing.hidden)?;
-    let hidden = both.with(found.number)?;
+    let hidden = extensions.with(&both, found.number)?;
     Ok(Head::Replace(Invocation {
         found,
         name,
@@ -126,6 +133,7 @@ fn is_foreign(name: &Item, opening: &Item, enclosed: &Enclosed) -> bool
 #[tactic(auto, unfolding(crate::specs::Expansion::enclosing, crate::specs::Expansion::with_arguments))]
 fn enclosing<'a>(
     alloc: Global,
+    extensions: &mut Extensions,
     found: Macro<'a>,
     name: Item,
     opening: &Item,
@@ -143,7 +151,7 @@ fn enclosing<'a>(
     let Some(arguments) = arguments_of(alloc, found.definition, inside)? else {
         return Ok(Head::Refuse);
     };
-    let head = with_arguments(found, name, &closing, foreign, arguments)?;
+    let head = with_arguments(extensions, found, name, &closing, foreign, arguments)?;
     Ok(head)
 }
 
@@ -151,6 +159,7 @@ fn enclosing<'a>(
 #[tactic(auto, unfolding(crate::specs::Expansion::function_like, crate::specs::Arguments::opens))]
 fn function_like<'a>(
     alloc: Global,
+    extensions: &mut Extensions,
     found: Macro<'a>,
     name: Item,
     rest: &mut VecDeque<Item>,
@@ -166,7 +175,7 @@ fn function_like<'a>(
         rest.push_front(next)?;
         return Ok(Head::Put(name));
     }
-    let head = enclosing(alloc, found, name, &next, rest)?;
+    let head = enclosing(alloc, extensions, found, name, &next, rest)?;
     Ok(head)
 }
 
@@ -174,6 +183,7 @@ fn function_like<'a>(
 #[tactic(auto, unfolding(crate::specs::Expansion::invoked))]
 fn invoked<'a>(
     alloc: Global,
+    extensions: &mut Extensions,
     found: Macro<'a>,
     name: Item,
     rest: &mut VecDeque<Item>,
@@ -184,11 +194,11 @@ fn invoked<'a>(
 {
     match &found.definition.parameters {
         None => {
-            let head = object_like(alloc, found, name)?;
+            let head = object_like(alloc, extensions, found, name)?;
             Ok(head)
         }
         Some(_) => {
-            let head = function_like(alloc, found, name, rest)?;
+            let head = function_like(alloc, extensions, found, name, rest)?;
             Ok(head)
         }
     }
@@ -198,6 +208,7 @@ fn invoked<'a>(
 #[tactic(auto, unfolding(crate::specs::Expansion::head_of, crate::specs::Expansion::head_by))]
 pub fn head_of<'a>(
     macros: &Macros<'a>,
+    extensions: &mut Extensions,
     progress: &Progress,
     item: Item,
     rest: &mut VecDeque<Item>,
@@ -213,6 +224,6 @@ pub fn head_of<'a>(
     if item.hidden.holds(found.number) {
         return Ok(Head::Put(item));
     }
-    let head = invoked(macros.alloc, found, item, rest)?;
+    let head = invoked(macros.alloc, extensions, found, item, rest)?;
     Ok(head)
 }

@@ -201,8 +201,8 @@ impl Hiding {
     }
 }
 
-// Whether it is sure that two sets are the same.
-fn are_same(left: &Hidden, right: &Hidden) -> bool
+/// Whether it is sure that two sets are the same.
+pub fn are_same(left: &Hidden, right: &Hidden) -> bool
     ensures { IsTrue result → left.now ≡ right.now }
 {
     let mine = left.numbers();

@@ -10,6 +10,7 @@ ghost use Rattle.dm_expand.specs.AnswerViews.{looked_up, answer, AreNumberedFrom
 
 mod arguments;
 mod body;
+mod extension;
 mod fill;
 mod head;
 mod hidden;
@@ -26,7 +27,6 @@ mod substitute;
 mod tests;
 mod trails;
 
-use arguments::next_of;
 use dm_macro::MacroTable;
 use dm_token::{Expansion, List, Memory, PpToken, Stop, Text, Token};
 use head::Macros;
@@ -38,7 +38,9 @@ pub use laws::{
 use machine::expand_list;
 use progress::Progress;
 use std::alloc::Global;
-use std::collections::VecDeque;
+
+/// How many items more than it has a list may have room for when it is emptied.
+const SPARE: usize = 32_768;
 
 /// The count of a unit's work: the definitions that it reads, its expansions, and the tokens that they put out.
 #[derive(Clone, Copy, Debug, PartialEq, Eq)]
@@ -112,10 +114,21 @@ fn source_items(alloc: Global, group: &[PpToken]) -> Result<Vec<Item>, Memory>
 fn tokens_of(alloc: Global, items: Vec<Item>) -> Result<List<Token>, Memory>
     ensures { IfOk result (λ tokens. tokens ≡ map token_of items.items) }
 {
-    let mut tokens = Vec::with_capacity(alloc, items.len())?;
-    let mut queue = VecDeque::from(items);
-    'items: while let Some(item) = next_of(&mut queue) {
+    let mut left = items;
+    let mut tokens = Vec::with_capacity(alloc, left.len())?;
+    'items: while let Some(item) = left.pop() {
         tokens.push(item.into_token())?;
+        give_back(&mut left);
     }
+    tokens.reverse();
     Ok(List::from_vec(tokens))
+}
+
+// Gives back the room that a list has no more use for, once that is much.
+fn give_back(items: &mut Vec<Item>)
+    ensures { items.new.items ≡ items.old.items }
+{
+    if items.capacity().saturating_sub(items.len()) > SPARE {
+        items.shrink_to_fit();
+    }
 }

@@ -13,6 +13,7 @@ ghost use Rattle.dm_expand.specs.ListViews.{gives, fills, pieces_before, tokens_
 ghost use Rattle.dm_expand.specs.Works.{outward, load, completed, completed_from, whole_and_others, taken_up, scanned_on, invoked_on, passed_on, found_on, IsEnd};
 
 use crate::arguments::next_of;
+use crate::extension::Extensions;
 use crate::fill::argument_for;
 use crate::head::{Head, Invocation, Macros, head_of};
 use crate::hidden::Hidden;
@@ -224,6 +225,7 @@ fn take_up<'a>(
 // Does what the case at the head of a list asks for, unless a macro is to be replaced.
 fn scan_next<'a>(
     macros: &Macros<'a>,
+    extensions: &mut Extensions,
     progress: &Progress,
     item: Item,
     level: &mut Level,
@@ -240,7 +242,7 @@ fn scan_next<'a>(
         return Ok(None);
     }
     let place = item.pp.place;
-    match head_of(macros, progress, item, &mut level.rest)? {
+    match head_of(macros, extensions, progress, item, &mut level.rest)? {
         Head::Put(item) => {
             level.out.push(item)?;
             Ok(None)
@@ -253,6 +255,7 @@ fn scan_next<'a>(
 // Scans a list up to the next macro that is to be replaced.
 fn scan<'a>(
     macros: &Macros<'a>,
+    extensions: &mut Extensions,
     progress: &Progress,
     level: &mut Level,
 ) -> Result<Option<Invocation<'a>>, Stop>
@@ -261,7 +264,7 @@ fn scan<'a>(
     ensures stop { IfErr result (λ stop. StopsAs (scanned_on (macros_of macros.now) level.old progress.now) stop) }
 {
     'tokens: while let Some(item) = next_of(&mut level.rest) {
-        let found = scan_next(macros, progress, item, level)?;
+        let found = scan_next(macros, extensions, progress, item, level)?;
         if found.is_some() {
             return Ok(found);
         }
@@ -272,6 +275,7 @@ fn scan<'a>(
 // Goes on up to the next macro that is to be replaced.
 fn advance<'a>(
     macros: &Macros<'a>,
+    extensions: &mut Extensions,
     level: &mut Level,
     waiting: &mut Vec<Waiting<'a>>,
     progress: &mut Progress,
@@ -286,7 +290,7 @@ fn advance<'a>(
         StopsAs (outward (macros_of macros.now) waiting.old.items (scanned_on (macros_of macros.now) level.old progress.old)) stop) }
 {
     'levels: loop {
-        let found = scan(macros, progress, level)?;
+        let found = scan(macros, extensions, progress, level)?;
         if found.is_some() {
             return Ok(found);
         }
@@ -348,7 +352,14 @@ pub fn expand_list(
         out: Vec::new(macros.alloc),
     };
     let mut waiting = Vec::new(macros.alloc);
-    'expansions: while let Some(invocation) = advance(macros, &mut level, &mut waiting, progress)? {
+    let mut extensions = Extensions::new(macros.alloc);
+    'expansions: while let Some(invocation) = advance(
+        macros,
+        &mut extensions,
+        &mut level,
+        &mut waiting,
+        progress,
+    )? {
         replace(macros.alloc, invocation, &mut level, &mut waiting, progress)?;
     }
     let Level { rest: _, out } = level;

@@ -1,4 +1,3 @@
-use Rattle.std.proofs.Common.{◌||◌, ap, ◌∙◌, sym}
 use Rattle.dm_expand.proofs.HiddenLemmas.{among-more}
 use Rattle.dm_expand.proofs.hidden.is_among.Goals as goal
 

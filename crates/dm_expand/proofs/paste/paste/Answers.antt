@@ -1,6 +1,6 @@
 use Rattle.std.proofs.Common.{◌++◌, List, length, map, ap, ◌∙◌, arith}
 use Rattle.dm_expand.specs.Pastes as pastes
-use Rattle.dm_expand.specs.Views.{piece_value, tokens_left}
+use Rattle.dm_expand.specs.Views.{tokens_left}
 use Rattle.dm_expand.proofs.PasteLemmas.{left-tokens, no_pieces}
 use Rattle.dm_expand.proofs.paste.paste.Goals as goal
 

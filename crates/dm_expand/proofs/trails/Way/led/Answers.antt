@@ -1,6 +1,5 @@
 use Rattle.std.proofs.Common.{◌++◌, ◌-◌, ℕ, List, ap, ◌∙◌, sym, drop, take, length, arith}
 use Rattle.dm_token.specs.declared.expansion.Mark.{Mark}
-use Rattle.dm_expand.specs.Trails.{past}
 use Rattle.dm_expand.specs.Ways.{Way, led}
 use Rattle.dm_expand.proofs.TrailLemmas.{past-common, led_front}
 use Rattle.dm_expand.proofs.trails.Way.led.Goals as goal
