@@ -1,2 +1,5 @@
+pub mod Answers
+pub mod Kinds
 pub mod Parsing
 pub mod Readings
+pub mod Steps

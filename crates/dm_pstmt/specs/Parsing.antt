@@ -172,11 +172,14 @@ block_with at items = checked_stmt (tree.block (span_of at (block_items_after (a
 abbrev pub else_with : ℕ → Expr → Stmt → Stmt → Option Stmt
 else_with at condition body other = checked_stmt (tree.if_else (span_of at (stmt_span other).after) condition body other)
 
+abbrev pub if_only_behind : ℕ → Expr → Stmt → Option Stmt
+if_only_behind at condition body = checked_stmt (tree.if_only (span_of at (stmt_span body).after) condition body)
+
 abbrev pub if_behind : Source → Within → List Declared → ℕ → Expr → Stmt → Option Stmt
 if_behind source inner names at condition body =
     if stands source names (stmt_span body).after symbol.Else
     then and_then (else_with at condition body) (inner.stmt (expr_declares source condition ++ names) ((stmt_span body).after + 1))
-    else checked_stmt (tree.if_only (span_of at (stmt_span body).after) condition body)
+    else if_only_behind at condition body
 
 abbrev pub if_with : Source → Within → List Declared → ℕ → Expr → Option Stmt
 if_with source inner names at condition =

@@ -1,6 +1,11 @@
 //! Reading C declarations, statements and external declarations (ISO/IEC 9899:2011, 6.7 to 6.9).
 #![tactic(auto)]
 
+mod clauses;
+mod declaration;
+mod declares;
+mod initialiser;
 mod laws;
+mod nodes;
 
 pub use laws::{externals_are_inside, one_external, reads_externals};

@@ -1,0 +1,357 @@
+//! Statements that are put together of their parts.
+
+ghost use Rattle.std.specs.Prelude.{◌≡◌, ◌+◌, ◌≤◌, ℕ, true, List, Option, Some, None, IfOk, length, nat_le, option_map, if◌then◌else◌};
+ghost use Rattle.dm_syn.specs.declared.declared.Declared.{Declared};
+ghost use Rattle.dm_syn.specs.declared.symbol.Symbol.TheVariants.{Semicolon};
+ghost use Rattle.dm_syn.specs.Sources.{Source};
+ghost use Rattle.dm_syn.specs.Trees as tree;
+ghost use Rattle.dm_syn.specs.Views as view;
+ghost use Rattle.dm_pexpr.specs.Parsing.{limit, span_of, and_then};
+ghost use Rattle.dm_pexpr.specs.Parts.{Gives, IsPart, an_expr};
+ghost use Rattle.dm_pstmt.specs.Kinds.{a_declaration, a_stmt, a_labelled, a_block_item, an_optional, a_start, block_items_from, switch_items_from};
+ghost use Rattle.dm_pstmt.specs.Parsing.{stands, expression_with, return_with, jump, block_with, if_only_behind, else_with, while_behind, do_behind, switch_braced, for_body, case_behind, default_behind, unlabelled_with};
+
+use dm_pexpr::{Part, above, checked, over};
+use dm_syn::{Declaration, Expr, ForStart, Item, Stmt, StmtForm, SwitchForm, SwitchItem};
+use dm_token::{Boxed, List, Memory, Span};
+use std::alloc::Global;
+
+// A statement of that form, unless it is too high. It is boxed, so that what drops it is one call.
+fn node(
+    alloc: Global,
+    first: u32,
+    after: u32,
+    height: u32,
+    form: StmtForm,
+) -> Result<Option<Part<Boxed<Stmt>>>, Memory>
+    ensures { IfOk result (λ made. made ≡ (if nat_le height limit then Some (record { tree = record { span = record { first = first; after = after }; form = form }; height = height; after = after }) else None)) }
+{
+    let tree = Stmt {
+        span: Span { first, after },
+        form,
+    };
+    let tree = Boxed::new(alloc, tree)?;
+    Ok(checked(tree, height, after))
+}
+
+// A block with these items, which ends at a place.
+pub(crate) fn block(
+    alloc: Global,
+    first: u32,
+    items: Part<List<Item>>,
+    after: u32,
+) -> Result<Option<Part<Boxed<Stmt>>>, Memory>
+    ensures { (source : Source) (before behind : List Declared) (wanted : Option tree.BlockItems) → IsPart (block_items_from source (first + 1)) source before behind items wanted
+        → after ≡ items.after + 1 → after ≤ length source.tokens
+        → IfOk result (λ made. Gives (a_stmt source) source before before made (and_then (block_with first) wanted)) }
+{
+    node(
+        alloc,
+        first,
+        after,
+        over(items.height),
+        StmtForm::Block(items.tree),
+    )
+}
+
+// `while` with its condition and its body.
+pub(crate) fn while_loop(
+    alloc: Global,
+    first: u32,
+    condition: Part<Expr>,
+    body: Option<Part<Boxed<Stmt>>>,
+) -> Result<Option<Part<Boxed<Stmt>>>, Memory>
+    ensures { (source : Source) (before names behind : List Declared) (read : Option tree.Expr) (wanted : Option tree.Stmt) → IsPart (an_expr source) source before names condition read
+        → Gives (a_stmt source) source names behind body wanted
+        → IfOk result (λ made. Gives (a_stmt source) source before before made (and_then (while_behind first (view.expr condition.tree)) wanted)) }
+{
+    let Some(body) = body else {
+        return Ok(None);
+    };
+    let height = above(condition.height, body.height);
+    let after = body.after;
+    let form = StmtForm::While(condition.tree, body.tree);
+    node(alloc, first, after, height, form)
+}
+
+// `if` with its condition and its body, without `else`.
+pub(crate) fn if_alone(
+    alloc: Global,
+    first: u32,
+    condition: Part<Expr>,
+    body: Part<Boxed<Stmt>>,
+) -> Result<Option<Part<Boxed<Stmt>>>, Memory>
+    ensures { (source : Source) (before names behind : List Declared) (read : Option tree.Expr) (seen : Option tree.Stmt) → IsPart (an_expr source) source before names condition read
+        → IsPart (a_stmt source) source names behind body seen
+        → IfOk result (λ made. Gives (a_stmt source) source before before made (if_only_behind first (view.expr condition.tree) (view.stmt body.tree))) }
+{
+    let height = above(condition.height, body.height);
+    let after = body.after;
+    let form = StmtForm::If(condition.tree, body.tree, None);
+    node(alloc, first, after, height, form)
+}
+
+// `if` with its condition, its body and what stands behind `else`.
+pub(crate) fn if_else(
+    alloc: Global,
+    first: u32,
+    condition: Part<Expr>,
+    body: Part<Boxed<Stmt>>,
+    other: Option<Part<Boxed<Stmt>>>,
+) -> Result<Option<Part<Boxed<Stmt>>>, Memory>
+    ensures { (source : Source) (before names behind last : List Declared) (read : Option tree.Expr) (seen wanted : Option tree.Stmt) → IsPart (an_expr source) source before names condition read
+        → IsPart (a_stmt source) source names behind body seen → Gives (a_stmt source) source names last other wanted
+        → IfOk result (λ made. Gives (a_stmt source) source before before made (and_then (else_with first (view.expr condition.tree) (view.stmt body.tree)) wanted)) }
+{
+    let Some(other) = other else {
+        return Ok(None);
+    };
+    let height = above(condition.height, body.height.max(other.height));
+    let after = other.after;
+    let form = StmtForm::If(condition.tree, body.tree, Some(other.tree));
+    node(alloc, first, after, height, form)
+}
+
+// `do` with its body and its condition, which ends at a place.
+pub(crate) fn do_loop(
+    alloc: Global,
+    first: u32,
+    body: Part<Boxed<Stmt>>,
+    condition: Part<Expr>,
+    after: u32,
+) -> Result<Option<Part<Boxed<Stmt>>>, Memory>
+    ensures { (source : Source) (before behind names : List Declared) (seen : Option tree.Stmt) (read : Option tree.Expr) → IsPart (a_stmt source) source before behind body seen
+        → IsPart (an_expr source) source before names condition read → stands source before (condition.after + 1) Semicolon ≡ true → after ≡ condition.after + 2 → after ≤ length source.tokens
+        → IfOk result (λ made. Gives (a_stmt source) source before before made (do_behind source before first (view.stmt body.tree) (view.expr condition.tree))) }
+{
+    let height = above(body.height, condition.height);
+    let form = StmtForm::Do(body.tree, condition.tree);
+    node(alloc, first, after, height, form)
+}
+
+// `switch` with its subject and these items, which ends at a place.
+pub(crate) fn switch_on(
+    alloc: Global,
+    first: u32,
+    subject: Part<Expr>,
+    items: Part<List<SwitchItem>>,
+    after: u32,
+) -> Result<Option<Part<Boxed<Stmt>>>, Memory>
+    ensures { (source : Source) (before names behind : List Declared) (read : Option tree.Expr) (wanted : Option tree.SwitchItems) → IsPart (an_expr source) source before names subject read
+        → IsPart (switch_items_from source (subject.after + 2)) source names behind items wanted → after ≡ items.after + 1 → after ≤ length source.tokens
+        → IfOk result (λ made. Gives (a_stmt source) source before before made (and_then (switch_braced first (view.expr subject.tree)) wanted)) }
+{
+    let inside = over(items.height);
+    let height = above(subject.height, inside);
+    let form = StmtForm::Switch(subject.tree, items.tree);
+    node(alloc, first, after, height, form)
+}
+
+// `for` with its three clauses and its body.
+pub(crate) fn for_loop(
+    alloc: Global,
+    first: u32,
+    start: Part<ForStart>,
+    condition: Part<Option<Expr>>,
+    step: Part<Option<Expr>>,
+    body: Option<Part<Boxed<Stmt>>>,
+) -> Result<Option<Part<Boxed<Stmt>>>, Memory>
+    ensures { (source : Source) (before one two three behind : List Declared) (at next last : ℕ) (begun : Option tree.ForStart) (tested stepped : Option (Option tree.Expr)) (wanted : Option tree.Stmt)
+        → IsPart (a_start source at) source before one start begun → IsPart (an_optional source next) source one two condition tested → IsPart (an_optional source last) source two three step stepped
+        → Gives (a_stmt source) source three behind body wanted
+        → IfOk result (λ made. Gives (a_stmt source) source before before made (and_then (for_body first (view.start start.tree) (view.optional condition.tree) (view.optional step.tree)) wanted)) }
+{
+    let Some(body) = body else {
+        return Ok(None);
+    };
+    let left = start.height.max(condition.height);
+    let right = step.height.max(body.height);
+    let height = above(left, right);
+    let after = body.after;
+    let form = StmtForm::For(start.tree, condition.tree, step.tree, body.tree);
+    node(alloc, first, after, height, form)
+}
+
+// An expression statement, which ends at a place.
+pub(crate) fn expression(
+    alloc: Global,
+    first: u32,
+    value: Part<Option<Expr>>,
+    after: u32,
+) -> Result<Option<Part<Boxed<Stmt>>>, Memory>
+    ensures { (source : Source) (before names : List Declared) (wanted : Option (Option tree.Expr)) → IsPart (an_optional source first) source before names value wanted
+        → stands source names value.after Semicolon ≡ true → after ≡ value.after + 1 → after ≤ length source.tokens
+        → IfOk result (λ made. Gives (a_stmt source) source before names made (and_then (expression_with source before first) wanted)) }
+{
+    node(
+        alloc,
+        first,
+        after,
+        over(value.height),
+        StmtForm::Expression(value.tree),
+    )
+}
+
+// `return`, which ends at a place.
+pub(crate) fn return_of(
+    alloc: Global,
+    first: u32,
+    value: Part<Option<Expr>>,
+    after: u32,
+) -> Result<Option<Part<Boxed<Stmt>>>, Memory>
+    ensures { (source : Source) (before names : List Declared) (wanted : Option (Option tree.Expr)) → IsPart (an_optional source (first + 1)) source before names value wanted
+        → stands source names value.after Semicolon ≡ true → after ≡ value.after + 1 → after ≤ length source.tokens
+        → IfOk result (λ made. Gives (a_stmt source) source before names made (and_then (return_with source before first) wanted)) }
+{
+    node(
+        alloc,
+        first,
+        after,
+        over(value.height),
+        StmtForm::Return(value.tree),
+    )
+}
+
+// `break`, which ends at a place.
+pub(crate) fn break_at(
+    alloc: Global,
+    first: u32,
+    after: u32,
+) -> Result<Option<Part<Boxed<Stmt>>>, Memory>
+    ensures { (source : Source) (before : List Declared) → stands source before (first + 1) Semicolon ≡ true → after ≡ first + 2 → after ≤ length source.tokens
+        → IfOk result (λ made. Gives (a_stmt source) source before before made (jump source before first (tree.break (span_of first (first + 2))))) }
+{
+    node(alloc, first, after, 1, StmtForm::Break)
+}
+
+// `continue`, which ends at a place.
+pub(crate) fn continue_at(
+    alloc: Global,
+    first: u32,
+    after: u32,
+) -> Result<Option<Part<Boxed<Stmt>>>, Memory>
+    ensures { (source : Source) (before : List Declared) → stands source before (first + 1) Semicolon ≡ true → after ≡ first + 2 → after ≤ length source.tokens
+        → IfOk result (λ made. Gives (a_stmt source) source before before made (jump source before first (tree.continue (span_of first (first + 2))))) }
+{
+    node(alloc, first, after, 1, StmtForm::Continue)
+}
+
+// A statement with labels of that form, unless it is too high.
+fn label_node(first: u32, after: u32, height: u32, form: SwitchForm) -> Option<Part<SwitchItem>>
+    ensures { result ≡ (if nat_le height limit then Some (record { tree = record { span = record { first = first; after = after }; form = form }; height = height; after = after }) else None) }
+{
+    let tree = SwitchItem {
+        span: Span { first, after },
+        form,
+    };
+    checked(tree, height, after)
+}
+
+// `case`, its label and what it labels.
+pub(crate) fn case_of(
+    alloc: Global,
+    first: u32,
+    label: Part<Expr>,
+    item: Option<Part<SwitchItem>>,
+) -> Result<Option<Part<SwitchItem>>, Memory>
+    ensures { (source : Source) (before names now : List Declared) (read : Option tree.Expr) (wanted : Option tree.SwitchItem) → IsPart (an_expr source) source before names label read
+        → Gives (a_labelled source) source names now item wanted
+        → IfOk result (λ made. Gives (a_labelled source) source before now made (and_then (case_behind first (view.expr label.tree)) wanted)) }
+{
+    let Some(item) = item else {
+        return Ok(None);
+    };
+    let height = above(label.height, item.height);
+    let after = item.after;
+    let item = Boxed::new(alloc, item.tree)?;
+    let form = SwitchForm::Case(label.tree, item);
+    Ok(label_node(first, after, height, form))
+}
+
+// `default` and what it labels.
+pub(crate) fn default_of(
+    alloc: Global,
+    first: u32,
+    item: Option<Part<SwitchItem>>,
+) -> Result<Option<Part<SwitchItem>>, Memory>
+    ensures { (source : Source) (before now : List Declared) (wanted : Option tree.SwitchItem) → Gives (a_labelled source) source before now item wanted
+        → IfOk result (λ made. Gives (a_labelled source) source before now made (and_then (default_behind first) wanted)) }
+{
+    let Some(item) = item else {
+        return Ok(None);
+    };
+    let height = over(item.height);
+    let after = item.after;
+    let item = Boxed::new(alloc, item.tree)?;
+    Ok(label_node(first, after, height, SwitchForm::Default(item)))
+}
+
+// A statement without a label.
+pub(crate) fn unlabelled(first: u32, stmt: Option<Part<Boxed<Stmt>>>) -> Option<Part<SwitchItem>>
+    ensures { (source : Source) (before behind : List Declared) (wanted : Option tree.Stmt) → Gives (a_stmt source) source before behind stmt wanted
+        → Gives (a_labelled source) source before behind result (option_map (unlabelled_with first) wanted) }
+{
+    let stmt = stmt?;
+    let (height, after) = (stmt.height, stmt.after);
+    let tree = SwitchItem {
+        span: Span { first, after },
+        form: SwitchForm::Statement(stmt.tree.into_inner()),
+    };
+    Some(Part {
+        tree,
+        height,
+        after,
+    })
+}
+
+// A declaration in a block.
+pub(crate) fn declared_item(declaration: Option<Part<Declaration>>) -> Option<Part<Item>>
+    ensures { (source : Source) (before behind : List Declared) (wanted : Option tree.Declaration) → Gives (a_declaration source) source before behind declaration wanted
+        → Gives (a_block_item source) source before behind result (option_map tree.declared_item wanted) }
+{
+    let declaration = declaration?;
+    Some(Part {
+        tree: Item::Declaration(declaration.tree),
+        height: declaration.height,
+        after: declaration.after,
+    })
+}
+
+// A statement in a block.
+pub(crate) fn stated_item(stmt: Option<Part<Boxed<Stmt>>>) -> Option<Part<Item>>
+    ensures { (source : Source) (before behind : List Declared) (wanted : Option tree.Stmt) → Gives (a_stmt source) source before behind stmt wanted
+        → Gives (a_block_item source) source before behind result (option_map tree.stated_item wanted) }
+{
+    let stmt = stmt?;
+    Some(Part {
+        tree: Item::Statement(stmt.tree.into_inner()),
+        height: stmt.height,
+        after: stmt.after,
+    })
+}
+
+// A declaration as the first clause of a `for`.
+pub(crate) fn declaring(declaration: Option<Part<Declaration>>) -> Option<Part<ForStart>>
+    ensures { (source : Source) (before behind : List Declared) (at : ℕ) (wanted : Option tree.Declaration) → Gives (a_declaration source) source before behind declaration wanted
+        → Gives (a_start source at) source before behind result (option_map tree.declares wanted) }
+{
+    let declaration = declaration?;
+    Some(Part {
+        tree: ForStart::Declaration(declaration.tree),
+        height: declaration.height,
+        after: declaration.after,
+    })
+}
+
+// An expression that may be absent as the first clause of a `for`, which ends at a place.
+pub(crate) fn evaluated(value: Part<Option<Expr>>, after: u32) -> Part<ForStart>
+    ensures { (source : Source) (before behind : List Declared) (at : ℕ) (wanted : Option (Option tree.Expr)) → IsPart (an_optional source at) source before behind value wanted
+        → after ≡ value.after + 1 → after ≤ length source.tokens
+        → IsPart (a_start source at) source before behind result (Some (tree.evaluates (view.optional value.tree))) }
+{
+    Part {
+        tree: ForStart::Expression(value.tree),
+        height: value.height,
+        after,
+    }
+}
