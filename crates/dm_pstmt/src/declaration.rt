@@ -88,6 +88,7 @@ fn item(
     is_type: bool,
     depth: u32,
 ) -> Result<Option<Part<InitDeclarator>>, Memory>
+    requires { at ≤ length reader.now.tokens.now }
     ensures { IfOk result (λ found. Gives (an_item (source_of reader.now) is_type) (source_of reader.now) scope.old scope.new found (item_of (source_of reader.now) (within (source_of reader.now) depth) is_type scope.old at)) }
 {
     let Some(declarator) = reader.declarator(scope, at, Shape::Named, depth)? else {

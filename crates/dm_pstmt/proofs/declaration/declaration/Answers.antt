@@ -22,6 +22,10 @@ returns-in-Some-behind c =
     (bare-read (source_of c.args.reader.now) c.args.depth c.args.scope.now c.specifiers.new.scope c.args.at c.in-Some.specifiers p c.in-Some-behind.ensures.0)
     (c.bare_declaration.ensures c.args.scope.now c.specifiers.new.scope _ p c.in-Some-behind.ensures.0 c.in-Some-behind.ensures.1 c.in-Some-behind.ensures.2)
 
+pub item-requires : goal.item-requires
+item-requires c =
+    (part-of (the_specifiers (source_of c.args.reader.now)) (source_of c.args.reader.now) c.args.scope.now c.specifiers.new.scope c.in_ok-specifiers.field-0 c.in-Some.specifiers ((lower (source_of c.args.reader.now) c.args.depth).specifiers c.args.scope.now c.args.at) c.in-Some.is c.in_ok-specifiers.ensures).within
+
 pub returns-in_default-2 : goal.returns-in_default-2
 returns-in_default-2 c =
     let p = part-of (the_specifiers (source_of c.args.reader.now)) (source_of c.args.reader.now) c.args.scope.now c.specifiers.new.scope c.in_ok-specifiers.field-0 c.in-Some.specifiers ((lower (source_of c.args.reader.now) c.args.depth).specifiers c.args.scope.now c.args.at) c.in-Some.is c.in_ok-specifiers.ensures in
