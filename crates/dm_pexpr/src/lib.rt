@@ -25,6 +25,3 @@ pub use reader::Reader;
 pub use scope::Scope;
 pub use shape::Shape;
 pub use typenodes::declarator_name;
-
-#[cfg(test)]
-mod tests;
