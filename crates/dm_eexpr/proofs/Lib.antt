@@ -19,3 +19,8 @@ pub mod TypeLemmas
 pub mod WholeLemmas
 pub mod WholePlaceLemmas
 pub mod WriteLemmas
+pub mod FormLemmas
+pub mod LaterLemmas
+pub mod ValueLemmas
+pub mod GivesLemmas
+pub mod RuleSteps

@@ -6,3 +6,5 @@ pub mod Specifiers
 pub mod Typing
 pub mod Sound
 pub mod Examples
+pub mod Fitting
+pub mod Views

@@ -2,15 +2,30 @@
 //! and what holds of it.
 #![tactic(auto)]
 
+mod access;
 mod extent;
+mod known;
 mod laws;
+mod looks;
+mod nodes;
+mod numbers;
+mod over;
+mod sizes;
+mod typer;
+mod values;
 
 pub use extent::Extent;
+pub use known::Known;
 pub use laws::{
     an_example_meets_the_premises, assignments_give_well_typed_values, broken_rules_are_inside,
     expressions_are_well_typed, leaves_are_well_typed, lvalues_are_well_typed,
     operators_give_well_typed_values,
 };
+pub use looks::{
+    bare, integer_kind, is_array, is_complete, is_const, is_function, is_integer, is_pointer,
+    is_scalar, is_void, target,
+};
+pub use typer::Typer;
 
 #[cfg(test)]
 mod tests;

@@ -61,6 +61,21 @@ impl Scopes {
         drop(innermost);
     }
 
+    /// How many scopes are open.
+    pub fn depth(&self) -> usize
+        ensures { result ≡ length self.now }
+    {
+        self.maps.len()
+    }
+
+    /// Whether the innermost scope declares a name.
+    pub fn is_declared(&self, name: &Text) -> bool
+        ensures { result ≡ scopes.is_declared self.now name.now }
+    {
+        let last = self.maps.len() - 1;
+        self.maps[last].get(name).is_some()
+    }
+
     /// Declares a name in the innermost scope. False where that scope declares it already, and then nothing is changed,
     /// as after an `Err`.
     pub fn declare(&mut self, name: &Text, number: u32) -> Result<bool, Memory>

@@ -10,3 +10,4 @@ pub mod Typing
 pub mod Views
 pub mod TypeNumbers
 pub mod Opened
+pub mod ViewLaws

@@ -16,7 +16,8 @@ impl Types {
     /// type, or takes more than 1,073,741,824 bytes.
     pub fn size(&self, id: TypeId) -> Option<u64>
         requires { tables.IsId self.now id }
-        ensures { result ≡ layouts.size_of self.now (tables.type_of self.now id) }
+        ensures size { result ≡ layouts.size_of self.now (tables.type_of self.now id) }
+        ensures positive { IfSome result (λ size. 0 < size) }
     {
         let layout = self.layout(id)?;
         Some(layout.size)

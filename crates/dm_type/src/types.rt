@@ -1,6 +1,6 @@
 //! The types of a translation unit by number.
 
-ghost use Rattle.std.specs.Prelude.{◌≡◌, ◌<◌, ◌≤◌, ℕ, [], ◌≢◌, None, Some, All, length, is_some, IsSome, IsOk, slice_get, slice_index_or, IfOk, IfSome, OnOk, OnErr};
+ghost use Rattle.std.specs.Prelude.{◌≡◌, ◌<◌, ◌≤◌, ℕ, [], ◌≢◌, None, Some, All, length, is_some, IsOk, slice_get, slice_index_or, IfOk, IfSome, OnOk, OnErr};
 ghost use Rattle.std.specs.Option.{option_copied};
 ghost use Rattle.dm_type.specs.Tables as tables;
 ghost use Rattle.dm_type.specs.Layouts as layouts;
@@ -210,6 +210,13 @@ impl Types {
         self.parts.get(id.index()).copied().unwrap_or(0)
     }
 
+    /// How many structs there are.
+    pub fn struct_count(&self) -> usize
+        ensures { result ≡ length self.now.structs }
+    {
+        self.structs.len()
+    }
+
     /// A struct of which nothing is known but its tag, and its number. After an `Err` nothing is changed.
     pub fn new_struct(&mut self, tag: Option<Text>) -> Result<u32, Memory>
         requires { length self.old.structs < 4294967295 }
@@ -228,7 +235,6 @@ impl Types {
         requires unset { tables.members_of self.old number ≡ None }
         requires some { members ≢ [] }
         requires types { All (λ member. tables.IsId self.old member.kind) members }
-        requires sizes { All (λ member. IsSome (layouts.size_of self.old (tables.type_of self.old member.kind))) members }
         ensures always { IsOk result }
         ensures members { self.new ≡ tables.with_content self.old number (layouts.contained self.old members) }
     {
