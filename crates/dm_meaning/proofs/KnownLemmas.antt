@@ -18,7 +18,6 @@ use Rattle.dm_meaning.specs.Steps.{opened, lacks_value, gone_back, handed_back, 
 use Rattle.dm_meaning.specs.Units.{static_numbers, Begins}
 use Rattle.dm_meaning.specs.Called.{is_static_number}
 use Rattle.dm_meaning.proofs.AmongLemmas.{among-map_from}
-use Rattle.dm_meaning.proofs.GrowLemmas.{equal_is, differ_is}
 use Rattle.dm_meaning.proofs.OptionLemmas.{none_is_some}
 use Rattle.dm_meaning.proofs.RunLemmas.{renamed_objects, object_renamed}
 use Rattle.dm_meaning.proofs.StateLemmas.{from_steps}
@@ -143,10 +142,3 @@ pub same_static : (rename : ℕ → ℕ) → ((c d : ℕ) → rename c ≡ renam
     → object_named (renamed_objects rename statics ++ own) (rename d) ≡ object_named (statics ++ others) d
 same_static rename injective statics own others d h =
     found_first (renamed_objects rename statics) own (rename d) h.0 (object_renamed rename injective statics d ∙ h.1) ∙ sym (found_first statics others d h.0 h.1)
-
--- another number names the frame's own object
-pub own_named : (rename : ℕ → ℕ) (statics : Objects) (p n : ℕ) → ((d : ℕ) → rename d ≡ p → ⊥) → object_named (renamed_objects rename statics ++ (p, n) ∷ []) p ≡ Some n
-own_named rename [] p n own = ap (λ b. if b then Some n else None) (equal_is p p refl)
-own_named rename (entry ∷ entries) p n own =
-    ap (λ b. if b then Some entry.1 else object_named (renamed_objects rename entries ++ (p, n) ∷ []) p) (differ_is (rename entry.0) p (own entry.0))
-    ∙ own_named rename entries p n own

@@ -13,12 +13,8 @@ mod LifeLemmas
 mod UnitLemmas
 mod PrimLemmas
 mod FewerLemmas
-mod CallRunLemmas
-mod CallStatementLemmas
 mod YieldLemmas
-mod CallStateLemmas
 mod StaticLemmas
-mod CallStartLemmas
 mod CallExample
 mod GrowLemmas
 mod ChangeLemmas
@@ -27,9 +23,13 @@ mod SpareStateLemmas
 mod SetLemmas
 mod PassRunLemmas
 mod PassStatementLemmas
-mod ReadLemmas
 mod PassStateLemmas
 mod PassRefineLemmas
 mod KnownLemmas
 mod PassUnitLemmas
 mod LikenessLemmas
+mod StandLemmas
+mod ShrinkLemmas
+mod MatchLemmas
+mod EntryLemmas
+mod CallInstanceLemmas

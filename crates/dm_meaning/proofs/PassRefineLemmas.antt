@@ -1,6 +1,6 @@
--- The beginnings of runs of two programs of which one calls the added function with an argument agree, and the old program needs none of the
--- parameter's objects: so the new program refines the old one.
-use Rattle.std.specs.Prelude.{◌≡◌, refl, ◌⊎◌, ℕ, suc, zero, ◌+◌, ◌≤◌, Bool, true, false, List, [], ◌∷◌, map, length, Option, Some, None, if◌then◌else◌}
+-- The beginnings of runs of two programs of which one calls the added function with arguments agree, and the old program needs none of the
+-- parameters' objects: so the new program refines the old one.
+use Rattle.std.specs.Prelude.{◌≡◌, refl, ◌⊎◌, ℕ, suc, zero, ◌+◌, ◌*◌, ◌≤◌, Bool, true, false, List, [], ◌∷◌, map, length, Option, Some, None, if◌then◌else◌}
 use Rattle.std.proofs.Common.{arith, ap, sym, ◌∙◌, subst, inl, inr}
 use Rattle.dm_token.specs.declared.place.Place.{Place}
 use Rattle.dm_meaning.specs.declared.cause.Cause.{Cause}
@@ -8,7 +8,7 @@ use Rattle.dm_meaning.specs.Machines.{undefined, Goes}
 use Rattle.dm_meaning.specs.Refinement.{Refines}
 use Rattle.dm_meaning.specs.Simulation.{GoesWrong, Meets, IsSimulation, simulated}
 use Rattle.dm_meaning.specs.Objects.{all_zero}
-use Rattle.dm_meaning.specs.Memory.{Memory, Block, look_up, new_block, killed}
+use Rattle.dm_meaning.specs.Memory.{Memory, new_block, killed}
 use Rattle.dm_meaning.specs.Programs.{Definition, Program, layout, declaration_of}
 use Rattle.dm_meaning.specs.Operations.{Objects}
 use Rattle.dm_meaning.specs.States.{State}
@@ -17,9 +17,9 @@ use Rattle.dm_meaning.specs.Steps.{opened_frame, opened_memory, is_main, Step}
 use Rattle.dm_meaning.specs.Units.{static_numbers, statics_memory, argv_kind, arguments_for, start, main_in, main_of, Begins, machine_of}
 use Rattle.dm_meaning.specs.Replaced.{Zipped, StaticAgrees, IsReplacement}
 use Rattle.dm_meaning.specs.Called.{Called, new_of, statics_of}
-use Rattle.dm_meaning.specs.CalledWith.{DefinitionAgrees, FunctionsAgree, IsCallingWith}
+use Rattle.dm_meaning.specs.CalledWithAll.{DefinitionAgrees, FunctionsAgree, IsCallingWithAll}
 use Rattle.dm_meaning.specs.Extending.{HasAll}
-use Rattle.dm_meaning.specs.MoreObjects.{IsSettled, Grown, with_memory, Spared}
+use Rattle.dm_meaning.specs.MoreObjects.{IsSettled, with_memory, Spared}
 use Rattle.dm_meaning.proofs.OptionLemmas.{none_is_some, some_is_some}
 use Rattle.dm_meaning.proofs.KnownLemmas.{AreKnown, begins_known, known_later}
 use Rattle.dm_meaning.proofs.RunLemmas.{OptionAgrees, renamed_objects}
@@ -27,12 +27,11 @@ use Rattle.dm_meaning.proofs.StartLemmas as plain
 use Rattle.dm_meaning.proofs.StaticLemmas.{statics_memory_same}
 use Rattle.dm_meaning.proofs.LikenessLemmas.{unfolded_agree}
 use Rattle.dm_meaning.proofs.PassStatementLemmas.{likeness}
-use Rattle.dm_meaning.proofs.GrowLemmas.{equal_is, look_added, look_beside}
 use Rattle.dm_meaning.proofs.SpareStateLemmas.{unfolded_settled, spared_steps, settled_beginnings}
-use Rattle.dm_meaning.proofs.ReadLemmas.{parameter_block}
-use Rattle.dm_meaning.proofs.PassStateLemmas.{Spare, StateAgrees, Related, IsOther, AllSpare, Met, same_main, frame_objects, frame_tasks, frame_memory, step_met}
+use Rattle.dm_meaning.proofs.EntryLemmas.{with_entries, objects_in, AllSpare, kept, has_entered, spare_entered, has_left, spare_left}
+use Rattle.dm_meaning.proofs.PassStateLemmas.{Spare, flat, size, StateAgrees, Related, Met, same_main, frame_objects, frame_tasks, frame_memory, step_met}
 
-module _ (change : Called) (p : ℕ) (calling : IsCallingWith change p) where
+module _ (change : Called) (calling : IsCallingWithAll change) where
   -- ---- objects of static storage duration
 
   same_statics : IsReplacement (statics_of change)
@@ -59,19 +58,19 @@ module _ (change : Called) (p : ℕ) (calling : IsCallingWith change p) where
 
   -- ---- main
 
-  by_name : (f g : Definition) (one other : Option Definition) → DefinitionAgrees change p f g → OptionAgrees (DefinitionAgrees change p) one other
-      → OptionAgrees (DefinitionAgrees change p) (if is_main (declaration_of (new_of change) f.function) then Some f else one) (if is_main (declaration_of change.old g.function) then Some g else other)
+  by_name : (f g : Definition) (one other : Option Definition) → DefinitionAgrees change f g → OptionAgrees (DefinitionAgrees change) one other
+      → OptionAgrees (DefinitionAgrees change) (if is_main (declaration_of (new_of change) f.function) then Some f else one) (if is_main (declaration_of change.old g.function) then Some g else other)
   by_name f g one other h k =
       let same : is_main (declaration_of (new_of change) f.function) ≡ is_main (declaration_of change.old g.function) =
-      ap (λ d. is_main (declaration_of (new_of change) d)) h.0 ∙ same_main change p calling g.function in
-      subst (λ b. OptionAgrees (DefinitionAgrees change p) (if b then Some f else one) (if is_main (declaration_of change.old g.function) then Some g else other)) (sym same)
+      ap (λ d. is_main (declaration_of (new_of change) d)) h.0 ∙ same_main change calling g.function in
+      subst (λ b. OptionAgrees (DefinitionAgrees change) (if b then Some f else one) (if is_main (declaration_of change.old g.function) then Some g else other)) (sym same)
       (by_bool (is_main (declaration_of change.old g.function)))
     where
-      by_bool : (b : Bool) → OptionAgrees (DefinitionAgrees change p) (if b then Some f else one) (if b then Some g else other)
+      by_bool : (b : Bool) → OptionAgrees (DefinitionAgrees change) (if b then Some f else one) (if b then Some g else other)
       by_bool true = h
       by_bool false = k
 
-  zipped_main : (fs gs : List Definition) → Zipped (DefinitionAgrees change p) fs gs → OptionAgrees (DefinitionAgrees change p) (main_in (new_of change) fs) (main_in change.old gs)
+  zipped_main : (fs gs : List Definition) → Zipped (DefinitionAgrees change) fs gs → OptionAgrees (DefinitionAgrees change) (main_in (new_of change) fs) (main_in change.old gs)
   zipped_main [] [] h = tt
   zipped_main [] (g ∷ gs) h = absurd h
   zipped_main (f ∷ fs) [] h = absurd h
@@ -82,21 +81,21 @@ module _ (change : Called) (p : ℕ) (calling : IsCallingWith change p) where
   passed_over f fs e =
       ap (λ b. if b then Some f else main_in (new_of change) fs) (ap (λ (g : Definition). is_main (declaration_of (new_of change) g.function)) e ∙ calling.not_main)
 
-  functions_main : (fs gs : List Definition) → FunctionsAgree change p fs gs → OptionAgrees (DefinitionAgrees change p) (main_in (new_of change) fs) (main_in change.old gs)
+  functions_main : (fs gs : List Definition) → FunctionsAgree change fs gs → OptionAgrees (DefinitionAgrees change) (main_in (new_of change) fs) (main_in change.old gs)
   functions_main [] gs h = absurd h
-  functions_main (f ∷ fs) [] h = subst (λ o. OptionAgrees (DefinitionAgrees change p) o None) (sym (passed_over f fs h.0 ∙ ap (main_in (new_of change)) h.1)) tt
+  functions_main (f ∷ fs) [] h = subst (λ o. OptionAgrees (DefinitionAgrees change) o None) (sym (passed_over f fs h.0 ∙ ap (main_in (new_of change)) h.1)) tt
   functions_main (f ∷ fs) (g ∷ gs) (inl h) =
-      subst (λ o. OptionAgrees (DefinitionAgrees change p) o (main_in change.old (g ∷ gs))) (sym (passed_over f fs h.0)) (zipped_main fs (g ∷ gs) h.1)
+      subst (λ o. OptionAgrees (DefinitionAgrees change) o (main_in change.old (g ∷ gs))) (sym (passed_over f fs h.0)) (zipped_main fs (g ∷ gs) h.1)
   functions_main (f ∷ fs) (g ∷ gs) (inr h) = by_name f g (main_in (new_of change) fs) (main_in change.old gs) h.0 (functions_main fs gs h.1)
 
-  other_main : (one other : Option Definition) (main : Definition) → OptionAgrees (DefinitionAgrees change p) one other → one ≡ Some main → (m : Definition) × (other ≡ Some m) × DefinitionAgrees change p main m
+  other_main : (one other : Option Definition) (main : Definition) → OptionAgrees (DefinitionAgrees change) one other → one ≡ Some main → (m : Definition) × (other ≡ Some m) × DefinitionAgrees change main m
   other_main None other main h e = absurd (none_is_some main e)
   other_main (Some one) None main h e = absurd h
-  other_main (Some one) (Some other) main h e = (other, refl, subst (λ d. DefinitionAgrees change p d other) (some_is_some one main e) h)
+  other_main (Some one) (Some other) main h e = (other, refl, subst (λ d. DefinitionAgrees change d other) (some_is_some one main e) h)
 
   -- ---- beginnings
 
-  start_agrees : (names : ℕ → ℕ) (main other : Definition) (input : List ℕ) → DefinitionAgrees change p main other → StateAgrees change p [] (start names (new_of change) main input) (start names change.old other input)
+  start_agrees : (names : ℕ → ℕ) (main other : Definition) (input : List ℕ) → DefinitionAgrees change main other → StateAgrees change [] (start names (new_of change) main input) (start names change.old other input)
   start_agrees names main other input h =
       let count = same_count in
       let argv_block = record (new_block (layout change.old) argv_kind) { contents = all_zero (layout change.old) argv_kind } in
@@ -106,8 +105,8 @@ module _ (change : Called) (p : ℕ) (calling : IsCallingWith change p) where
         function = h.0;
         objects =
             ap (λ n. (opened_frame (new_of change) (λ i. names (suc n + i)) main).objects) count
-            ∙ frame_objects change p calling (λ i. names (suc (length change.old.statics) + i)) main other h;
-        tasks = unfolded_agree change (likeness change p calling) _ _ (frame_tasks change p calling (λ i. names (suc (length change.old.statics) + i)) main other h);
+            ∙ frame_objects change calling (λ i. names (suc (length change.old.statics) + i)) main other h;
+        tasks = unfolded_agree change (likeness change calling) _ _ (frame_tasks change calling (λ i. names (suc (length change.old.statics) + i)) main other h);
         callers = tt;
         statics = statics_agree names;
         world =
@@ -115,71 +114,28 @@ module _ (change : Called) (p : ℕ) (calling : IsCallingWith change p) where
             ∙ ap (λ m. record { memory = opened_memory (new_of change) (λ i. names (suc (length change.old.statics) + i)) main (arguments_for (names (length change.old.statics)) main.parameters) ((names (length change.old.statics), argv_block) ∷ m); input = input; output = [] }) (memory_agrees names)
             ∙ ap (λ ps. record { memory = opened_memory (new_of change) (λ i. names (suc (length change.old.statics) + i)) main (arguments_for (names (length change.old.statics)) ps) ((names (length change.old.statics), argv_block) ∷ statics_memory change.old names (old_statics names)); input = input; output = [] }) h.1
             ∙ ap (λ vs. record { memory = opened_memory (new_of change) (λ i. names (suc (length change.old.statics) + i)) main vs ((names (length change.old.statics), argv_block) ∷ statics_memory change.old names (old_statics names)); input = input; output = [] }) (arguments_agree (names (length change.old.statics)) other.parameters)
-            ∙ ap (λ m. record { memory = m; input = input; output = [] }) (frame_memory change p calling (λ i. names (suc (length change.old.statics) + i)) main other (arguments_for (names (length change.old.statics)) other.parameters) ((names (length change.old.statics), argv_block) ∷ statics_memory change.old names (old_statics names)) h);
+            ∙ ap (λ m. record { memory = m; input = input; output = [] }) (frame_memory change calling (λ i. names (suc (length change.old.statics) + i)) main other (arguments_for (names (length change.old.statics)) other.parameters) ((names (length change.old.statics), argv_block) ∷ statics_memory change.old names (old_statics names)) h);
       }
 
-  begins_agrees : (input : List ℕ) (state : State) → Begins (new_of change) input state → (other : State) × Begins change.old input other × StateAgrees change p [] state other
+  begins_agrees : (input : List ℕ) (state : State) → Begins (new_of change) input state → (other : State) × Begins change.old input other × StateAgrees change [] state other
   begins_agrees input state (names, fresh, main, is_main_here, e) =
       let found = other_main (main_of (new_of change)) (main_of change.old) main (functions_main change.functions change.old.functions calling.functions) is_main_here in (
         start names change.old found.0 input,
         (names, fresh, found.0, found.1, refl),
-        subst (λ s. StateAgrees change p [] s (start names change.old found.0 input)) (sym e) (start_agrees names main found.0 input found.2),
+        subst (λ s. StateAgrees change [] s (start names change.old found.0 input)) (sym e) (start_agrees names main found.0 input found.2),
       )
 
-  -- ---- the objects of the parameter
+  -- ---- the objects of the parameters
 
   -- the old program stands at a state without them
   pub record Relation (w : ℕ) (state other : State) : Type 0 where
     pub more : Memory
     pub spare : Spare
-    pub related : Related change p w spare state (with_memory other more)
+    pub related : Related change w spare state (with_memory other more)
     pub settled : IsSettled other
     pub has : HasAll more other.world.memory
     pub known : AreKnown change.old other.statics
-    pub spares : AllSpare change p more other.world.memory spare
-
-  none_below : (more memory : Memory) (n : ℕ) → HasAll more memory → look_up more n ≡ None → look_up memory n ≡ None
-  none_below more memory n has e = by_case (look_up memory n) refl
-    where
-      by_case : (o : Option Block) → look_up memory n ≡ o → look_up memory n ≡ None
-      by_case None f = f
-      by_case (Some block) f = absurd (none_is_some block (sym e ∙ has n block f))
-
-  kept : (a b c d : Memory) → Grown a b c d → (spare : Spare) → AllSpare change p a b spare → AllSpare change p c d spare
-  kept a b c d grown [] h = tt
-  kept a b c d grown (first ∷ rest) h = (grown.spare first.0 (parameter_block change p first.1) h.0, h.1, kept a b c d grown rest h.2)
-
-  -- one more
-  others_apart : (more memory : Memory) (n : ℕ) → look_up more n ≡ None → (spare : Spare) → AllSpare change p more memory spare → IsOther n spare
-  others_apart more memory n new [] h = tt
-  others_apart more memory n new (first ∷ rest) h =
-      ((λ e. none_is_some (parameter_block change p first.1) (sym new ∙ ap (look_up more) (sym e) ∙ h.0.0)), others_apart more memory n new rest h.2)
-
-  added_apart : (more memory : Memory) (n : ℕ) (block : Block) → (spare : Spare) → IsOther n spare → AllSpare change p more memory spare → AllSpare change p ((n, block) ∷ more) memory spare
-  added_apart more memory n block [] o h = tt
-  added_apart more memory n block (first ∷ rest) o h = (
-    (look_added n block more first.0 (λ e. o.0 (sym e)) ∙ h.0.0, h.0.1),
-    h.1,
-    added_apart more memory n block rest o.1 h.2,
-  )
-
-  has_one_more : (more memory : Memory) (n : ℕ) (block : Block) → HasAll more memory → look_up more n ≡ None → HasAll ((n, block) ∷ more) memory
-  has_one_more more memory n block has new m found e = look_added n block more m (λ f. none_is_some found (sym new ∙ ap (look_up more) f ∙ has m found e)) ∙ has m found e
-
-  -- one less
-  abbrev end : Block → Block
-  end block = record block { alive = false }
-
-  has_one_less : (more memory : Memory) (n : ℕ) → HasAll more memory → look_up memory n ≡ None → HasAll (killed (n ∷ []) more) memory
-  has_one_less more memory n has absent m found e = look_beside n end more m (Some found) (λ f. none_is_some found (sym absent ∙ ap (look_up memory) (sym f) ∙ e)) (has m found e)
-
-  killed_apart : (more memory : Memory) (n : ℕ) (spare : Spare) → IsOther n spare → AllSpare change p more memory spare → AllSpare change p (killed (n ∷ []) more) memory spare
-  killed_apart more memory n [] o h = tt
-  killed_apart more memory n (first ∷ rest) o h = (
-    (look_beside n end more first.0 (Some (parameter_block change p first.1)) o.0 h.0.0, h.0.1),
-    h.1,
-    killed_apart more memory n rest o.1 h.2,
-  )
+    pub spares : AllSpare change more other.world.memory (flat spare)
 
   -- ---- the simulation
 
@@ -214,22 +170,25 @@ module _ (change : Called) (p : ℕ) (calling : IsCallingWith change p) where
   Relates : ℕ → State → State → Type 0
   Relates w state other = Relation w state other
 
-  same_standing : (w : ℕ) (spare : Spare) (s t : State) → Related change p w spare s t → s.standing ≡ t.standing
+  same_standing : (w : ℕ) (spare : Spare) (s t : State) → Related change w spare s t → s.standing ≡ t.standing
   same_standing w spare s t (inl h) = h.1.standing
   same_standing w spare s t (inr (first, rest, is, h)) = h.standing
 
-  same_output : (w : ℕ) (spare : Spare) (s t : State) → Related change p w spare s t → t.world.output ≡ s.world.output
+  same_output : (w : ℕ) (spare : Spare) (s t : State) → Related change w spare s t → t.world.output ≡ s.world.output
   same_output w spare s t (inl h) = ap (λ (world : _). world.output) (sym h.1.world)
   same_output w spare s t (inr (first, rest, is, h)) = ap (λ (world : _). world.output) (sym h.world)
 
   Outcome : ℕ → State → State → Type 0
-  Outcome w s' t = GoesWrong (machine_of change.old) t ⊎ Meets (machine_of (new_of change)) (machine_of change.old) Relation 6 w s' t
+  Outcome w s' t = GoesWrong (machine_of change.old) t ⊎ Meets (machine_of (new_of change)) (machine_of change.old) Relation (size change + 4) w s' t
+
+  enough_risen : (n w : ℕ) → n + 4 + 1 ≤ w + (1 + (n + 4)) * 1
+  enough_risen n w = omega arith
 
   stays_met : (w v : ℕ) (s' t : State) → v + 1 ≤ w → Relation v s' t → Outcome w s' t
   unfolding Outcome
   stays_met w v s' t less related = inr (0, v, t, goes_nothing change.old t, omega (arith, less), related)
 
-  met : (w : ℕ) (s' t : State) (more : Memory) (spare : Spare) → IsSettled t → HasAll more t.world.memory → AllSpare change p more t.world.memory spare → AreKnown change.old t.statics → Met change p w spare (with_memory t more) s' → Outcome w s' t
+  met : (w : ℕ) (s' t : State) (more : Memory) (spare : Spare) → IsSettled t → HasAll more t.world.memory → AllSpare change more t.world.memory (flat spare) → AreKnown change.old t.statics → Met change w spare (with_memory t more) s' → Outcome w s' t
   unfolding Outcome
   met w s' t more spare settled has spares known (inl (n, u, goes, cause, place, e)) = inl (wrong_without n change.old more t u settled has goes cause place e)
   met w s' t more spare settled has spares known (inr (inl (last, step, related))) = by_step (spared_steps change.old t last more settled has step)
@@ -239,60 +198,54 @@ module _ (change : Called) (p : ℕ) (calling : IsCallingWith change p) where
       by_step (inr spared) =
           inr (
             1,
-            6,
+            size change + 4,
             spared.next,
             goes_once change.old t spared.next spared.step,
-            omega arith,
+            enough_risen (size change) w,
             record {
               more = spared.after;
               spare = spare;
-              related = subst (Related change p 6 spare s') spared.is related;
+              related = subst (Related change (size change + 4) spare s') spared.is related;
               settled = spared.settled;
               has = spared.grown.has;
               known = known_later change.old t spared.next spared.step known;
-              spares = kept more t.world.memory spared.after spared.next.world.memory spared.grown spare spares;
+              spares = kept change more t.world.memory spared.after spared.next.world.memory spared.grown (flat spare) spares;
             },
           )
   met w s' t more spare settled has spares known (inr (inr (inl (v, less, related)))) =
       stays_met w v s' t less (record { more = more; spare = spare; related = related; settled = settled; has = has; known = known; spares = spares })
   met w s' t more spare settled has spares known (inr (inr (inr (inl h)))) =
-      let block = parameter_block change p h.value in
-      let apart = others_apart more t.world.memory h.n h.fresh spare spares in
       stays_met w h.left s' t h.less (record {
-        more = (h.n, block) ∷ more;
-        spare = (h.n, h.value) ∷ spare;
+        more = with_entries change h.entries more;
+        spare = h.entries ∷ spare;
         related = h.related;
         settled = settled;
-        has = has_one_more more t.world.memory h.n block has h.fresh;
+        has = has_entered change h.entries more t.world.memory h.fresh has;
         known = known;
-        spares = (
-          (ap (λ b. if b then Some block else look_up more h.n) (equal_is h.n h.n refl), none_below more t.world.memory h.n has h.fresh),
-          apart,
-          added_apart more t.world.memory h.n block spare apart spares,
-        );
+        spares = spare_entered change h.entries (flat spare) more t.world.memory h.fresh has spares;
       })
   met w s' t more spare settled has spares known (inr (inr (inr (inr h)))) =
-      let all = subst (AllSpare change p more t.world.memory) h.is spares in
+      let all = subst (λ s. AllSpare change more t.world.memory (flat s)) h.is spares in
       stays_met w h.left s' t h.less (record {
-        more = killed (h.first.0 ∷ []) more;
+        more = killed (map (λ entry. entry.1) (objects_in h.first)) more;
         spare = h.rest;
         related = h.related;
         settled = settled;
-        has = has_one_less more t.world.memory h.first.0 has all.0.1;
+        has = has_left change h.first (flat h.rest) more t.world.memory has all;
         known = known;
-        spares = killed_apart more t.world.memory h.first.0 h.rest all.1 all.2;
+        spares = spare_left change h.first (flat h.rest) more t.world.memory has all;
       })
 
   steps_met : (w : ℕ) (s s' t : State) → Relation w s t → Step (new_of change) s s' → Outcome w s' t
   steps_met w s s' t h step =
       met w s' t h.more h.spare h.settled h.has h.spares h.known
-      (step_met change p calling w h.spare s s' (with_memory t h.more) h.related t.world.memory h.spares
+      (step_met change calling w h.spare s s' (with_memory t h.more) h.related t.world.memory h.spares
       (unfolded_settled t.world.memory t.frame.tasks h.settled.frame.1) h.known step)
 
-  begins_related : (input : List ℕ) (s : State) → Begins (new_of change) input s → (w : ℕ) × (t : State) × (w ≤ 6) × Begins change.old input t × Relation w s t
+  begins_related : (input : List ℕ) (s : State) → Begins (new_of change) input s → (w : ℕ) × (t : State) × (w ≤ size change + 4) × Begins change.old input t × Relation w s t
   begins_related input s b =
       let t = begins_agrees input s b in (
-        6,
+        size change + 4,
         t.0,
         omega arith,
         t.1,
@@ -307,7 +260,7 @@ module _ (change : Called) (p : ℕ) (calling : IsCallingWith change p) where
         },
       )
 
-  simulation : IsSimulation (machine_of (new_of change)) (machine_of change.old) Relates 6 6
+  simulation : IsSimulation (machine_of (new_of change)) (machine_of change.old) Relates (size change + 4) (size change + 4)
   unfolding Relates Outcome
   simulation = record {
     begins = begins_related;
@@ -317,6 +270,6 @@ module _ (change : Called) (p : ℕ) (calling : IsCallingWith change p) where
     wrong = λ w s t cause place h e. (0, t, goes_nothing change.old t, cause, place, sym (same_standing w h.spare s (with_memory t h.more) h.related) ∙ e);
   }
 
--- A program that calls the added function with an argument refines the program that has its expression in place, with the argument in it.
-pub called_with_refines : (change : Called) (p : ℕ) → IsCallingWith change p → Refines (machine_of (new_of change)) (machine_of change.old)
-called_with_refines change p calling = simulated (machine_of (new_of change)) (machine_of change.old) (Relates change p calling) 6 6 (simulation change p calling)
+-- A program that calls the added function with arguments refines the program that has its expression in place, with the arguments in it.
+pub called_with_all_refines : (change : Called) → IsCallingWithAll change → Refines (machine_of (new_of change)) (machine_of change.old)
+called_with_all_refines change calling = simulated (machine_of (new_of change)) (machine_of change.old) (Relates change calling) (size change + 4) (size change + 4) (simulation change calling)

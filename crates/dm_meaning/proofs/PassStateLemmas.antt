@@ -1,8 +1,8 @@
--- States of two programs of which one calls the added function with an argument, in one memory, which has the objects of the parameter too,
--- and that each step of the new one is met by a step of the old one, or, where it calls the added function, reads the parameter, or
--- returns, by none.
+-- States of two programs of which one calls the added function with arguments, in one memory, which has the objects of the parameters too,
+-- and that each step of the new one is met by a step of the old one, or, where it calls the added function, reads a parameter, or returns,
+-- by none.
 use Rattle.std.specs.Prelude.{◌≡◌, refl, ◌⊎◌, ℕ, suc, ◌≤◌, ◌+◌, Bool, true, false, List, [], ◌∷◌, ◌++◌, map, length, Option, Some, None, option_map, pos, bytes_eq, codes, if◌then◌else◌}
-use Rattle.std.proofs.Common.{arith, ap, sym, ◌∙◌, subst, inl, inr}
+use Rattle.std.proofs.Common.{arith, true≢false, ap, sym, ◌∙◌, subst, inl, inr}
 use Rattle.dm_token.specs.declared.place.Place.{Place}
 use Rattle.dm_int.specs.declared.Kind.TheVariants.{Int}
 use Rattle.dm_type.specs.CTypes.{CType}
@@ -18,8 +18,8 @@ use Rattle.dm_meaning.specs.Values.{At, numbered, Value, integer_value, unset, o
 use Rattle.dm_meaning.specs.Memory.{Memory, look_up, new_block, killed, IsFresh}
 use Rattle.dm_meaning.specs.Causes.{is_unset}
 use Rattle.dm_meaning.specs.Programs.{Program, Definition, layout, declaration_of, definition_of}
-use Rattle.dm_meaning.specs.Operations.{of_value, World, Objects, object_named, whole}
-use Rattle.dm_meaning.specs.Running.{Run, done, to_do, Hole, here, within, begun, filled_in, IsOpen, hole_in, locks_in}
+use Rattle.dm_meaning.specs.Operations.{of_value, World, Objects, Scene, object_named, whole}
+use Rattle.dm_meaning.specs.Running.{Run, done, to_do, Hole, begun, filled_in, IsOpen, hole_in, locks_in}
 use Rattle.dm_meaning.specs.Expressions.{Move, goes, calls, fails, exits, lifted, value_of, moves}
 use Rattle.dm_meaning.specs.States.{Use, returns, Task, begins, declares, initials, evaluates, again, tests, ends, ends_switch, leaves, skips, hands_back, Caller, State}
 use Rattle.dm_meaning.specs.Statements.{place_of, Turned, onward, refused, declared_in, type_declared, named_from, made_from, unfolded, concluded, begin_statement, begin_declarator, begin_initialiser, items_tasks, ended, after_break, after_continue}
@@ -27,46 +27,56 @@ use Rattle.dm_meaning.specs.Steps.{given_from, opened_frame, opened_memory, open
 use Rattle.dm_meaning.specs.Units.{machine_of}
 use Rattle.dm_meaning.specs.Replaced.{renamed_declarator, Zipped, facts_of}
 use Rattle.dm_meaning.specs.Called.{Called, new_of}
-use Rattle.dm_meaning.specs.CalledWith.{Holds, Agrees, DefinitionAgrees, IsCallingWith}
+use Rattle.dm_meaning.specs.CalledWithAll.{given, Agrees, DefinitionAgrees, IsCallingWithAll}
 use Rattle.dm_meaning.specs.Extending.{AreAmong}
-use Rattle.dm_meaning.specs.MoreObjects.{TasksSettled, IsSpare, with_memory}
+use Rattle.dm_meaning.specs.MoreObjects.{TasksSettled, with_memory}
 use Rattle.dm_meaning.proofs.AmongLemmas.{among-map, among-map_from}
 use Rattle.dm_meaning.proofs.MoveLemmas.{IsToDo, move_lifts, locks_lift}
 use Rattle.dm_meaning.proofs.RunLemmas.{OptionAgrees, renamed_objects, object_renamed}
-use Rattle.dm_meaning.proofs.PassRunLemmas.{hole_of, hole_to_do, RunAgrees, HoleAgrees, MoveAgrees, RunMoveAgrees, definition_agrees, added_found, filled_agrees, filled_twice, fewer_locks, Entered, weakened, only_left, run_matched}
-use Rattle.dm_meaning.proofs.ReadLemmas.{Reads, HoleReads, begun_reads, filled_reads, AfterRead, parameter_block, unlocked, fewer_read, reads_matched}
+use Rattle.dm_meaning.proofs.MatchLemmas.{parameter_block, unlocked, filled_twice}
+use Rattle.dm_meaning.proofs.ShrinkLemmas.{left_in, hole_left, Leaves as LeavesLess, filled_left, move_leaves}
+use Rattle.dm_meaning.proofs.StandLemmas.{run_list}
+use Rattle.dm_meaning.proofs.PassRunLemmas.{Entry, outside, inside, inside_not_outside, RunAgrees, HoleAgrees, RunMoveAgrees, definition_agrees, added_found, filled_agrees, fewer_locks, Entered, IsReady, begun_reads, run_matched}
+use Rattle.dm_meaning.proofs.EntryLemmas.{entries_from, objects_in, with_entries, named_entries, given_entries, entry_from, AreNamed, entries_named, own_named, come_set, all_stored, AreFresh, entries_fresh, AllSpare, spare_entry}
 use Rattle.dm_meaning.proofs.YieldLemmas.{begun_yields, Yields, HoleYields, MoveYields, filled_yields, move_yields_on}
 use Rattle.dm_meaning.proofs.StatementLemmas.{map_append, numbers_renamed, named_from_renamed, length_renamed}
 use Rattle.dm_meaning.proofs.LikenessLemmas.{listed_agrees, same_type, declared_in_agrees, made_from_agrees, items_agree, statement_begins, declarator_begins, initialiser_begins, conclusion_agrees, unfolded_agree, ended_agrees, break_agrees, continue_agrees}
 use Rattle.dm_meaning.proofs.PassStatementLemmas.{UseAgrees, TasksAgree, TurnedAgrees, likeness, alike_agreeing}
 use Rattle.dm_meaning.proofs.OptionLemmas.{none_is_some, some_is_some}
-use Rattle.dm_meaning.proofs.KnownLemmas.{AreKnown, same_static, own_named}
+use Rattle.dm_meaning.proofs.KnownLemmas.{AreKnown, same_static}
 
 -- ---- how states agree
 
-pub record CallerAgrees (change : Called) (p : ℕ) (caller other : Caller) : Type 0 where
+pub record CallerAgrees (change : Called) (caller other : Caller) : Type 0 where
   pub function : caller.frame.function ≡ change.rename other.frame.function
   pub objects : caller.frame.objects ≡ renamed_objects change.rename other.frame.objects
-  pub tasks : TasksAgree change p caller.frame.tasks other.frame.tasks
+  pub tasks : TasksAgree change caller.frame.tasks other.frame.tasks
   pub kind : caller.kind ≡ other.kind
-  pub hole : HoleAgrees change p false caller.kind caller.hole other.hole
-  pub use_of : UseAgrees change p caller.use_of other.use_of
+  pub hole : HoleAgrees change outside caller.kind caller.hole other.hole
+  pub use_of : UseAgrees change caller.use_of other.use_of
 
--- the parameter's objects of the added function's frames, from the last, with their values
+-- the parameters of the added function's frames, from the last
 abbrev pub Spare : Type 0
-Spare = List (ℕ × Value)
+Spare = List (List Entry)
 
--- the expression of the added function under evaluation, before the parameter is read or after
-abbrev pub EvalAgrees : Called → ℕ → ℕ → Value → Run → Run → Type 0
-EvalAgrees change p n value run other = ((named : Bool) × Reads change p n value named run other × IsToDo other) ⊎ RunAgrees change p true run other
+abbrev pub flat : Spare → List Entry
+flat [] = []
+flat (first ∷ rest) = first ++ flat rest
 
-abbrev pub HoleEval : Called → ℕ → ℕ → Value → CType → Hole → Hole → Type 0
-HoleEval change p n value filler hole other = ((named : Bool) × HoleReads change p n value named filler hole other) ⊎ HoleAgrees change p true filler hole other
+-- the added function's parameters have names and values, and the names are others than the program's
+pub record AreHeld (change : Called) (entries : List Entry) : Type 0 where
+  pub named : AreNamed entries
+  pub set : (entry : Entry) → IsAmong entry entries → is_unset entry.value ≡ false
+  pub own : (entry : Entry) → IsAmong entry entries → (d : ℕ) → change.rename d ≡ entry.parameter → ⊥
+
+-- what the added function's expression has to do at most
+abbrev pub size : Called → ℕ
+size change = left_in (begun change.body)
 
 -- The added function waits for one that it has called, and the caller of the added function waits for that: in the old program there is one
 -- caller, in whose expression the added function's expression stands.
-pub record NestedAgrees (change : Called) (p n : ℕ) (value : Value) (added caller other : Caller) : Type 0 where
-  pub objects : added.frame.objects ≡ (p, n) ∷ []
+pub record NestedAgrees (change : Called) (entries : List Entry) (added caller other : Caller) : Type 0 where
+  pub objects : added.frame.objects ≡ objects_in entries
   pub tasks : added.frame.tasks ≡ []
   pub use_of : added.use_of ≡ returns
   pub kind : added.kind ≡ other.kind
@@ -74,80 +84,73 @@ pub record NestedAgrees (change : Called) (p n : ℕ) (value : Value) (added cal
   pub inner : Hole
   pub hole : other.hole ≡ hole_in outer inner
   pub opened : IsOpen outer
-  pub inside : HoleEval change p n value added.kind added.hole inner
-  pub set : is_unset value ≡ false
-  pub outside : HoleAgrees change p false caller.kind caller.hole outer
+  pub agrees : HoleAgrees change (inside entries) added.kind added.hole inner
+  pub few : hole_left added.hole ≤ size change
+  pub held : AreHeld change entries
+  pub beyond : HoleAgrees change outside caller.kind caller.hole outer
   pub yields : HoleYields caller.kind added.kind added.hole
   pub caller_function : caller.frame.function ≡ change.rename other.frame.function
   pub caller_objects : caller.frame.objects ≡ renamed_objects change.rename other.frame.objects
-  pub caller_tasks : TasksAgree change p caller.frame.tasks other.frame.tasks
-  pub caller_use : UseAgrees change p caller.use_of other.use_of
+  pub caller_tasks : TasksAgree change caller.frame.tasks other.frame.tasks
+  pub caller_use : UseAgrees change caller.use_of other.use_of
 
-abbrev pub CallersAgree : Called → ℕ → Spare → List Caller → List Caller → Type 0
-CallersAgree change p spare [] [] = Unit {0}
-CallersAgree change p spare (caller ∷ []) (other ∷ others) = CallerAgrees change p caller other × CallersAgree change p spare [] others
-CallersAgree change p spare (caller ∷ second ∷ callers) (other ∷ others) =
-    (CallerAgrees change p caller other × CallersAgree change p spare (second ∷ callers) others)
-    ⊎ ((first : ℕ × Value) × (rest : Spare) × (spare ≡ first ∷ rest) × NestedAgrees change p first.0 first.1 caller second other × CallersAgree change p rest callers others)
-CallersAgree change p spare callers others = ⊥
+abbrev pub CallersAgree : Called → Spare → List Caller → List Caller → Type 0
+CallersAgree change spare [] [] = Unit {0}
+CallersAgree change spare (caller ∷ []) (other ∷ others) = CallerAgrees change caller other × CallersAgree change spare [] others
+CallersAgree change spare (caller ∷ second ∷ callers) (other ∷ others) =
+    (CallerAgrees change caller other × CallersAgree change spare (second ∷ callers) others)
+    ⊎ ((first : List Entry) × (rest : Spare) × (spare ≡ first ∷ rest) × NestedAgrees change first caller second other × CallersAgree change rest callers others)
+CallersAgree change spare callers others = ⊥
 
-pub record StateAgrees (change : Called) (p : ℕ) (spare : Spare) (state other : State) : Type 0 where
+pub record StateAgrees (change : Called) (spare : Spare) (state other : State) : Type 0 where
   pub standing : state.standing ≡ other.standing
   pub function : state.frame.function ≡ change.rename other.frame.function
   pub objects : state.frame.objects ≡ renamed_objects change.rename other.frame.objects
-  pub tasks : TasksAgree change p (unfolded state.frame.tasks) (unfolded other.frame.tasks)
-  pub callers : CallersAgree change p spare state.callers other.callers
+  pub tasks : TasksAgree change (unfolded state.frame.tasks) (unfolded other.frame.tasks)
+  pub callers : CallersAgree change spare state.callers other.callers
   pub statics : state.statics ≡ renamed_objects change.rename other.statics
   pub world : state.world ≡ other.world
 
 -- ---- states in which the added function runs
 
 -- its body begins
-pub record Beginning (change : Called) (p w : ℕ) (value : Value) (tasks : List Task) (kind : CType) (run : Run) : Type 0 where
+pub record Beginning (change : Called) (w : ℕ) (entries : List Entry) (tasks : List Task) (kind : CType) (run : Run) : Type 0 where
   pub return_kind : CType
   pub return_spans : Spans
   pub is : tasks ≡ begins (node return return_kind return_spans (more_trees change.body no_trees)) ∷ []
-  pub entered : Entered change p value kind run
-  pub left : 3 ≤ w
+  pub agrees : RunAgrees change (inside entries) (begun change.body) run
+  pub typed : kind ≡ kind_of change.body
+  pub left : size change + 1 ≤ w
 
 -- how many steps the new program may take before the old one has to move
-abbrev pub Left : ℕ → Run → Type 0
-Left w (done kind result locks) = 6 ≤ w
-Left w (to_do doing kind place parts) = Unit {0}
-
-abbrev pub Stage : ℕ → Bool → Type 0
-Stage w false = 2 ≤ w
-Stage w true = 1 ≤ w
-
--- its expression is under evaluation, and the parameter isn't read yet
-pub record Reading (change : Called) (p w n : ℕ) (value : Value) (now run : Run) : Type 0 where
-  pub named : Bool
-  pub reads : Reads change p n value named now run
-  pub open_still : IsToDo run
-  pub stage : Stage w named
+abbrev pub Left : Called → ℕ → Run → Type 0
+Left change w (done kind result locks) = size change + 4 ≤ w
+Left change w (to_do doing kind place parts) = left_in (to_do doing kind place parts) ≤ w
 
 -- its expression is under evaluation
-pub record Evaluating (change : Called) (p w n : ℕ) (value : Value) (tasks : List Task) (kind : CType) (run : Run) : Type 0 where
+pub record Evaluating (change : Called) (w : ℕ) (entries : List Entry) (tasks : List Task) (kind : CType) (run : Run) : Type 0 where
   pub place : Place
   pub now : Run
   pub is : tasks ≡ evaluates place now returns ∷ []
-  pub agrees : Reading change p w n value now run ⊎ (RunAgrees change p true now run × Left w now)
+  pub agrees : RunAgrees change (inside entries) now run
+  pub few : left_in now ≤ size change
+  pub left : Left change w now
   pub yields : Yields kind now
 
 -- it returns the value
-pub record Returning (w : ℕ) (tasks : List Task) (kind : CType) (run : Run) : Type 0 where
+pub record Returning (change : Called) (w : ℕ) (tasks : List Task) (kind : CType) (run : Run) : Type 0 where
   pub value : Value
   pub locks : List At
   pub is : tasks ≡ hands_back value ∷ []
   pub result : run ≡ done kind (of_value value) locks
-  pub given : lacks_value kind value ≡ false
-  pub left : 5 ≤ w
+  pub given_value : lacks_value kind value ≡ false
+  pub left : size change + 3 ≤ w
 
-abbrev pub Phase : Called → ℕ → ℕ → ℕ → Value → List Task → CType → Run → Type 0
-Phase change p w n value tasks kind run = Beginning change p w value tasks kind run ⊎ (Evaluating change p w n value tasks kind run ⊎ Returning w tasks kind run)
+abbrev pub Phase : Called → ℕ → List Entry → List Task → CType → Run → Type 0
+Phase change w entries tasks kind run = Beginning change w entries tasks kind run ⊎ (Evaluating change w entries tasks kind run ⊎ Returning change w tasks kind run)
 
 -- the caller waits for the added function, and the old program has this tree in place of the call
-pub record Waits (change : Called) (p : ℕ) (spare : Spare) (caller : Caller) (behind : List Caller) (other : State) (run : Run) : Type 0 where
+pub record Waits (change : Called) (spare : Spare) (caller : Caller) (behind : List Caller) (other : State) (run : Run) : Type 0 where
   pub place : Place
   pub hole : Hole
   pub use_of : Use
@@ -156,62 +159,52 @@ pub record Waits (change : Called) (p : ℕ) (spare : Spare) (caller : Caller) (
   pub opened : IsOpen hole
   pub function : caller.frame.function ≡ change.rename other.frame.function
   pub objects : caller.frame.objects ≡ renamed_objects change.rename other.frame.objects
-  pub tasks : TasksAgree change p caller.frame.tasks rest
-  pub holes : HoleAgrees change p false caller.kind caller.hole hole
-  pub uses : UseAgrees change p caller.use_of use_of
-  pub callers : CallersAgree change p spare behind other.callers
+  pub tasks : TasksAgree change caller.frame.tasks rest
+  pub holes : HoleAgrees change outside caller.kind caller.hole hole
+  pub uses : UseAgrees change caller.use_of use_of
+  pub callers : CallersAgree change spare behind other.callers
 
-pub record InsideAgrees (change : Called) (p w n : ℕ) (value : Value) (spare : Spare) (state other : State) : Type 0 where
+pub record InsideAgrees (change : Called) (w : ℕ) (entries : List Entry) (spare : Spare) (state other : State) : Type 0 where
   pub standing : state.standing ≡ other.standing
-  pub objects : state.frame.objects ≡ (p, n) ∷ []
+  pub objects : state.frame.objects ≡ objects_in entries
   pub caller : Caller
   pub others : List Caller
   pub callers : state.callers ≡ caller ∷ others
   pub run : Run
-  pub waits : Waits change p spare caller others other run
-  pub phase : Phase change p w n value state.frame.tasks caller.kind run
-  pub set : is_unset value ≡ false
+  pub waits : Waits change spare caller others other run
+  pub phase : Phase change w entries state.frame.tasks caller.kind run
+  pub held : AreHeld change entries
   pub statics : state.statics ≡ renamed_objects change.rename other.statics
   pub world : state.world ≡ other.world
 
 -- states correspond, where the new program may take w steps more before the old one has to move
-abbrev pub Related : Called → ℕ → ℕ → Spare → State → State → Type 0
-Related change p w spare state other =
-    ((4 ≤ w) × StateAgrees change p spare state other)
-    ⊎ ((first : ℕ × Value) × (rest : Spare) × (spare ≡ first ∷ rest) × InsideAgrees change p w first.0 first.1 rest state other)
+abbrev pub Related : Called → ℕ → Spare → State → State → Type 0
+Related change w spare state other =
+    ((size change + 2 ≤ w) × StateAgrees change spare state other)
+    ⊎ ((first : List Entry) × (rest : Spare) × (spare ≡ first ∷ rest) × InsideAgrees change w first rest state other)
 
-abbrev pub IsOther : ℕ → Spare → Type 0
-IsOther n [] = Unit {0}
-IsOther n (first ∷ rest) = (first.0 ≡ n → ⊥) × IsOther n rest
-
--- the parameter's objects are there, with their values, in the first memory alone
-abbrev pub AllSpare : Called → ℕ → Memory → Memory → Spare → Type 0
-AllSpare change p more memory [] = Unit {0}
-AllSpare change p more memory (first ∷ rest) = IsSpare more memory first.0 (parameter_block change p first.1) × IsOther first.0 rest × AllSpare change p more memory rest
-
--- the parameter's object is made, or dies
-pub record Enters (change : Called) (p w : ℕ) (spare : Spare) (other state : State) : Type 0 where
-  pub n : ℕ
-  pub value : Value
-  pub fresh : look_up other.world.memory n ≡ None
+-- the objects of the parameters are made, or die
+pub record Enters (change : Called) (w : ℕ) (spare : Spare) (other state : State) : Type 0 where
+  pub entries : List Entry
+  pub fresh : AreFresh entries other.world.memory
   pub left : ℕ
   pub less : left + 1 ≤ w
-  pub related : Related change p left ((n, value) ∷ spare) state (with_memory other ((n, parameter_block change p value) ∷ other.world.memory))
+  pub related : Related change left (entries ∷ spare) state (with_memory other (with_entries change entries other.world.memory))
 
-pub record Leaves (change : Called) (p w : ℕ) (spare : Spare) (other state : State) : Type 0 where
-  pub first : ℕ × Value
+pub record Leaves (change : Called) (w : ℕ) (spare : Spare) (other state : State) : Type 0 where
+  pub first : List Entry
   pub rest : Spare
   pub is : spare ≡ first ∷ rest
   pub left : ℕ
   pub less : left + 1 ≤ w
-  pub related : Related change p left rest state (with_memory other (killed (first.0 ∷ []) other.world.memory))
+  pub related : Related change left rest state (with_memory other (killed (map (λ entry. entry.1) (objects_in first)) other.world.memory))
 
 -- the old program goes wrong, or goes on to a state that corresponds, or stays where it is
-abbrev pub Met : Called → ℕ → ℕ → Spare → State → State → Type 0
-Met change p w spare other state =
+abbrev pub Met : Called → ℕ → Spare → State → State → Type 0
+Met change w spare other state =
     GoesWrong (machine_of change.old) other
-    ⊎ (((last : State) × Step change.old other last × Related change p 6 spare state last)
-    ⊎ (((v : ℕ) × (v + 1 ≤ w) × Related change p v spare state other) ⊎ (Enters change p w spare other state ⊎ Leaves change p w spare other state)))
+    ⊎ (((last : State) × Step change.old other last × Related change (size change + 4) spare state last)
+    ⊎ (((v : ℕ) × (v + 1 ≤ w) × Related change v spare state other) ⊎ (Enters change w spare other state ⊎ Leaves change w spare other state)))
 
 -- the state of the new program by that of the old one, but for what is left to do
 abbrev pub built : Called → State → List Task → List Caller → State
@@ -223,8 +216,8 @@ built change other tasks callers = record {
   world = other.world;
 }
 
-is_built : (change : Called) (p : ℕ) (spare : Spare) (state other : State) → StateAgrees change p spare state other → state ≡ built change other state.frame.tasks state.callers
-is_built change p spare state other h = λ i. record {
+is_built : (change : Called) (spare : Spare) (state other : State) → StateAgrees change spare state other → state ≡ built change other state.frame.tasks state.callers
+is_built change spare state other h = λ i. record {
   standing = h.standing i;
   frame = record { function = h.function i; objects = h.objects i; tasks = state.frame.tasks };
   callers = state.callers;
@@ -238,13 +231,21 @@ goes_one : (program : Program) (s t : State) → Step program s t → Goes (mach
 unfolding Goes
 goes_one program s t step = (t, step, refl)
 
-left_of_six : (run : Run) → Left 6 run
-left_of_six (done kind result locks) = omega arith
-left_of_six (to_do doing kind place parts) = tt
+at_least : (n : ℕ) → n ≤ n
+at_least n = omega arith
 
-stage_of_six : (named : Bool) → Stage 6 named
-stage_of_six false = omega arith
-stage_of_six true = omega arith
+left_of_real : (change : Called) (run : Run) → left_in run ≤ size change → Left change (size change + 4) run
+left_of_real change (done kind result locks) h = omega arith
+left_of_real change (to_do doing kind place parts) h = omega (arith, h)
+
+begun_left : (change : Called) (tree : Tree) → Left change (left_in (begun tree)) (begun tree)
+begun_left change (node label kind spans parts) = at_least (left_in (begun (node label kind spans parts)))
+
+less_still : (a b c : ℕ) → a + 1 ≤ b → b ≤ c → a ≤ c
+less_still a b c h k = omega (arith, h, k)
+
+fits : (a b c : ℕ) → a + 1 ≤ b → b ≤ c → a + 1 ≤ c
+fits a b c h k = omega (arith, h, k)
 
 -- a step of an expression is one of its state
 pub step_of_expression : (program : Program) (names : ℕ → ℕ) (state : State) (rest : List Task) (place : Place) (use_of : Use) (run : Run) (m : Move Run Hole)
@@ -268,7 +269,7 @@ unfolding main_fact
 main_is None = refl
 main_is (Some declaration) = refl
 
-module _ (change : Called) (p : ℕ) (calling : IsCallingWith change p) where
+module _ (change : Called) (calling : IsCallingWithAll change) where
   pub same_main : (d : ℕ) → is_main (declaration_of (new_of change) (change.rename d)) ≡ is_main (declaration_of change.old d)
   same_main d = main_is (declaration_of (new_of change) (change.rename d)) ∙ ap main_fact (calling.told d) ∙ sym (main_is (declaration_of change.old d))
 
@@ -277,67 +278,85 @@ module _ (change : Called) (p : ℕ) (calling : IsCallingWith change p) where
   given_agrees names i [] [] memory = refl
   given_agrees names i [] (value ∷ values) memory = refl
   given_agrees names i (d ∷ ds) [] memory =
-      ap (λ kind. given_from (new_of change) names (suc i) (map change.rename ds) [] ((names i, new_block (layout change.old) kind) ∷ memory)) (same_type change (likeness change p calling) d)
+      ap (λ kind. given_from (new_of change) names (suc i) (map change.rename ds) [] ((names i, new_block (layout change.old) kind) ∷ memory)) (same_type change (likeness change calling) d)
       ∙ given_agrees names (suc i) ds [] ((names i, new_block (layout change.old) (type_declared change.old d)) ∷ memory)
   given_agrees names i (d ∷ ds) (value ∷ values) memory =
-      ap (λ kind. given_from (new_of change) names (suc i) (map change.rename ds) values ((names i, record (new_block (layout change.old) kind) { contents = value }) ∷ memory)) (same_type change (likeness change p calling) d)
+      ap (λ kind. given_from (new_of change) names (suc i) (map change.rename ds) values ((names i, record (new_block (layout change.old) kind) { contents = value }) ∷ memory)) (same_type change (likeness change calling) d)
       ∙ given_agrees names (suc i) ds values ((names i, record (new_block (layout change.old) (type_declared change.old d)) { contents = value }) ∷ memory)
 
-  pub frame_objects : (names : ℕ → ℕ) (definition other : Definition) → DefinitionAgrees change p definition other
+  pub frame_objects : (names : ℕ → ℕ) (definition other : Definition) → DefinitionAgrees change definition other
       → (opened_frame (new_of change) names definition).objects ≡ renamed_objects change.rename (opened_frame change.old names other).objects
   frame_objects names definition other h =
       ap (λ ps. named_from names (length ps) (declared_in (new_of change) (parts_of definition.body)) (named_from names 0 ps [])) h.1
       ∙ ap (λ n. named_from names n (declared_in (new_of change) (parts_of definition.body)) (named_from names 0 (map change.rename other.parameters) [])) (length_renamed change.rename other.parameters)
       ∙ ap (λ ds. named_from names (length other.parameters) ds (named_from names 0 (map change.rename other.parameters) []))
-      (declared_in_agrees change (likeness change p calling) (parts_of definition.body) (parts_of other.body) (listed_agrees (Agrees change p) (trees_of definition.body) (trees_of other.body) (alike_agreeing change p (trees_of definition.body) (trees_of other.body) h.2)))
+      (declared_in_agrees change (likeness change calling) (parts_of definition.body) (parts_of other.body) (listed_agrees (Agrees change) (trees_of definition.body) (trees_of other.body) (alike_agreeing change (trees_of definition.body) (trees_of other.body) h.2)))
       ∙ ap (named_from names (length other.parameters) (map change.rename (declared_in change.old (parts_of other.body)))) (named_from_renamed change.rename names 0 other.parameters [])
       ∙ named_from_renamed change.rename names (length other.parameters) (declared_in change.old (parts_of other.body)) (named_from names 0 other.parameters [])
 
-  pub frame_tasks : (names : ℕ → ℕ) (definition other : Definition) → DefinitionAgrees change p definition other
-      → TasksAgree change p (opened_frame (new_of change) names definition).tasks (opened_frame change.old names other).tasks
-  frame_tasks names definition other h = items_agree change (likeness change p calling) (parts_of definition.body) (parts_of other.body) (listed_agrees (Agrees change p) (trees_of definition.body) (trees_of other.body) (alike_agreeing change p (trees_of definition.body) (trees_of other.body) h.2))
+  pub frame_tasks : (names : ℕ → ℕ) (definition other : Definition) → DefinitionAgrees change definition other
+      → TasksAgree change (opened_frame (new_of change) names definition).tasks (opened_frame change.old names other).tasks
+  frame_tasks names definition other h = items_agree change (likeness change calling) (parts_of definition.body) (parts_of other.body) (listed_agrees (Agrees change) (trees_of definition.body) (trees_of other.body) (alike_agreeing change (trees_of definition.body) (trees_of other.body) h.2))
 
-  pub frame_memory : (names : ℕ → ℕ) (definition other : Definition) (arguments : List Value) (memory : Memory) → DefinitionAgrees change p definition other
+  pub frame_memory : (names : ℕ → ℕ) (definition other : Definition) (arguments : List Value) (memory : Memory) → DefinitionAgrees change definition other
       → opened_memory (new_of change) names definition arguments memory ≡ opened_memory change.old names other arguments memory
   frame_memory names definition other arguments memory h =
       ap (λ ps. made_from (new_of change) names (length ps) (declared_in (new_of change) (parts_of definition.body)) (given_from (new_of change) names 0 ps arguments memory)) h.1
       ∙ ap (λ n. made_from (new_of change) names n (declared_in (new_of change) (parts_of definition.body)) (given_from (new_of change) names 0 (map change.rename other.parameters) arguments memory)) (length_renamed change.rename other.parameters)
       ∙ ap (λ ds. made_from (new_of change) names (length other.parameters) ds (given_from (new_of change) names 0 (map change.rename other.parameters) arguments memory))
-      (declared_in_agrees change (likeness change p calling) (parts_of definition.body) (parts_of other.body) (listed_agrees (Agrees change p) (trees_of definition.body) (trees_of other.body) (alike_agreeing change p (trees_of definition.body) (trees_of other.body) h.2)))
+      (declared_in_agrees change (likeness change calling) (parts_of definition.body) (parts_of other.body) (listed_agrees (Agrees change) (trees_of definition.body) (trees_of other.body) (alike_agreeing change (trees_of definition.body) (trees_of other.body) h.2)))
       ∙ ap (made_from (new_of change) names (length other.parameters) (map change.rename (declared_in change.old (parts_of other.body)))) (given_agrees names 0 other.parameters arguments memory)
-      ∙ made_from_agrees change (likeness change p calling) names (length other.parameters) (declared_in change.old (parts_of other.body)) (given_from change.old names 0 other.parameters arguments memory)
+      ∙ made_from_agrees change (likeness change calling) names (length other.parameters) (declared_in change.old (parts_of other.body)) (given_from change.old names 0 other.parameters arguments memory)
 
   -- ---- the frame of the added function
 
-  added_objects : (names : ℕ → ℕ) → (opened_frame (new_of change) names change.added).objects ≡ (p, names 0) ∷ []
-  added_objects names =
-      ap (λ ps. named_from names (length ps) (declared_in (new_of change) (parts_of change.added.body)) (named_from names 0 ps [])) calling.parameters
-      ∙ ap (λ items. named_from names 1 (declared_in (new_of change) items) ((p, names 0) ∷ [])) calling.returns
+  added_objects : (names : ℕ → ℕ) (values : List Value) → length values ≡ length change.added.parameters
+      → (opened_frame (new_of change) names change.added).objects ≡ objects_in (entries_from names 0 change.added.parameters values [])
+  added_objects names values e =
+      ap (λ items. named_from names (length change.added.parameters) (declared_in (new_of change) items) (named_from names 0 change.added.parameters [])) calling.returns
+      ∙ named_entries names 0 change.added.parameters values [] e
 
   added_tasks : items_tasks (parts_of change.added.body) ≡ begins (node return calling.return_kind calling.return_spans (more_trees change.body no_trees)) ∷ []
   added_tasks = ap items_tasks calling.returns
 
-  added_memory : (names : ℕ → ℕ) (value : Value) (memory : Memory) → opened_memory (new_of change) names change.added (value ∷ []) memory ≡ (names 0, parameter_block change p value) ∷ memory
-  added_memory names value memory =
-      ap (λ ps. made_from (new_of change) names (length ps) (declared_in (new_of change) (parts_of change.added.body)) (given_from (new_of change) names 0 ps (value ∷ []) memory)) calling.parameters
-      ∙ ap (λ items. made_from (new_of change) names 1 (declared_in (new_of change) items) ((names 0, parameter_block change p value) ∷ memory)) calling.returns
+  added_memory : (names : ℕ → ℕ) (values : List Value) (memory : Memory) → length values ≡ length change.added.parameters
+      → opened_memory (new_of change) names change.added values memory ≡ with_entries change (entries_from names 0 change.added.parameters values []) memory
+  added_memory names values memory e =
+      ap (λ items. made_from (new_of change) names (length change.added.parameters) (declared_in (new_of change) items) (given_from (new_of change) names 0 change.added.parameters values memory)) calling.returns
+      ∙ given_entries change names 0 change.added.parameters values [] memory e
 
-  with_caller : (spare : Spare) (c d : Caller) (cs ds : List Caller) → CallerAgrees change p c d → CallersAgree change p spare cs ds → CallersAgree change p spare (c ∷ cs) (d ∷ ds)
+  -- its parameters have names and values
+  added_held : (names : ℕ → ℕ) (values : List Value) → ((value : Value) → IsAmong value values → is_unset value ≡ false) → AreHeld change (entries_from names 0 change.added.parameters values [])
+  added_held names values set = record {
+    named = entries_named names 0 change.added.parameters values [] calling.distinct (λ q k entry l f. absurd l) (λ entry l. absurd l);
+    set = λ entry l. set_by entry (entry_from names 0 change.added.parameters values [] entry l);
+    own = λ entry l. own_by entry (entry_from names 0 change.added.parameters values [] entry l);
+  }
+    where
+      set_by : (entry : Entry) → IsAmong entry [] ⊎ (IsAmong entry.parameter change.added.parameters × IsAmong entry.value values) → is_unset entry.value ≡ false
+      set_by entry (inl k) = absurd k
+      set_by entry (inr k) = set entry.value k.1
+
+      own_by : (entry : Entry) → IsAmong entry [] ⊎ (IsAmong entry.parameter change.added.parameters × IsAmong entry.value values) → (d : ℕ) → change.rename d ≡ entry.parameter → ⊥
+      own_by entry (inl k) = absurd k
+      own_by entry (inr k) = calling.own entry.parameter k.0
+
+  with_caller : (spare : Spare) (c d : Caller) (cs ds : List Caller) → CallerAgrees change c d → CallersAgree change spare cs ds → CallersAgree change spare (c ∷ cs) (d ∷ ds)
   with_caller spare c d [] ds h k = (h, k)
   with_caller spare c d (c' ∷ cs) ds h k = inl (h, k)
 
   -- ---- one step
 
   module _ (names : ℕ → ℕ) (other : State) (fresh : IsFresh names other.world.memory) (stands : other.standing ≡ going)
-      (spare : Spare) (tasks : List Task) (tasks_agree : TasksAgree change p (unfolded tasks) (unfolded other.frame.tasks)) (callers : List Caller) (callers_agree : CallersAgree change p spare callers other.callers) (w : ℕ) (enough : 4 ≤ w) where
+      (spare : Spare) (tasks : List Task) (tasks_agree : TasksAgree change (unfolded tasks) (unfolded other.frame.tasks)) (callers : List Caller) (callers_agree : CallersAgree change spare callers other.callers) (w : ℕ) (enough : size change + 2 ≤ w) where
     abbrev now : State
     now = built change other tasks callers
 
-    one_step : (y : State) → IsAmong y (next names change.old other) → (state : State) → Related change p 6 spare state y → Met change p w spare other state
+    one_step : (y : State) → IsAmong y (next names change.old other) → (state : State) → Related change (size change + 4) spare state y → Met change w spare other state
     one_step y among state related = inr (inl (y, (names, fresh, among), related))
 
-    four_of_six : 4 ≤ 6
-    four_of_six = omega arith
+    enough_after : size change + 2 ≤ size change + 4
+    enough_after = omega arith
 
     wrong_step : (y : State) → IsAmong y (next names change.old other) → (cause : Cause) (place : Place) → y.standing ≡ undefined cause place → GoesWrong (machine_of change.old) other
     wrong_step y among cause place e = (1, y, goes_one change.old other y (names, fresh, among), cause, place, e)
@@ -347,15 +366,15 @@ module _ (change : Called) (p : ℕ) (calling : IsCallingWith change p) where
         subst (λ standing. IsAmong y (steps_from standing (task_steps change.old names other (unfolded other.frame.tasks)))) (sym stands)
         (subst (λ tasks. IsAmong y (task_steps change.old names other tasks)) (sym e) h)
 
-    turned_met : (t u : Turned) → TurnedAgrees change p t u → IsAmong (turned other u) (next names change.old other) → Met change p w spare other (turned now t)
+    turned_met : (t u : Turned) → TurnedAgrees change t u → IsAmong (turned other u) (next names change.old other) → Met change w spare other (turned now t)
     turned_met (onward objects ts memory) (onward others us other_memory) h among =
         one_step (turned other (onward others us other_memory)) among (turned now (onward objects ts memory)) (inl (
-          four_of_six,
+          enough_after,
           record {
             standing = refl;
             function = refl;
             objects = h.0;
-            tasks = unfolded_agree change (likeness change p calling) ts us h.1;
+            tasks = unfolded_agree change (likeness change calling) ts us h.1;
             callers = callers_agree;
             statics = refl;
             world = ap (λ m. record { memory = m; input = other.world.input; output = other.world.output }) h.2;
@@ -373,36 +392,36 @@ module _ (change : Called) (p : ℕ) (calling : IsCallingWith change p) where
         else if empty then record state { frame = record state.frame { tasks = hands_back unset ∷ [] } }
         else record state { standing = undefined NoValue place }
 
-    closed_bools : (place at : Place) (main empty : Bool) → IsAmong (closed_by other at main empty) (next names change.old other) → Met change p w spare other (closed_by now place main empty)
+    closed_bools : (place at : Place) (main empty : Bool) → IsAmong (closed_by other at main empty) (next names change.old other) → Met change w spare other (closed_by now place main empty)
     closed_bools place at true empty among =
         one_step (closed_by other at true empty) among (closed_by now place true empty)
-        (inl (four_of_six, record { standing = refl; function = refl; objects = refl; tasks = (refl, tt); callers = callers_agree; statics = refl; world = refl }))
+        (inl (enough_after, record { standing = refl; function = refl; objects = refl; tasks = (refl, tt); callers = callers_agree; statics = refl; world = refl }))
     closed_bools place at false true among =
         one_step (closed_by other at false true) among (closed_by now place false true)
-        (inl (four_of_six, record { standing = refl; function = refl; objects = refl; tasks = (refl, tt); callers = callers_agree; statics = refl; world = refl }))
+        (inl (enough_after, record { standing = refl; function = refl; objects = refl; tasks = (refl, tt); callers = callers_agree; statics = refl; world = refl }))
     closed_bools place at false false among = inl (wrong_step (closed_by other at false false) among NoValue at refl)
 
-    closed_met : IsAmong (closed change.old other) (next names change.old other) → Met change p w spare other (closed (new_of change) now)
+    closed_met : IsAmong (closed change.old other) (next names change.old other) → Met change w spare other (closed (new_of change) now)
     closed_met among =
         let place = body_place (definition_of (new_of change) (change.rename other.frame.function)) no_place in
         let at = body_place (definition_of change.old other.frame.function) no_place in
-        subst (λ main. Met change p w spare other (closed_by now place main (gives_nothing (type_declared (new_of change) (change.rename other.frame.function))))) (sym (same_main other.frame.function))
-        (subst (λ type. Met change p w spare other (closed_by now place (is_main (declaration_of change.old other.frame.function)) (gives_nothing type))) (sym (same_type change (likeness change p calling) other.frame.function))
+        subst (λ main. Met change w spare other (closed_by now place main (gives_nothing (type_declared (new_of change) (change.rename other.frame.function))))) (sym (same_main other.frame.function))
+        (subst (λ type. Met change w spare other (closed_by now place (is_main (declaration_of change.old other.frame.function)) (gives_nothing type))) (sym (same_type change (likeness change calling) other.frame.function))
         (closed_bools place at (is_main (declaration_of change.old other.frame.function)) (gives_nothing (type_declared change.old other.frame.function)) among))
 
     -- ---- the end of a frame
 
-    caller_resumed : (value : Value) (c : Caller) (cs : List Caller) (d : Caller) (ds : List Caller) → CallerAgrees change p c d → CallersAgree change p spare cs ds → lacks_value c.kind value ≡ false
-        → IsAmong (gone_back other value d ds) (next names change.old other) → Met change p w spare other (gone_back now value c cs)
-    caller_resumed value c cs d ds h k given among =
+    caller_resumed : (value : Value) (c : Caller) (cs : List Caller) (d : Caller) (ds : List Caller) → CallerAgrees change c d → CallersAgree change spare cs ds → lacks_value c.kind value ≡ false
+        → IsAmong (gone_back other value d ds) (next names change.old other) → Met change w spare other (gone_back now value c cs)
+    caller_resumed value c cs d ds h k given_value among =
         one_step (gone_back other value d ds) among (gone_back now value c cs) (inl (
-          four_of_six,
+          enough_after,
           record {
             standing = refl;
             function = h.function;
             objects = h.objects;
             tasks =
-                ((filled_agrees change p false c.kind c.hole d.hole (done c.kind (of_value value) []) (done d.kind (of_value value) []) h.hole (refl, value, refl, given) (h.kind, refl, λ lock l. l), h.use_of), h.tasks);
+                ((filled_agrees change outside c.kind c.hole d.hole (done c.kind (of_value value) []) (done d.kind (of_value value) []) h.hole (refl, value, refl, given_value) (h.kind, refl, λ lock l. l), h.use_of), h.tasks);
             callers = k;
             statics = refl;
             world = ap (λ ns. record { memory = killed ns other.world.memory; input = other.world.input; output = other.world.output }) (numbers_renamed change.rename other.frame.objects);
@@ -411,28 +430,29 @@ module _ (change : Called) (p : ℕ) (calling : IsCallingWith change p) where
 
     -- a value that isn't given is undefined in both programs
     back_by : (value : Value) (c : Caller) (cs : List Caller) (d : Caller) (ds : List Caller) → c.kind ≡ d.kind
-        → (lacks_value c.kind value ≡ false → IsAmong (gone_back other value d ds) (next names change.old other) → Met change p w spare other (gone_back now value c cs))
-        → IsAmong (handed_back other value (d ∷ ds)) (next names change.old other) → Met change p w spare other (handed_back now value (c ∷ cs))
+        → (lacks_value c.kind value ≡ false → IsAmong (gone_back other value d ds) (next names change.old other) → Met change w spare other (gone_back now value c cs))
+        → IsAmong (handed_back other value (d ∷ ds)) (next names change.old other) → Met change w spare other (handed_back now value (c ∷ cs))
     back_by value c cs d ds same resumes among =
-        subst (λ kind. Met change p w spare other (if lacks_value kind value then record now { standing = undefined NoValue c.place } else gone_back now value c cs)) (sym same)
+        subst (λ kind. Met change w spare other (if lacks_value kind value then record now { standing = undefined NoValue c.place } else gone_back now value c cs)) (sym same)
         (by_lack (lacks_value d.kind value) refl among)
       where
         by_lack : (b : Bool) → lacks_value d.kind value ≡ b → IsAmong (if b then record other { standing = undefined NoValue d.place } else gone_back other value d ds) (next names change.old other)
-            → Met change p w spare other (if b then record now { standing = undefined NoValue c.place } else gone_back now value c cs)
+            → Met change w spare other (if b then record now { standing = undefined NoValue c.place } else gone_back now value c cs)
         by_lack true e l = inl (wrong_step (record other { standing = undefined NoValue d.place }) l NoValue d.place refl)
         by_lack false e l = resumes (ap (λ kind. lacks_value kind value) same ∙ e) l
 
-    caller_met : (value : Value) (c : Caller) (cs : List Caller) (d : Caller) (ds : List Caller) → CallerAgrees change p c d → CallersAgree change p spare cs ds
-        → IsAmong (handed_back other value (d ∷ ds)) (next names change.old other) → Met change p w spare other (handed_back now value (c ∷ cs))
+    caller_met : (value : Value) (c : Caller) (cs : List Caller) (d : Caller) (ds : List Caller) → CallerAgrees change c d → CallersAgree change spare cs ds
+        → IsAmong (handed_back other value (d ∷ ds)) (next names change.old other) → Met change w spare other (handed_back now value (c ∷ cs))
     caller_met value c cs d ds h k among = back_by value c cs d ds h.kind (caller_resumed value c cs d ds h k) among
 
     -- the added function goes on with the value of a function that it has called
-    nested_resumed : (value : Value) (first : ℕ × Value) (rest : Spare) → spare ≡ first ∷ rest → (c c' : Caller) (cs : List Caller) (d : Caller) (ds : List Caller)
-        → NestedAgrees change p first.0 first.1 c c' d → CallersAgree change p rest cs ds → lacks_value c.kind value ≡ false
-        → IsAmong (gone_back other value d ds) (next names change.old other) → Met change p w spare other (gone_back now value c (c' ∷ cs))
-    nested_resumed value first rest is_spare c c' cs d ds h k given among =
+    nested_resumed : (value : Value) (first : List Entry) (rest : Spare) → spare ≡ first ∷ rest → (c c' : Caller) (cs : List Caller) (d : Caller) (ds : List Caller)
+        → NestedAgrees change first c c' d → CallersAgree change rest cs ds → lacks_value c.kind value ≡ false
+        → IsAmong (gone_back other value d ds) (next names change.old other) → Met change w spare other (gone_back now value c (c' ∷ cs))
+    nested_resumed value first rest is_spare c c' cs d ds h k given_value among =
         let now_run = filled_in c.hole (done c.kind (of_value value) []) in
         let run = filled_in h.inner (done d.kind (of_value value) []) in
+        let few : left_in now_run ≤ size change = subst (λ n. n ≤ size change) (sym (filled_left c.hole (done c.kind (of_value value) []) refl)) h.few in
         one_step (gone_back other value d ds) among (gone_back now value c (c' ∷ cs)) (inr (
           first,
           rest,
@@ -454,7 +474,7 @@ module _ (change : Called) (p : ℕ) (calling : IsCallingWith change p) where
               function = h.caller_function;
               objects = h.caller_objects;
               tasks = h.caller_tasks;
-              holes = h.outside;
+              holes = h.beyond;
               uses = h.caller_use;
               callers = k;
             };
@@ -462,41 +482,26 @@ module _ (change : Called) (p : ℕ) (calling : IsCallingWith change p) where
               place = c.place;
               now = now_run;
               is = ap (λ u. evaluates c.place now_run u ∷ c.frame.tasks) h.use_of ∙ ap (λ ts. evaluates c.place now_run returns ∷ ts) h.tasks;
-              agrees = resumed_agrees first.0 first.1 c.kind c.hole h.inner (done c.kind (of_value value) []) (done d.kind (of_value value) []) h.inside (refl, value, refl, given) (h.kind, refl, λ lock l. l);
-              yields = filled_yields c'.kind c.kind c.hole (done c.kind (of_value value) []) h.yields (refl, value, refl, given);
+              agrees = filled_agrees change (inside first) c.kind c.hole h.inner (done c.kind (of_value value) []) (done d.kind (of_value value) []) h.agrees (refl, value, refl, given_value) (h.kind, refl, λ lock l. l);
+              few = few;
+              left = left_of_real change now_run few;
+              yields = filled_yields c'.kind c.kind c.hole (done c.kind (of_value value) []) h.yields (refl, value, refl, given_value);
             }));
-            set = h.set;
+            held = h.held;
             statics = refl;
             world = ap (λ ns. record { memory = killed ns other.world.memory; input = other.world.input; output = other.world.output }) (numbers_renamed change.rename other.frame.objects);
           },
         ))
-      where
-        resumed_agrees : (n : ℕ) (v : Value) (type : CType) (hole inner : Hole) (filler other_filler : Run) → HoleEval change p n v type hole inner → Yields type filler → RunAgrees change p true filler other_filler
-            → Reading change p 6 n v (filled_in hole filler) (filled_in inner other_filler) ⊎ (RunAgrees change p true (filled_in hole filler) (filled_in inner other_filler) × Left 6 (filled_in hole filler))
-        resumed_agrees n v type hole inner filler other_filler (inl (named, reads)) y agrees =
-            inl (record {
-              named = named;
-              reads = filled_reads change p n v named type hole inner filler other_filler reads y agrees;
-              open_still = hole_open hole inner reads;
-              stage = stage_of_six named;
-            })
-          where
-            hole_open : (a b : Hole) → HoleReads change p n v named type a b → IsToDo (filled_in b other_filler)
-            hole_open here b r = absurd r
-            hole_open (within doing kind place holes) here r = absurd r
-            hole_open (within doing kind place holes) (within other_doing other_kind other_place other_holes) r = tt
-        resumed_agrees n v type hole inner filler other_filler (inr plain) y agrees =
-            inr (filled_agrees change p true type hole inner filler other_filler plain y agrees, left_of_six (filled_in hole filler))
 
-    nested_met : (value : Value) (first : ℕ × Value) (rest : Spare) → spare ≡ first ∷ rest → (c c' : Caller) (cs : List Caller) (d : Caller) (ds : List Caller)
-        → NestedAgrees change p first.0 first.1 c c' d → CallersAgree change p rest cs ds
-        → IsAmong (handed_back other value (d ∷ ds)) (next names change.old other) → Met change p w spare other (handed_back now value (c ∷ c' ∷ cs))
+    nested_met : (value : Value) (first : List Entry) (rest : Spare) → spare ≡ first ∷ rest → (c c' : Caller) (cs : List Caller) (d : Caller) (ds : List Caller)
+        → NestedAgrees change first c c' d → CallersAgree change rest cs ds
+        → IsAmong (handed_back other value (d ∷ ds)) (next names change.old other) → Met change w spare other (handed_back now value (c ∷ c' ∷ cs))
     nested_met value first rest is_spare c c' cs d ds h k among = back_by value c (c' ∷ cs) d ds h.kind (nested_resumed value first rest is_spare c c' cs d ds h k) among
 
-    back_met : (value : Value) (cs ds : List Caller) → CallersAgree change p spare cs ds → IsAmong (handed_back other value ds) (next names change.old other) → Met change p w spare other (handed_back now value cs)
+    back_met : (value : Value) (cs ds : List Caller) → CallersAgree change spare cs ds → IsAmong (handed_back other value ds) (next names change.old other) → Met change w spare other (handed_back now value cs)
     back_met value [] [] h among =
         one_step (handed_back other value []) among (handed_back now value [])
-        (inl (four_of_six, record { standing = refl; function = refl; objects = refl; tasks = tasks_agree; callers = callers_agree; statics = refl; world = refl }))
+        (inl (enough_after, record { standing = refl; function = refl; objects = refl; tasks = tasks_agree; callers = callers_agree; statics = refl; world = refl }))
     back_met value [] (d ∷ ds) h among = absurd h
     back_met value (c ∷ []) [] h among = absurd h
     back_met value (c ∷ c' ∷ cs) [] h among = absurd h
@@ -506,45 +511,45 @@ module _ (change : Called) (p : ℕ) (calling : IsCallingWith change p) where
 
     -- ---- expressions
 
-    module _ (rest other_rest : List Task) (rest_agrees : TasksAgree change p rest other_rest) (place at : Place) (use_of other_use : Use) (use_agrees : UseAgrees change p use_of other_use) where
-      opened_met : (kind : CType) (hole other_hole : Hole) (arguments : List Value) → HoleAgrees change p false kind hole other_hole → (definition other_definition : Option Definition)
-          → OptionAgrees (DefinitionAgrees change p) definition other_definition
+    module _ (rest other_rest : List Task) (rest_agrees : TasksAgree change rest other_rest) (place at : Place) (use_of other_use : Use) (use_agrees : UseAgrees change use_of other_use) where
+      opened_met : (kind : CType) (hole other_hole : Hole) (arguments : List Value) → HoleAgrees change outside kind hole other_hole → (definition other_definition : Option Definition)
+          → OptionAgrees (DefinitionAgrees change) definition other_definition
           → IsAmong (opened change.old names other other_rest at other_use kind other_hole arguments other_definition) (next names change.old other)
-          → Met change p w spare other (opened (new_of change) names now rest place use_of kind hole arguments definition)
+          → Met change w spare other (opened (new_of change) names now rest place use_of kind hole arguments definition)
       opened_met kind hole other_hole arguments h None None k among = inl (wrong_step _ among External at refl)
       opened_met kind hole other_hole arguments h None (Some definition) k among = absurd k
       opened_met kind hole other_hole arguments h (Some definition) None k among = absurd k
       opened_met kind hole other_hole arguments h (Some definition) (Some other_definition) k among =
           one_step (opened change.old names other other_rest at other_use kind other_hole arguments (Some other_definition)) among
           (opened (new_of change) names now rest place use_of kind hole arguments (Some definition)) (inl (
-            four_of_six,
+            enough_after,
             record {
               standing = refl;
               function = k.0;
               objects = frame_objects names definition other_definition k;
-              tasks = unfolded_agree change (likeness change p calling) _ _ (frame_tasks names definition other_definition k);
+              tasks = unfolded_agree change (likeness change calling) _ _ (frame_tasks names definition other_definition k);
               callers = with_caller spare (record { frame = record { function = change.rename other.frame.function; objects = renamed_objects change.rename other.frame.objects; tasks = rest }; place = place; kind = kind; hole = hole; use_of = use_of }) (record { frame = record { function = other.frame.function; objects = other.frame.objects; tasks = other_rest }; place = at; kind = kind; hole = other_hole; use_of = other_use }) callers other.callers (record { function = refl; objects = refl; tasks = rest_agrees; kind = refl; hole = h; use_of = use_agrees }) callers_agree;
               statics = refl;
               world = ap (λ m. record { memory = m; input = other.world.input; output = other.world.output }) (frame_memory names definition other_definition arguments other.world.memory k);
             },
           ))
 
-      called_met : (f g : ℕ) (arguments others : List Value) (kind other_kind : CType) (hole other_hole : Hole) → f ≡ change.rename g → arguments ≡ others → kind ≡ other_kind → HoleAgrees change p false kind hole other_hole
+      called_met : (f g : ℕ) (arguments others : List Value) (kind other_kind : CType) (hole other_hole : Hole) → f ≡ change.rename g → arguments ≡ others → kind ≡ other_kind → HoleAgrees change outside kind hole other_hole
           → IsAmong (opened change.old names other other_rest at other_use other_kind other_hole others (definition_of change.old g)) (next names change.old other)
-          → Met change p w spare other (opened (new_of change) names now rest place use_of kind hole arguments (definition_of (new_of change) f))
+          → Met change w spare other (opened (new_of change) names now rest place use_of kind hole arguments (definition_of (new_of change) f))
       called_met f g arguments others kind other_kind hole other_hole e a k h among =
-          subst (λ d. Met change p w spare other (opened (new_of change) names now rest place use_of kind hole arguments (definition_of (new_of change) d))) (sym e)
-          (subst (λ l. Met change p w spare other (opened (new_of change) names now rest place use_of kind hole l (definition_of (new_of change) (change.rename g)))) (sym a)
-          (subst (λ t. Met change p w spare other (opened (new_of change) names now rest place use_of t hole others (definition_of (new_of change) (change.rename g)))) (sym k)
-          (opened_met other_kind hole other_hole others (subst (λ t. HoleAgrees change p false t hole other_hole) k h) (definition_of (new_of change) (change.rename g)) (definition_of change.old g)
-          (definition_agrees change p calling change.functions change.old.functions calling.functions g) among)))
+          subst (λ d. Met change w spare other (opened (new_of change) names now rest place use_of kind hole arguments (definition_of (new_of change) d))) (sym e)
+          (subst (λ l. Met change w spare other (opened (new_of change) names now rest place use_of kind hole l (definition_of (new_of change) (change.rename g)))) (sym a)
+          (subst (λ t. Met change w spare other (opened (new_of change) names now rest place use_of t hole others (definition_of (new_of change) (change.rename g)))) (sym k)
+          (opened_met other_kind hole other_hole others (subst (λ t. HoleAgrees change outside t hole other_hole) k h) (definition_of (new_of change) (change.rename g)) (definition_of change.old g)
+          (definition_agrees change calling change.functions change.old.functions calling.functions g) among)))
 
-      moved_met : (m n : Move Run Hole) → RunMoveAgrees change p false m n → IsAmong (moved change.old names other other_rest at other_use n) (next names change.old other)
-          → Met change p w spare other (moved (new_of change) names now rest place use_of m)
+      moved_met : (m n : Move Run Hole) → RunMoveAgrees change outside m n → IsAmong (moved change.old names other other_rest at other_use n) (next names change.old other)
+          → Met change w spare other (moved (new_of change) names now rest place use_of m)
       moved_met m (fails other_cause there) h among = inl (wrong_step _ among other_cause there refl)
       moved_met (goes world run) (goes other_world other_run) h among =
           one_step (moved change.old names other other_rest at other_use (goes other_world other_run)) among (moved (new_of change) names now rest place use_of (goes world run))
-          (inl (four_of_six, record { standing = refl; function = refl; objects = refl; tasks = ((h.1, use_agrees), rest_agrees); callers = callers_agree; statics = refl; world = h.0 }))
+          (inl (enough_after, record { standing = refl; function = refl; objects = refl; tasks = ((h.1, use_agrees), rest_agrees); callers = callers_agree; statics = refl; world = h.0 }))
       moved_met (goes world run) (calls f others kind hole) h among = absurd h
       moved_met (goes world run) (exits status) h among = absurd h
       moved_met (calls f arguments kind hole) (calls g others other_kind other_hole) h among = called_met f g arguments others kind other_kind hole other_hole h.0 h.1 h.2 h.3 among
@@ -555,31 +560,31 @@ module _ (change : Called) (p : ℕ) (calling : IsCallingWith change p) where
       moved_met (fails cause at_place) (exits status) h among = absurd h
       moved_met (exits status) (exits other_status) h among =
           one_step (moved change.old names other other_rest at other_use (exits other_status)) among (moved (new_of change) names now rest place use_of (exits status))
-          (inl (four_of_six, record { standing = ap exited h; function = refl; objects = refl; tasks = tasks_agree; callers = callers_agree; statics = refl; world = refl }))
+          (inl (enough_after, record { standing = ap exited h; function = refl; objects = refl; tasks = tasks_agree; callers = callers_agree; statics = refl; world = refl }))
       moved_met (exits status) (goes other_world other_run) h among = absurd h
       moved_met (exits status) (calls g others other_kind other_hole) h among = absurd h
 
       -- the added function is called: the old program stays where it is
-      added_met : (value : Value) (kind : CType) (run : Run) (hole other_hole : Hole) → HoleAgrees change p false kind hole other_hole → IsOpen other_hole → Entered change p value kind run
+      added_met : (values : List Value) (kind : CType) (run : Run) (hole other_hole : Hole) → HoleAgrees change outside kind hole other_hole → IsOpen other_hole → Entered change values kind run
           → unfolded other.frame.tasks ≡ evaluates at (filled_in other_hole run) other_use ∷ other_rest
           → (definition : Option Definition) → definition ≡ Some change.added
-          → Met change p w spare other (opened (new_of change) names now rest place use_of kind hole (value ∷ []) definition)
-      added_met value kind run hole other_hole h is_open entered e None found = absurd (none_is_some _ found)
-      added_met value kind run hole other_hole h is_open entered e (Some definition) found =
-          subst (λ d. Met change p w spare other (opened (new_of change) names now rest place use_of kind hole (value ∷ []) (Some d))) (sym (some_is_some definition change.added found))
+          → Met change w spare other (opened (new_of change) names now rest place use_of kind hole values definition)
+      added_met values kind run hole other_hole h is_open entered e None found = absurd (none_is_some _ found)
+      added_met values kind run hole other_hole h is_open entered e (Some definition) found =
+          let entries = entries_from names 0 change.added.parameters values [] in
+          subst (λ d. Met change w spare other (opened (new_of change) names now rest place use_of kind hole values (Some d))) (sym (some_is_some definition change.added found))
           (inr (inr (inr (inl (record {
-            n = names 0;
-            value = value;
-            fresh = fresh.1 0;
-            left = 3;
+            entries = entries;
+            fresh = entries_fresh names other.world.memory fresh 0 change.added.parameters values [] (λ k later. tt) tt;
+            left = size change + 1;
             less = omega (arith, enough);
             related = inr (
-              (names 0, value),
+              entries,
               spare,
               refl,
               record {
                 standing = refl;
-                objects = added_objects names;
+                objects = added_objects names values entered.each;
                 caller = record { frame = record { function = change.rename other.frame.function; objects = renamed_objects change.rename other.frame.objects; tasks = rest }; place = place; kind = kind; hole = hole; use_of = use_of };
                 others = callers;
                 callers = refl;
@@ -589,23 +594,25 @@ module _ (change : Called) (p : ℕ) (calling : IsCallingWith change p) where
                   return_kind = calling.return_kind;
                   return_spans = calling.return_spans;
                   is = added_tasks;
-                  entered = entered;
+                  agrees = begun_reads change (given change.added.parameters entered.kinds) (given change.added.parameters (run_list entered.inner)) entries
+                      (all_stored names change.added.parameters entered.kinds values entered.inner entered.come) change.body run entered.stands;
+                  typed = entered.typed;
                   left = omega arith;
                 });
-                set = entered.set;
+                held = added_held names values (come_set entered.kinds values entered.inner entered.come);
                 statics = refl;
-                world = ap (λ m. record { memory = m; input = other.world.input; output = other.world.output }) (added_memory names value other.world.memory);
+                world = ap (λ m. record { memory = m; input = other.world.input; output = other.world.output }) (added_memory names values other.world.memory entered.each);
               },
             );
           })))))
 
-      expression_met : (run other_run : Run) → RunAgrees change p false run other_run → unfolded other.frame.tasks ≡ evaluates at other_run other_use ∷ other_rest
-          → (state : State) → IsAmong state (expression_steps (new_of change) names now rest place use_of run) → Met change p w spare other state
+      expression_met : (run other_run : Run) → RunAgrees change outside run other_run → unfolded other.frame.tasks ≡ evaluates at other_run other_use ∷ other_rest
+          → (state : State) → IsAmong state (expression_steps (new_of change) names now rest place use_of run) → Met change w spare other state
       expression_met (done kind result locks) (done other_kind other_result other_locks) h e state (inl k) =
-          subst (Met change p w spare other) (sym k)
-          (subst (λ r. Met change p w spare other (turned now (concluded (new_of change) now.frame.objects rest other.world.memory place use_of r))) (sym h.1)
+          subst (Met change w spare other) (sym k)
+          (subst (λ r. Met change w spare other (turned now (concluded (new_of change) now.frame.objects rest other.world.memory place use_of r))) (sym h.1)
           (turned_met (concluded (new_of change) now.frame.objects rest other.world.memory place use_of other_result) (concluded change.old other.frame.objects other_rest other.world.memory at other_use other_result)
-          (conclusion_agrees change (likeness change p calling) other.frame.objects rest other_rest other.world.memory rest_agrees place at use_of other_use use_agrees other_result)
+          (conclusion_agrees change (likeness change calling) other.frame.objects rest other_rest other.world.memory rest_agrees place at use_of other_use use_agrees other_result)
           (old_among _ e _ (inl refl))))
       expression_met (done kind result locks) (done other_kind other_result other_locks) h e state (inr k) = absurd k
       expression_met (done kind result locks) (to_do doing other_kind spot parts) h e state k = absurd h
@@ -615,9 +622,9 @@ module _ (change : Called) (p : ℕ) (calling : IsCallingWith change p) where
           let other_run = to_do other_doing other_kind there others in
           let from = among-map_from (moved (new_of change) names now rest place use_of) state _ k in
           let objects = renamed_objects change.rename other.statics ++ renamed_objects change.rename other.frame.objects in
-          subst (Met change p w spare other) (sym from.2)
+          subst (Met change w spare other) (sym from.2)
           (by_match from.0
-          (run_matched change p calling false objects (other.statics ++ other.frame.objects) (λ d stands'. same_objects d) other.world (locks_in run) (locks_in other_run) (fewer_locks change p false run other_run h) run other_run h from.0 from.1))
+          (run_matched change calling outside objects (other.statics ++ other.frame.objects) (λ d stands'. same_objects d) other.world (locks_in run) (locks_in other_run) (fewer_locks change calling outside run other_run h) (λ entry l. absurd l) run other_run h from.0 from.1))
         where
           same_objects : (d : ℕ) → object_named (renamed_objects change.rename other.statics ++ renamed_objects change.rename other.frame.objects) (change.rename d) ≡ object_named (other.statics ++ other.frame.objects) d
           same_objects d =
@@ -625,47 +632,49 @@ module _ (change : Called) (p : ℕ) (calling : IsCallingWith change p) where
               ∙ object_renamed change.rename calling.injective (other.statics ++ other.frame.objects) d
 
           by_match : (m : Move Run Hole)
-              → ((n : Move Run Hole) × IsAmong n (moves (scene_of change.old other) other.world (locks_in (to_do other_doing other_kind there others)) (to_do other_doing other_kind there others)) × RunMoveAgrees change p false m n)
-              ⊎ ((false ≡ false)
-              × ((value : Value) × (kind : CType) × (run : Run) × (hole other_hole : Hole) × (m ≡ calls change.added.function (value ∷ []) kind hole) × HoleAgrees change p false kind hole other_hole × IsOpen other_hole
-              × (to_do other_doing other_kind there others ≡ filled_in other_hole run) × Entered change p value kind run))
-              → Met change p w spare other (moved (new_of change) names now rest place use_of m)
+              → ((n : Move Run Hole) × IsAmong n (moves (scene_of change.old other) other.world (locks_in (to_do other_doing other_kind there others)) (to_do other_doing other_kind there others)) × RunMoveAgrees change outside m n)
+              ⊎ (((next_run : Run) × (false ≡ true) × (m ≡ goes other.world next_run) × RunAgrees change outside next_run (to_do other_doing other_kind there others))
+              ⊎ ((outside ≡ outside)
+              × ((values : List Value) × (kind : CType) × (run : Run) × (hole other_hole : Hole) × (m ≡ calls change.added.function values kind hole) × HoleAgrees change outside kind hole other_hole × IsOpen other_hole
+              × (to_do other_doing other_kind there others ≡ filled_in other_hole run) × Entered change values kind run)))
+              → Met change w spare other (moved (new_of change) names now rest place use_of m)
           by_match m (inl (n, among, agrees)) =
               moved_met m n agrees
               (old_among _ e _ (among-map (moved change.old names other other_rest at other_use) n _ among))
-          by_match m (inr (outside, (value, own, run, hole, other_hole, is, agrees, is_open, in_place, entered))) =
-              subst (λ x. Met change p w spare other (moved (new_of change) names now rest place use_of x)) (sym is)
-              (added_met value own run hole other_hole agrees is_open entered (e ∙ ap (λ r. evaluates at r other_use ∷ other_rest) in_place)
-              (definition_of (new_of change) change.added.function) (added_found change p calling change.functions change.old.functions calling.functions))
+          by_match m (inr (inl (next_run, impossible, is, agrees))) = absurd (true≢false (sym impossible))
+          by_match m (inr (inr (elsewhere, (values, own, run, hole, other_hole, is, agrees, is_open, in_place, entered)))) =
+              subst (λ x. Met change w spare other (moved (new_of change) names now rest place use_of x)) (sym is)
+              (added_met values own run hole other_hole agrees is_open entered (e ∙ ap (λ r. evaluates at r other_use ∷ other_rest) in_place)
+              (definition_of (new_of change) change.added.function) (added_found change calling change.functions change.old.functions calling.functions))
 
     -- ---- all tasks
 
     -- a task with one step
-    single_met : (us : List Task) → unfolded other.frame.tasks ≡ us → (t u : Turned) → TurnedAgrees change p t u → IsAmong (turned other u) (task_steps change.old names other us)
-        → (state : State) → IsAmong state (turned now t ∷ []) → Met change p w spare other state
-    single_met us e t u h among state (inl k) = subst (Met change p w spare other) (sym k) (turned_met t u h (old_among us e _ among))
+    single_met : (us : List Task) → unfolded other.frame.tasks ≡ us → (t u : Turned) → TurnedAgrees change t u → IsAmong (turned other u) (task_steps change.old names other us)
+        → (state : State) → IsAmong state (turned now t ∷ []) → Met change w spare other state
+    single_met us e t u h among state (inl k) = subst (Met change w spare other) (sym k) (turned_met t u h (old_among us e _ among))
     single_met us e t u h among state (inr k) = absurd k
 
-    declares_met : (declarator other_declarator : Declarator) (trees others : List Tree) (ts us : List Task) → declarator ≡ renamed_declarator change.rename other_declarator → Zipped (Agrees change p) trees others → TasksAgree change p ts us
-        → unfolded other.frame.tasks ≡ declares other_declarator others ∷ us → (state : State) → IsAmong state (task_steps (new_of change) names now (declares declarator trees ∷ ts)) → Met change p w spare other state
+    declares_met : (declarator other_declarator : Declarator) (trees others : List Tree) (ts us : List Task) → declarator ≡ renamed_declarator change.rename other_declarator → Zipped (Agrees change) trees others → TasksAgree change ts us
+        → unfolded other.frame.tasks ≡ declares other_declarator others ∷ us → (state : State) → IsAmong state (task_steps (new_of change) names now (declares declarator trees ∷ ts)) → Met change w spare other state
     declares_met declarator other_declarator trees others ts us d h r e state k =
         single_met (declares other_declarator others ∷ us) e (begin_declarator (new_of change) now.frame.objects ts other.world.memory (renamed_declarator change.rename other_declarator) trees)
         (begin_declarator change.old other.frame.objects us other.world.memory other_declarator others)
-        (declarator_begins change (likeness change p calling) other.frame.objects ts us other.world.memory r other_declarator trees others h) (inl refl) state
+        (declarator_begins change (likeness change calling) other.frame.objects ts us other.world.memory r other_declarator trees others h) (inl refl) state
         (subst (λ x. IsAmong state (task_steps (new_of change) names now (declares x trees ∷ ts))) d k)
 
-    initials_met : (at : At) (kind : CType) (initialiser : Initialiser) (trees others : List Tree) (ts us : List Task) → Zipped (Agrees change p) trees others → TasksAgree change p ts us
-        → unfolded other.frame.tasks ≡ initials at kind initialiser others ∷ us → (state : State) → IsAmong state (task_steps (new_of change) names now (initials at kind initialiser trees ∷ ts)) → Met change p w spare other state
+    initials_met : (at : At) (kind : CType) (initialiser : Initialiser) (trees others : List Tree) (ts us : List Task) → Zipped (Agrees change) trees others → TasksAgree change ts us
+        → unfolded other.frame.tasks ≡ initials at kind initialiser others ∷ us → (state : State) → IsAmong state (task_steps (new_of change) names now (initials at kind initialiser trees ∷ ts)) → Met change w spare other state
     initials_met at kind initialiser trees others ts us h r e state k =
         single_met (initials at kind initialiser others ∷ us) e (begin_initialiser (new_of change) now.frame.objects ts other.world.memory at kind initialiser trees)
         (begin_initialiser change.old other.frame.objects us other.world.memory at kind initialiser others)
-        (initialiser_begins change (likeness change p calling) other.frame.objects ts us other.world.memory r at kind initialiser trees others h) (inl refl) state k
+        (initialiser_begins change (likeness change calling) other.frame.objects ts us other.world.memory r at kind initialiser trees others h) (inl refl) state k
 
-    task_met : (t u : Task) (ts us : List Task) → TasksAgree change p (t ∷ ts) (u ∷ us) → unfolded other.frame.tasks ≡ u ∷ us → (state : State) → IsAmong state (task_steps (new_of change) names now (t ∷ ts)) → Met change p w spare other state
+    task_met : (t u : Task) (ts us : List Task) → TasksAgree change (t ∷ ts) (u ∷ us) → unfolded other.frame.tasks ≡ u ∷ us → (state : State) → IsAmong state (task_steps (new_of change) names now (t ∷ ts)) → Met change w spare other state
     task_met (begins tree) (begins other_tree) ts us h e state k =
         single_met (begins other_tree ∷ us) e (begin_statement (new_of change) names now.frame.objects ts other.world.memory tree)
         (begin_statement change.old names other.frame.objects us other.world.memory other_tree)
-        (statement_begins change (likeness change p calling) names other.frame.objects ts us other.world.memory h.1 tree other_tree h.0) (inl refl) state k
+        (statement_begins change (likeness change calling) names other.frame.objects ts us other.world.memory h.1 tree other_tree h.0) (inl refl) state k
     task_met (declares declarator trees) (declares other_declarator others) ts us h e state k = declares_met declarator other_declarator trees others ts us h.0.0 h.0.1 h.1 e state k
     task_met (initials at kind initialiser trees) (initials other_at other_kind other_initialiser others) ts us h e state k =
         initials_met other_at other_kind other_initialiser trees others ts us h.0.3 h.1 e state
@@ -676,20 +685,20 @@ module _ (change : Called) (p : ℕ) (calling : IsCallingWith change p) where
     task_met (again objects loop) (again others other_loop) ts us h e state k = absurd k
     task_met (tests objects loop) (tests others other_loop) ts us h e state k = absurd k
     task_met (ends saved) (ends others) ts us h e state k =
-        single_met (ends others ∷ us) e (ended saved now.frame.objects ts other.world.memory) (ended others other.frame.objects us other.world.memory) (ended_agrees change (likeness change p calling) saved others other.frame.objects ts us other.world.memory h.0 h.1) (inl refl) state k
+        single_met (ends others ∷ us) e (ended saved now.frame.objects ts other.world.memory) (ended others other.frame.objects us other.world.memory) (ended_agrees change (likeness change calling) saved others other.frame.objects ts us other.world.memory h.0 h.1) (inl refl) state k
     task_met (ends_switch saved) (ends_switch others) ts us h e state k =
-        single_met (ends_switch others ∷ us) e (ended saved now.frame.objects ts other.world.memory) (ended others other.frame.objects us other.world.memory) (ended_agrees change (likeness change p calling) saved others other.frame.objects ts us other.world.memory h.0 h.1) (inl refl) state k
+        single_met (ends_switch others ∷ us) e (ended saved now.frame.objects ts other.world.memory) (ended others other.frame.objects us other.world.memory) (ended_agrees change (likeness change calling) saved others other.frame.objects ts us other.world.memory h.0 h.1) (inl refl) state k
     task_met leaves leaves ts us h e state k =
-        single_met (leaves ∷ us) e (after_break now.frame.objects other.world.memory ts) (after_break other.frame.objects other.world.memory us) (break_agrees change (likeness change p calling) other.frame.objects other.world.memory ts us h.1) (inl refl) state k
+        single_met (leaves ∷ us) e (after_break now.frame.objects other.world.memory ts) (after_break other.frame.objects other.world.memory us) (break_agrees change (likeness change calling) other.frame.objects other.world.memory ts us h.1) (inl refl) state k
     task_met skips skips ts us h e state k =
-        single_met (skips ∷ us) e (after_continue now.frame.objects other.world.memory ts) (after_continue other.frame.objects other.world.memory us) (continue_agrees change (likeness change p calling) other.frame.objects other.world.memory ts us h.1) (inl refl) state k
+        single_met (skips ∷ us) e (after_continue now.frame.objects other.world.memory ts) (after_continue other.frame.objects other.world.memory us) (continue_agrees change (likeness change calling) other.frame.objects other.world.memory ts us h.1) (inl refl) state k
     task_met (hands_back value) (hands_back other_value) ts us h e state (inl k) =
-        subst (Met change p w spare other) (sym k) (subst (λ v. Met change p w spare other (handed_back now v callers)) (sym h.0) (back_met other_value callers other.callers callers_agree (old_among _ e _ (inl refl))))
+        subst (Met change w spare other) (sym k) (subst (λ v. Met change w spare other (handed_back now v callers)) (sym h.0) (back_met other_value callers other.callers callers_agree (old_among _ e _ (inl refl))))
     task_met (hands_back value) (hands_back other_value) ts us h e state (inr k) = absurd k
     task_met t u ts us h e state k = absurd h.0
 
-    tasks_met : (ts us : List Task) → TasksAgree change p ts us → unfolded other.frame.tasks ≡ us → (state : State) → IsAmong state (task_steps (new_of change) names now ts) → Met change p w spare other state
-    tasks_met [] [] h e state (inl k) = subst (Met change p w spare other) (sym k) (closed_met (old_among [] e _ (inl refl)))
+    tasks_met : (ts us : List Task) → TasksAgree change ts us → unfolded other.frame.tasks ≡ us → (state : State) → IsAmong state (task_steps (new_of change) names now ts) → Met change w spare other state
+    tasks_met [] [] h e state (inl k) = subst (Met change w spare other) (sym k) (closed_met (old_among [] e _ (inl refl)))
     tasks_met [] [] h e state (inr k) = absurd k
     tasks_met [] (u ∷ us) h e state k = absurd h
     tasks_met (t ∷ ts) [] h e state k = absurd h
@@ -697,27 +706,27 @@ module _ (change : Called) (p : ℕ) (calling : IsCallingWith change p) where
 
   -- ---- one step in the added function
 
-  module _ (names : ℕ → ℕ) (other : State) (fresh : IsFresh names other.world.memory) (stands : other.standing ≡ going) (function n : ℕ) (value : Value) (spare : Spare)
-      (caller : Caller) (others : List Caller) (run : Run) (waits : Waits change p spare caller others other run) (set : is_unset value ≡ false) (w : ℕ) (known : AreKnown change.old other.statics)
-      (found : look_up other.world.memory n ≡ Some (parameter_block change p value))
-      (free : (locks : List At) → AreAmong locks (locks_in (filled_in waits.hole run)) → overlaps_any (whole (numbered n)) locks ≡ false) where
+  module _ (names : ℕ → ℕ) (other : State) (fresh : IsFresh names other.world.memory) (stands : other.standing ≡ going) (function : ℕ) (entries : List Entry) (spare : Spare)
+      (caller : Caller) (others : List Caller) (run : Run) (waits : Waits change spare caller others other run) (held : AreHeld change entries) (w : ℕ) (known : AreKnown change.old other.statics)
+      (found : (entry : Entry) → IsAmong entry entries → look_up other.world.memory entry.stored ≡ Some (parameter_block change entry.parameter entry.value))
+      (free : (entry : Entry) → IsAmong entry entries → (locks : List At) → AreAmong locks (locks_in (filled_in waits.hole run)) → overlaps_any (whole (numbered entry.stored)) locks ≡ false) where
     abbrev in_added : List Task → State
     in_added tasks = record {
       standing = other.standing;
-      frame = record { function = function; objects = (p, n) ∷ []; tasks = tasks };
+      frame = record { function = function; objects = objects_in entries; tasks = tasks };
       callers = caller ∷ others;
       statics = renamed_objects change.rename other.statics;
       world = other.world;
     }
 
     abbrev all_spare : Spare
-    all_spare = (n, value) ∷ spare
+    all_spare = entries ∷ spare
 
     abbrev whole_run : Run
     whole_run = filled_in waits.hole run
 
     abbrev inner_objects : Objects
-    inner_objects = renamed_objects change.rename other.statics ++ (p, n) ∷ []
+    inner_objects = renamed_objects change.rename other.statics ++ objects_in entries
 
     among_next : (y : State) → IsAmong y (expression_steps change.old names other waits.rest waits.place waits.use_of whole_run) → IsAmong y (next names change.old other)
     among_next y h =
@@ -730,7 +739,7 @@ module _ (change : Called) (p : ℕ) (calling : IsCallingWith change p) where
     abbrev went_on : Run → World → State
     went_on after world = record other { frame = record other.frame { tasks = evaluates waits.place (filled_in waits.hole after) waits.use_of ∷ waits.rest }; world = world }
 
-    waits_on : (after : Run) (world : World) → Waits change p spare caller others (went_on after world) after
+    waits_on : (after : Run) (world : World) → Waits change spare caller others (went_on after world) after
     waits_on after world = record {
       place = waits.place;
       hole = waits.hole;
@@ -747,13 +756,13 @@ module _ (change : Called) (p : ℕ) (calling : IsCallingWith change p) where
     }
 
     -- the old program stays where it is
-    stays_inside : (v : ℕ) (tasks : List Task) → v + 1 ≤ w → Phase change p v n value tasks caller.kind run → Met change p w all_spare other (in_added tasks)
+    stays_inside : (v : ℕ) (tasks : List Task) → v + 1 ≤ w → Phase change v entries tasks caller.kind run → Met change w all_spare other (in_added tasks)
     stays_inside v tasks less phase =
         inr (inr (inl (
           v,
           less,
           inr (
-            (n, value),
+            entries,
             spare,
             refl,
             record {
@@ -765,7 +774,7 @@ module _ (change : Called) (p : ℕ) (calling : IsCallingWith change p) where
               run = run;
               waits = waits;
               phase = phase;
-              set = set;
+              held = held;
               statics = refl;
               world = refl;
             },
@@ -773,47 +782,39 @@ module _ (change : Called) (p : ℕ) (calling : IsCallingWith change p) where
         )))
 
     -- the body begins
-    beginning_met : (tasks : List Task) → Beginning change p w value tasks caller.kind run → (state : State) → IsAmong state (task_steps (new_of change) names (in_added tasks) (unfolded tasks)) → Met change p w all_spare other state
+    beginning_met : (tasks : List Task) → Beginning change w entries tasks caller.kind run → (state : State) → IsAmong state (task_steps (new_of change) names (in_added tasks) (unfolded tasks)) → Met change w all_spare other state
     beginning_met tasks h state k =
         at_return (subst (λ ts. IsAmong state (task_steps (new_of change) names (in_added ts) (unfolded ts))) h.is k)
       where
-        tree_kind : (tree other_tree argument : Tree) → Holds change p tree other_tree argument → kind_of tree ≡ kind_of other_tree
-        tree_kind (node label kind spans parts) other_tree argument holds = holds.1
-
         at_return : IsAmong state (task_steps (new_of change) names (in_added (begins (node return h.return_kind h.return_spans (more_trees change.body no_trees)) ∷ []))
-            (begins (node return h.return_kind h.return_spans (more_trees change.body no_trees)) ∷ [])) → Met change p w all_spare other state
+            (begins (node return h.return_kind h.return_spans (more_trees change.body no_trees)) ∷ [])) → Met change w all_spare other state
         at_return (inl e) =
-            let there = hole_of change p change.body h.entered.tree h.entered.argument h.entered.holds in
-            let filler = done (kind_of h.entered.argument) (of_value value) h.entered.locks in
-            subst (Met change p w all_spare other) (sym e)
-            (stays_inside 2 (evaluates (place_of change.body) (begun change.body) returns ∷ []) (omega (arith, h.left)) (inr (inl (record {
+            subst (Met change w all_spare other) (sym e)
+            (stays_inside (size change) (evaluates (place_of change.body) (begun change.body) returns ∷ []) h.left (inr (inl (record {
               place = place_of change.body;
               now = begun change.body;
               is = refl;
-              agrees = inl (record {
-                named = false;
-                reads = subst (λ r. Reads change p n value false (begun change.body) r) (sym h.entered.is) (begun_reads change p n value h.entered.locks change.body h.entered.tree h.entered.argument h.entered.holds);
-                open_still = subst IsToDo (sym h.entered.is) (hole_to_do change p change.body h.entered.tree h.entered.argument h.entered.holds filler);
-                stage = omega arith;
-              });
-              yields = subst (λ t. Yields t (begun change.body)) (tree_kind change.body h.entered.tree h.entered.argument h.entered.holds ∙ sym h.entered.typed) (begun_yields change.body calling.value);
+              agrees = h.agrees;
+              few = at_least (size change);
+              left = begun_left change change.body;
+              yields = subst (λ t. Yields t (begun change.body)) (sym h.typed) (begun_yields change.body calling.value);
             }))))
         at_return (inr e) = absurd e
 
     -- the value is returned
-    returning_met : (tasks : List Task) → Returning w tasks caller.kind run → (state : State) → IsAmong state (task_steps (new_of change) names (in_added tasks) (unfolded tasks)) → Met change p w all_spare other state
+    returning_met : (tasks : List Task) → Returning change w tasks caller.kind run → (state : State) → IsAmong state (task_steps (new_of change) names (in_added tasks) (unfolded tasks)) → Met change w all_spare other state
     returning_met tasks h state k =
         at_end (subst (λ ts. IsAmong state (task_steps (new_of change) names (in_added ts) (unfolded ts))) h.is k)
       where
-        at_end : IsAmong state (task_steps (new_of change) names (in_added (hands_back h.value ∷ [])) (hands_back h.value ∷ [])) → Met change p w all_spare other state
+        at_end : IsAmong state (task_steps (new_of change) names (in_added (hands_back h.value ∷ [])) (hands_back h.value ∷ [])) → Met change w all_spare other state
         at_end (inl e) =
             let back = in_added (hands_back h.value ∷ []) in
-            subst (Met change p w all_spare other) (sym (e ∙ ap (λ b. if b then record back { standing = undefined NoValue caller.place } else gone_back back h.value caller others) h.given))
+            subst (Met change w all_spare other) (sym (e ∙ ap (λ b. if b then record back { standing = undefined NoValue caller.place } else gone_back back h.value caller others) h.given_value))
             (inr (inr (inr (inr (record {
-              first = (n, value);
+              first = entries;
               rest = spare;
               is = refl;
-              left = 4;
+              left = size change + 2;
               less = omega (arith, h.left);
               related = inl (
                 omega arith,
@@ -822,9 +823,9 @@ module _ (change : Called) (p : ℕ) (calling : IsCallingWith change p) where
                   function = waits.function;
                   objects = waits.objects;
                   tasks =
-                      subst (λ ts. TasksAgree change p (evaluates caller.place (filled_in caller.hole (done caller.kind (of_value h.value) [])) caller.use_of ∷ caller.frame.tasks) ts)
+                      subst (λ ts. TasksAgree change (evaluates caller.place (filled_in caller.hole (done caller.kind (of_value h.value) [])) caller.use_of ∷ caller.frame.tasks) ts)
                       (sym (waits.evaluating ∙ ap (λ r. evaluates waits.place (filled_in waits.hole r) waits.use_of ∷ waits.rest) h.result))
-                      ((filled_agrees change p false caller.kind caller.hole waits.hole (done caller.kind (of_value h.value) []) (done caller.kind (of_value h.value) h.locks) waits.holes (refl, h.value, refl, h.given) (refl, refl, λ lock l. absurd l), waits.uses), waits.tasks);
+                      ((filled_agrees change outside caller.kind caller.hole waits.hole (done caller.kind (of_value h.value) []) (done caller.kind (of_value h.value) h.locks) waits.holes (refl, h.value, refl, h.given_value) (refl, refl, λ lock l. absurd l), waits.uses), waits.tasks);
                   callers = waits.callers;
                   statics = refl;
                   world = refl;
@@ -834,14 +835,14 @@ module _ (change : Called) (p : ℕ) (calling : IsCallingWith change p) where
         at_end (inr e) = absurd e
 
     -- a function is called
-    called_inside : (kind : CType) (place : Place) (hole inner : Hole) (arguments : List Value) → HoleEval change p n value kind hole inner → HoleYields caller.kind kind hole
-        → (definition other_definition : Option Definition) → OptionAgrees (DefinitionAgrees change p) definition other_definition
+    called_inside : (kind : CType) (place : Place) (hole inner : Hole) (arguments : List Value) → HoleAgrees change (inside entries) kind hole inner → hole_left hole ≤ size change → HoleYields caller.kind kind hole
+        → (definition other_definition : Option Definition) → OptionAgrees (DefinitionAgrees change) definition other_definition
         → IsAmong (opened change.old names other waits.rest waits.place waits.use_of kind (hole_in waits.hole inner) arguments other_definition) (next names change.old other)
-        → (tasks : List Task) → Met change p w all_spare other (opened (new_of change) names (in_added tasks) [] place returns kind hole arguments definition)
-    called_inside kind place hole inner arguments h y None None k among tasks = inl (goes_wrong _ among External waits.place refl)
-    called_inside kind place hole inner arguments h y None (Some definition) k among tasks = absurd k
-    called_inside kind place hole inner arguments h y (Some definition) None k among tasks = absurd k
-    called_inside kind place hole inner arguments h y (Some definition) (Some other_definition) k among tasks =
+        → (tasks : List Task) → Met change w all_spare other (opened (new_of change) names (in_added tasks) [] place returns kind hole arguments definition)
+    called_inside kind place hole inner arguments h few y None None k among tasks = inl (goes_wrong _ among External waits.place refl)
+    called_inside kind place hole inner arguments h few y None (Some definition) k among tasks = absurd k
+    called_inside kind place hole inner arguments h few y (Some definition) None k among tasks = absurd k
+    called_inside kind place hole inner arguments h few y (Some definition) (Some other_definition) k among tasks =
         inr (inl (
           opened change.old names other waits.rest waits.place waits.use_of kind (hole_in waits.hole inner) arguments (Some other_definition),
           (names, fresh, among),
@@ -851,9 +852,9 @@ module _ (change : Called) (p : ℕ) (calling : IsCallingWith change p) where
               standing = refl;
               function = k.0;
               objects = frame_objects names definition other_definition k;
-              tasks = unfolded_agree change (likeness change p calling) _ _ (frame_tasks names definition other_definition k);
+              tasks = unfolded_agree change (likeness change calling) _ _ (frame_tasks names definition other_definition k);
               callers = inr (
-                (n, value),
+                entries,
                 spare,
                 refl,
                 record {
@@ -865,9 +866,10 @@ module _ (change : Called) (p : ℕ) (calling : IsCallingWith change p) where
                   inner = inner;
                   hole = refl;
                   opened = waits.opened;
-                  inside = h;
-                  set = set;
-                  outside = waits.holes;
+                  agrees = h;
+                  few = few;
+                  held = held;
+                  beyond = waits.holes;
                   yields = y;
                   caller_function = waits.function;
                   caller_objects = waits.objects;
@@ -883,33 +885,29 @@ module _ (change : Called) (p : ℕ) (calling : IsCallingWith change p) where
         ))
 
     called_inside_by : (place : Place) (f g : ℕ) (arguments values : List Value) (kind other_kind : CType) (hole inner : Hole) → f ≡ change.rename g → arguments ≡ values → kind ≡ other_kind
-        → HoleEval change p n value kind hole inner → HoleYields caller.kind kind hole
+        → HoleAgrees change (inside entries) kind hole inner → hole_left hole ≤ size change → HoleYields caller.kind kind hole
         → IsAmong (opened change.old names other waits.rest waits.place waits.use_of other_kind (hole_in waits.hole inner) values (definition_of change.old g)) (next names change.old other)
-        → (tasks : List Task) → Met change p w all_spare other (opened (new_of change) names (in_added tasks) [] place returns kind hole arguments (definition_of (new_of change) f))
-    called_inside_by place f g arguments values kind other_kind hole inner e a t h y among tasks =
-        subst (λ d. Met change p w all_spare other (opened (new_of change) names (in_added tasks) [] place returns kind hole arguments (definition_of (new_of change) d))) (sym e)
-        (subst (λ l. Met change p w all_spare other (opened (new_of change) names (in_added tasks) [] place returns kind hole l (definition_of (new_of change) (change.rename g)))) (sym a)
-        (called_inside kind place hole inner values h y (definition_of (new_of change) (change.rename g)) (definition_of change.old g)
-        (definition_agrees change p calling change.functions change.old.functions calling.functions g)
+        → (tasks : List Task) → Met change w all_spare other (opened (new_of change) names (in_added tasks) [] place returns kind hole arguments (definition_of (new_of change) f))
+    called_inside_by place f g arguments values kind other_kind hole inner e a t h few y among tasks =
+        subst (λ d. Met change w all_spare other (opened (new_of change) names (in_added tasks) [] place returns kind hole arguments (definition_of (new_of change) d))) (sym e)
+        (subst (λ l. Met change w all_spare other (opened (new_of change) names (in_added tasks) [] place returns kind hole l (definition_of (new_of change) (change.rename g)))) (sym a)
+        (called_inside kind place hole inner values h few y (definition_of (new_of change) (change.rename g)) (definition_of change.old g)
+        (definition_agrees change calling change.functions change.old.functions calling.functions g)
         (subst (λ t'. IsAmong (opened change.old names other waits.rest waits.place waits.use_of t' (hole_in waits.hole inner) values (definition_of change.old g)) (next names change.old other)) (sym t) among) tasks))
 
-    -- the phase after a step of the old program
-    evaluated_on : (present after : Run) → EvalAgrees change p n value present after → Reading change p 6 n value present after ⊎ (RunAgrees change p true present after × Left 6 present)
-    evaluated_on present after (inl (named, reads, still)) = inl (record { named = named; reads = reads; open_still = still; stage = stage_of_six named })
-    evaluated_on present after (inr plain) = inr (plain, left_of_six present)
-
     -- a step of its expression
-    inside_moved : (place : Place) (present : Run) → EvalAgrees change p n value present run → Yields caller.kind present → (m x : Move Run Hole) → MoveAgrees change.rename (EvalAgrees change p n value) (HoleEval change p n value) m x
-        → MoveYields caller.kind m
+    inside_moved : (place : Place) (present : Run) → RunAgrees change (inside entries) present run → left_in present ≤ size change → Yields caller.kind present → (m x : Move Run Hole) → RunMoveAgrees change (inside entries) m x
+        → MoveYields caller.kind m → LeavesLess (left_in present) m
         → IsAmong (moved change.old names other waits.rest waits.place waits.use_of (lifted (filled_in waits.hole) (hole_in waits.hole) x)) (next names change.old other)
-        → Met change p w all_spare other (moved (new_of change) names (in_added (evaluates place present returns ∷ [])) [] place returns m)
-    inside_moved place present agrees yields m (fails cause there) h y among = inl (goes_wrong _ among cause there refl)
-    inside_moved place present agrees yields (goes world next_run) (goes other_world other_run) h y among =
+        → Met change w all_spare other (moved (new_of change) names (in_added (evaluates place present returns ∷ [])) [] place returns m)
+    inside_moved place present agrees few yields m (fails cause there) h y l among = inl (goes_wrong _ among cause there refl)
+    inside_moved place present agrees few yields (goes world next_run) (goes other_world other_run) h y l among =
+        let still_few = less_still (left_in next_run) (left_in present) (size change) l few in
         inr (inl (
           went_on other_run other_world,
           (names, fresh, among),
           inr (
-            (n, value),
+            entries,
             spare,
             refl,
             record {
@@ -920,28 +918,28 @@ module _ (change : Called) (p : ℕ) (calling : IsCallingWith change p) where
               callers = refl;
               run = other_run;
               waits = waits_on other_run other_world;
-              phase = inr (inl (record { place = place; now = next_run; is = refl; agrees = evaluated_on next_run other_run h.1; yields = y }));
-              set = set;
+              phase = inr (inl (record { place = place; now = next_run; is = refl; agrees = h.1; few = still_few; left = left_of_real change next_run still_few; yields = y }));
+              held = held;
               statics = refl;
               world = h.0;
             },
           ),
         ))
-    inside_moved place present agrees yields (goes world next_run) (calls g values kind hole) h y among = absurd h
-    inside_moved place present agrees yields (goes world next_run) (exits status) h y among = absurd h
-    inside_moved place present agrees yields (calls f arguments kind hole) (calls g values other_kind inner) h y among =
-        called_inside_by place f g arguments values kind other_kind hole inner h.0 h.1 h.2 h.3 y among (evaluates place present returns ∷ [])
-    inside_moved place present agrees yields (calls f arguments kind hole) (goes other_world other_run) h y among = absurd h
-    inside_moved place present agrees yields (calls f arguments kind hole) (exits status) h y among = absurd h
-    inside_moved place present agrees yields (fails cause at) (goes other_world other_run) h y among = absurd h
-    inside_moved place present agrees yields (fails cause at) (calls g values kind hole) h y among = absurd h
-    inside_moved place present agrees yields (fails cause at) (exits status) h y among = absurd h
-    inside_moved place present agrees yields (exits status) (exits other_status) h y among =
+    inside_moved place present agrees few yields (goes world next_run) (calls g values kind hole) h y l among = absurd h
+    inside_moved place present agrees few yields (goes world next_run) (exits status) h y l among = absurd h
+    inside_moved place present agrees few yields (calls f arguments kind hole) (calls g values other_kind inner) h y l among =
+        called_inside_by place f g arguments values kind other_kind hole inner h.0 h.1 h.2 h.3 (less_still (hole_left hole) (left_in present) (size change) l few) y among (evaluates place present returns ∷ [])
+    inside_moved place present agrees few yields (calls f arguments kind hole) (goes other_world other_run) h y l among = absurd h
+    inside_moved place present agrees few yields (calls f arguments kind hole) (exits status) h y l among = absurd h
+    inside_moved place present agrees few yields (fails cause at) (goes other_world other_run) h y l among = absurd h
+    inside_moved place present agrees few yields (fails cause at) (calls g values kind hole) h y l among = absurd h
+    inside_moved place present agrees few yields (fails cause at) (exits status) h y l among = absurd h
+    inside_moved place present agrees few yields (exits status) (exits other_status) h y l among =
         inr (inl (
           record other { standing = exited other_status },
           (names, fresh, among),
           inr (
-            (n, value),
+            entries,
             spare,
             refl,
             record {
@@ -965,15 +963,15 @@ module _ (change : Called) (p : ℕ) (calling : IsCallingWith change p) where
                 uses = waits.uses;
                 callers = waits.callers;
               };
-              phase = inr (inl (record { place = place; now = present; is = refl; agrees = evaluated_on present run agrees; yields = yields }));
-              set = set;
+              phase = inr (inl (record { place = place; now = present; is = refl; agrees = agrees; few = few; left = left_of_real change present few; yields = yields }));
+              held = held;
               statics = refl;
               world = refl;
             },
           ),
         ))
-    inside_moved place present agrees yields (exits status) (goes other_world other_run) h y among = absurd h
-    inside_moved place present agrees yields (exits status) (calls g values kind hole) h y among = absurd h
+    inside_moved place present agrees few yields (exits status) (goes other_world other_run) h y l among = absurd h
+    inside_moved place present agrees few yields (exits status) (calls g values kind hole) h y l among = absurd h
 
     -- a step of the old program that meets it
     old_step : (x : Move Run Hole) → IsAmong x (moves (scene_of change.old other) other.world (locks_in whole_run) run)
@@ -982,109 +980,87 @@ module _ (change : Called) (p : ℕ) (calling : IsCallingWith change p) where
         among_next _ (step_of_expression change.old names other waits.rest waits.place waits.use_of whole_run (lifted (filled_in waits.hole) (hole_in waits.hole) x)
         (move_lifts (scene_of change.old other) other.world (locks_in whole_run) waits.hole run x waits.opened among))
 
-    new_yields : (now : Run) → Yields caller.kind now → (m : Move Run Hole)
-        → IsAmong m (moves (record { program = new_of change; objects = inner_objects }) other.world (locks_in now) now) → MoveYields caller.kind m
-    new_yields now yields m among = move_yields_on (record { program = new_of change; objects = inner_objects }) other.world (locks_in now) caller.kind now yields m among
+    -- its parameters may be read
+    all_ready : (locks : List At) → AreAmong locks (locks_in whole_run) → (entry : Entry) → IsAmong entry entries → IsReady change inner_objects other.world locks entry
+    all_ready locks fewer entry k = record {
+      named = own_named change.rename other.statics (objects_in entries) entry.parameter (held.own entry k) ∙ held.named entry k;
+      found = found entry k;
+      free = free entry k locks fewer;
+      set = held.set entry k;
+    }
 
-    -- the parameter's name
-    own_name : object_named inner_objects p ≡ Some n
-    own_name = own_named change.rename other.statics p n calling.own
-
-    -- the parameter isn't read yet
-    reading_met : (place : Place) (now : Run) → Reading change p w n value now run → Yields caller.kind now
-        → (state : State) → IsAmong state (expression_steps (new_of change) names (in_added (evaluates place now returns ∷ [])) [] place returns now) → Met change p w all_spare other state
-    reading_met place (done kind result locks) h yields state k = absurd h.reads
-    reading_met place (to_do doing kind at parts) h yields state k =
-        let now = to_do doing kind at parts in
-        let from = among-map_from (moved (new_of change) names (in_added (evaluates place now returns ∷ [])) [] place returns) state _ k in
-        let fewer : AreAmong (locks_in now) (locks_in whole_run) = λ lock l. locks_lift waits.hole run lock (fewer_read change p n value h.named now run h.reads lock l) in
-        subst (Met change p w all_spare other) (sym from.2)
-        (by_match from.0 (new_yields now yields from.0 from.1)
-        (reads_matched change p calling inner_objects (other.statics ++ other.frame.objects)
-        (λ d stands'. same_static change.rename calling.injective other.statics ((p, n) ∷ []) other.frame.objects d (known d stands')) other.world (locks_in now) (locks_in whole_run) fewer n value own_name found (free (locks_in now) fewer) set
-        h.named now run h.reads from.0 from.1))
+    -- the expression, or the end of its evaluation
+    evaluated_met : (place : Place) (now : Run) → RunAgrees change (inside entries) now run → left_in now ≤ size change → Yields caller.kind now → Left change w now
+        → (state : State) → IsAmong state (expression_steps (new_of change) names (in_added (evaluates place now returns ∷ [])) [] place returns now) → Met change w all_spare other state
+    evaluated_met place (done kind result locks) agrees few yields left state (inl e) =
+        subst (Met change w all_spare other) (sym e)
+        (stays_inside (size change + 3) (hands_back (value_of result) ∷ []) (omega (arith, left)) (inr (inr (by_result run agrees))))
       where
-        left_open : (a b : Run) → RunAgrees change p true a b → IsToDo b → Left 0 a
-        left_open (done own_kind result locks) (done other_kind other_result other_locks) r still = absurd still
-        left_open (done own_kind result locks) (to_do other_doing other_kind there others') r still = absurd r
-        left_open (to_do own_doing own_kind here_at members) b r still = tt
-
-        progressed : (named : Bool) (next_run : Run) → Stage w named → IsToDo run → AfterRead change p n value named next_run run → Yields caller.kind next_run
-            → Met change p w all_spare other (in_added (evaluates place next_run returns ∷ []))
-        progressed false next_run stage still after gives =
-            stays_inside 1 (evaluates place next_run returns ∷ []) (omega (arith, stage)) (inr (inl (record {
-              place = place;
-              now = next_run;
-              is = refl;
-              agrees = inl (record { named = true; reads = after; open_still = still; stage = omega arith });
-              yields = gives;
-            })))
-        progressed true next_run stage still after gives =
-            stays_inside 0 (evaluates place next_run returns ∷ []) (omega (arith, stage)) (inr (inl (record {
-              place = place;
-              now = next_run;
-              is = refl;
-              agrees = inr (after, left_open next_run run after still);
-              yields = gives;
-            })))
-
-        by_match : (m : Move Run Hole) → MoveYields caller.kind m
-            → (((x : Move Run Hole) × IsAmong x (moves (scene_of change.old other) other.world (locks_in whole_run) run)
-            × MoveAgrees change.rename (λ t u. Reads change p n value h.named t u × IsToDo u) (HoleReads change p n value h.named) m x)
-            ⊎ ((next_run : Run) × (m ≡ goes other.world next_run) × AfterRead change p n value h.named next_run run))
-            → Met change p w all_spare other (moved (new_of change) names (in_added (evaluates place (to_do doing kind at parts) returns ∷ [])) [] place returns m)
-        by_match m y (inl (x, among, agrees)) =
-            inside_moved place (to_do doing kind at parts) (inl (h.named, h.reads, h.open_still)) yields m x
-            (weakened change.rename (λ t u. Reads change p n value h.named t u × IsToDo u) (EvalAgrees change p n value) (HoleReads change p n value h.named) (HoleEval change p n value)
-            (λ t u r. inl (h.named, r.0, r.1)) (λ type a b r. inl (h.named, r)) m x agrees) y (old_step x among)
-        by_match m y (inr (next_run, e, after)) =
-            subst (λ z. Met change p w all_spare other (moved (new_of change) names (in_added (evaluates place (to_do doing kind at parts) returns ∷ [])) [] place returns z)) (sym e)
-            (progressed h.named next_run h.stage h.open_still after (subst (MoveYields caller.kind) e y))
-
-    -- the expression after the parameter was read, or the end of its evaluation
-    evaluated_met : (place : Place) (now : Run) → RunAgrees change p true now run → Yields caller.kind now → Left w now
-        → (state : State) → IsAmong state (expression_steps (new_of change) names (in_added (evaluates place now returns ∷ [])) [] place returns now) → Met change p w all_spare other state
-    evaluated_met place (done kind result locks) agrees yields left state (inl e) =
-        subst (Met change p w all_spare other) (sym e)
-        (stays_inside 5 (hands_back (value_of result) ∷ []) (omega (arith, left)) (inr (inr (by_result run agrees))))
-      where
-        by_result : (other_run : Run) → RunAgrees change p true (done kind result locks) other_run → Returning 5 (hands_back (value_of result) ∷ []) caller.kind other_run
+        by_result : (other_run : Run) → RunAgrees change (inside entries) (done kind result locks) other_run → Returning change (size change + 3) (hands_back (value_of result) ∷ []) caller.kind other_run
         by_result (done other_kind other_result other_locks) h = record {
           value = yields.1;
           locks = other_locks;
           is = ap (λ r. hands_back (value_of r) ∷ []) yields.2;
           result = ap (λ k. done k other_result other_locks) (sym h.0 ∙ yields.0) ∙ ap (λ r. done caller.kind r other_locks) (sym h.1 ∙ yields.2);
-          given = ap (λ k. lacks_value k yields.1) (sym yields.0) ∙ yields.3;
+          given_value = ap (λ k. lacks_value k yields.1) (sym yields.0) ∙ yields.3;
           left = omega arith;
         }
         by_result (to_do doing other_kind at parts) h = absurd h
-    evaluated_met place (done kind result locks) agrees yields left state (inr e) = absurd e
-    evaluated_met place (to_do doing kind here_at parts) agrees yields left state k =
+    evaluated_met place (done kind result locks) agrees few yields left state (inr e) = absurd e
+    evaluated_met place (to_do doing kind here_at parts) agrees few yields left state k =
         let now = to_do doing kind here_at parts in
+        let new_scene : Scene = record { program = new_of change; objects = inner_objects } in
         let from = among-map_from (moved (new_of change) names (in_added (evaluates place now returns ∷ [])) [] place returns) state _ k in
-        let fewer : AreAmong (locks_in now) (locks_in whole_run) = λ lock l. locks_lift waits.hole run lock (fewer_locks change p true now run agrees lock l) in
-        let match = only_left (run_matched change p calling true inner_objects (other.statics ++ other.frame.objects) (λ d stands'. same_static change.rename calling.injective other.statics ((p, n) ∷ []) other.frame.objects d (known d stands')) other.world (locks_in now) (locks_in whole_run) fewer now run agrees from.0 from.1) in
-        subst (Met change p w all_spare other) (sym from.2)
-        (inside_moved place now (inr agrees) yields from.0 match.0
-        (weakened change.rename (RunAgrees change p true) (EvalAgrees change p n value) (HoleAgrees change p true) (HoleEval change p n value) (λ t u r. inr r) (λ type a b r. inr r) from.0 match.0 match.2)
-        (new_yields now yields from.0 from.1) (old_step match.0 match.1))
-
-    evaluating_met : (tasks : List Task) → Evaluating change p w n value tasks caller.kind run → (state : State) → IsAmong state (task_steps (new_of change) names (in_added tasks) (unfolded tasks)) → Met change p w all_spare other state
-    evaluating_met tasks h state k = by_phase h.agrees (subst (λ ts. IsAmong state (task_steps (new_of change) names (in_added ts) (unfolded ts))) h.is k)
+        let fewer : AreAmong (locks_in now) (locks_in whole_run) = λ lock l. locks_lift waits.hole run lock (fewer_locks change calling (inside entries) now run agrees lock l) in
+        subst (Met change w all_spare other) (sym from.2)
+        (by_match from.0 (move_yields_on new_scene other.world (locks_in now) caller.kind now yields from.0 from.1) (move_leaves new_scene other.world (locks_in now) now from.0 from.1)
+        (run_matched change calling (inside entries) inner_objects (other.statics ++ other.frame.objects)
+        (λ d stands'. same_static change.rename calling.injective other.statics (objects_in entries) other.frame.objects d (known d stands')) other.world (locks_in now) (locks_in whole_run) fewer
+        (all_ready (locks_in now) fewer) now run agrees from.0 from.1))
       where
-        by_phase : Reading change p w n value h.now run ⊎ (RunAgrees change p true h.now run × Left w h.now)
-            → IsAmong state (expression_steps (new_of change) names (in_added (evaluates h.place h.now returns ∷ [])) [] h.place returns h.now) → Met change p w all_spare other state
-        by_phase (inl reading) l = reading_met h.place h.now reading h.yields state l
-        by_phase (inr (agrees, left)) l = evaluated_met h.place h.now agrees h.yields left state l
+        left_open : (a b : Run) → RunAgrees change (inside entries) a b → IsToDo b → (v : ℕ) → left_in a ≤ v → Left change v a
+        left_open (done own_kind result locks) (done other_kind other_result other_locks) r still v l = absurd still
+        left_open (done own_kind result locks) (to_do other_doing other_kind there others') r still v l = absurd r
+        left_open (to_do own_doing own_kind here_now members) b r still v l = l
 
-    phase_met : (tasks : List Task) → Phase change p w n value tasks caller.kind run → (state : State) → IsAmong state (task_steps (new_of change) names (in_added tasks) (unfolded tasks)) → Met change p w all_spare other state
+        old_open : (b : Run) → RunAgrees change (inside entries) (to_do doing kind here_at parts) b → IsToDo b
+        old_open (done other_kind other_result other_locks) r = absurd r
+        old_open (to_do other_doing other_kind there others') r = tt
+
+        by_match : (m : Move Run Hole) → MoveYields caller.kind m → LeavesLess (left_in (to_do doing kind here_at parts)) m
+            → ((x : Move Run Hole) × IsAmong x (moves (scene_of change.old other) other.world (locks_in whole_run) run) × RunMoveAgrees change (inside entries) m x)
+            ⊎ (((next_run : Run) × (true ≡ true) × (m ≡ goes other.world next_run) × RunAgrees change (inside entries) next_run run)
+            ⊎ ((inside entries ≡ outside)
+            × ((values : List Value) × (own : CType) × (stood : Run) × (hole other_hole : Hole) × (m ≡ calls change.added.function values own hole) × HoleAgrees change (inside entries) own hole other_hole × IsOpen other_hole
+            × (run ≡ filled_in other_hole stood) × Entered change values own stood)))
+            → Met change w all_spare other (moved (new_of change) names (in_added (evaluates place (to_do doing kind here_at parts) returns ∷ [])) [] place returns m)
+        by_match m y l (inl (x, among, match)) = inside_moved place (to_do doing kind here_at parts) agrees few yields m x match y l (old_step x among)
+        by_match m y l (inr (inl (next_run, i, e, still))) =
+            let less = subst (LeavesLess (left_in (to_do doing kind here_at parts))) e l in
+            subst (λ z. Met change w all_spare other (moved (new_of change) names (in_added (evaluates place (to_do doing kind here_at parts) returns ∷ [])) [] place returns z)) (sym e)
+            (stays_inside (left_in next_run) (evaluates place next_run returns ∷ []) (fits (left_in next_run) (left_in (to_do doing kind here_at parts)) w less left) (inr (inl (record {
+              place = place;
+              now = next_run;
+              is = refl;
+              agrees = still;
+              few = less_still (left_in next_run) (left_in (to_do doing kind here_at parts)) (size change) less few;
+              left = left_open next_run run still (old_open run agrees) (left_in next_run) (at_least (left_in next_run));
+              yields = subst (MoveYields caller.kind) e y;
+            }))))
+        by_match m y l (inr (inr (elsewhere, entering))) = absurd (inside_not_outside entries elsewhere)
+
+    evaluating_met : (tasks : List Task) → Evaluating change w entries tasks caller.kind run → (state : State) → IsAmong state (task_steps (new_of change) names (in_added tasks) (unfolded tasks)) → Met change w all_spare other state
+    evaluating_met tasks h state k =
+        evaluated_met h.place h.now h.agrees h.few h.yields h.left state (subst (λ ts. IsAmong state (task_steps (new_of change) names (in_added ts) (unfolded ts))) h.is k)
+
+    phase_met : (tasks : List Task) → Phase change w entries tasks caller.kind run → (state : State) → IsAmong state (task_steps (new_of change) names (in_added tasks) (unfolded tasks)) → Met change w all_spare other state
     phase_met tasks (inl h) state k = beginning_met tasks h state k
     phase_met tasks (inr (inl h)) state k = evaluating_met tasks h state k
     phase_met tasks (inr (inr h)) state k = returning_met tasks h state k
 
-  inside_is : (w n : ℕ) (value : Value) (spare : Spare) (state other : State) (h : InsideAgrees change p w n value spare state other)
-      → state ≡ record { standing = other.standing; frame = record { function = state.frame.function; objects = (p, n) ∷ []; tasks = state.frame.tasks }; callers = h.caller ∷ h.others; statics = renamed_objects change.rename other.statics; world = other.world }
-  inside_is w n value spare state other h = λ i. record {
+  inside_is : (w : ℕ) (entries : List Entry) (spare : Spare) (state other : State) (h : InsideAgrees change w entries spare state other)
+      → state ≡ record { standing = other.standing; frame = record { function = state.frame.function; objects = objects_in entries; tasks = state.frame.tasks }; callers = h.caller ∷ h.others; statics = renamed_objects change.rename other.statics; world = other.world }
+  inside_is w entries spare state other h = λ i. record {
     standing = h.standing i;
     frame = record { function = state.frame.function; objects = h.objects i; tasks = state.frame.tasks };
     callers = h.callers i;
@@ -1093,22 +1069,23 @@ module _ (change : Called) (p : ℕ) (calling : IsCallingWith change p) where
   }
 
   -- a step in the added function
-  inside_met : (w : ℕ) (first : ℕ × Value) (rest : Spare) (state next_state other : State) → InsideAgrees change p w first.0 first.1 rest state other
-      → (memory : Memory) → AllSpare change p other.world.memory memory (first ∷ rest) → TasksSettled memory (unfolded other.frame.tasks) → AreKnown change.old other.statics → Step (new_of change) state next_state → Met change p w (first ∷ rest) other next_state
+  inside_met : (w : ℕ) (first : List Entry) (rest : Spare) (state next_state other : State) → InsideAgrees change w first rest state other
+      → (memory : Memory) → AllSpare change other.world.memory memory (flat (first ∷ rest)) → TasksSettled memory (unfolded other.frame.tasks) → AreKnown change.old other.statics → Step (new_of change) state next_state → Met change w (first ∷ rest) other next_state
   inside_met w first rest state next_state other h memory spares settled known step =
-      let moved_step = subst (λ s. Step (new_of change) s next_state) (inside_is w first.0 first.1 rest state other h) step in
+      let moved_step = subst (λ s. Step (new_of change) s next_state) (inside_is w first rest state other h) step in
       let from = from_steps other.standing _ next_state moved_step.2 in
       let made = (subst (TasksSettled memory) h.waits.evaluating settled).0.0 in
-      phase_met moved_step.0 other moved_step.1 from.0 state.frame.function first.0 first.1 rest h.caller h.others h.run h.waits h.set w known spares.0.0
-      (λ locks among. unlocked memory first.0 spares.0.1 locks (λ lock l. made lock (among lock l))) state.frame.tasks h.phase next_state from.1
+      let spare_of = spare_entry change other.world.memory memory first (flat rest) spares in
+      phase_met moved_step.0 other moved_step.1 from.0 state.frame.function first rest h.caller h.others h.run h.waits h.held w known (λ entry k. (spare_of entry k).0)
+      (λ entry k locks among. unlocked memory entry.stored (spare_of entry k).1 locks (λ lock l. made lock (among lock l))) state.frame.tasks h.phase next_state from.1
 
   -- each step is met
-  pub step_met : (w : ℕ) (spare : Spare) (state next_state other : State) → Related change p w spare state other
-      → (memory : Memory) → AllSpare change p other.world.memory memory spare → TasksSettled memory (unfolded other.frame.tasks) → AreKnown change.old other.statics → Step (new_of change) state next_state → Met change p w spare other next_state
+  pub step_met : (w : ℕ) (spare : Spare) (state next_state other : State) → Related change w spare state other
+      → (memory : Memory) → AllSpare change other.world.memory memory (flat spare) → TasksSettled memory (unfolded other.frame.tasks) → AreKnown change.old other.statics → Step (new_of change) state next_state → Met change w spare other next_state
   step_met w spare state next_state other (inl (enough, h)) memory spares settled known step =
       let moved_step : Step (new_of change) (built change other state.frame.tasks state.callers) next_state =
-      subst (λ s. Step (new_of change) s next_state) (is_built change p spare state other h) step in
+      subst (λ s. Step (new_of change) s next_state) (is_built change spare state other h) step in
       let from = from_steps other.standing _ next_state moved_step.2 in
       tasks_met moved_step.0 other moved_step.1 from.0 spare state.frame.tasks h.tasks state.callers h.callers w enough (unfolded state.frame.tasks) (unfolded other.frame.tasks) h.tasks refl next_state from.1
   step_met w spare state next_state other (inr (first, rest, is, h)) memory spares settled known step =
-      subst (λ s. Met change p w s other next_state) (sym is) (inside_met w first rest state next_state other h memory (subst (AllSpare change p other.world.memory memory) is spares) settled known step)
+      subst (λ s. Met change w s other next_state) (sym is) (inside_met w first rest state next_state other h memory (subst (λ s. AllSpare change other.world.memory memory (flat s)) is spares) settled known step)

@@ -11,10 +11,11 @@ use Rattle.dm_meaning.specs.Replaced.{Zipped}
 use Rattle.dm_meaning.specs.Called as called
 use Rattle.dm_meaning.specs.Called.{Called, AreRelatedBut}
 use Rattle.dm_meaning.specs.CalledWith as passed
-use Rattle.dm_meaning.specs.CalledUnits.{change_of, FormAgrees, ExternalAgrees, ExternalsAgree, IsUnitCalling, IsUnitCallingWith}
+use Rattle.dm_meaning.specs.CalledWithAll as passed_all
+use Rattle.dm_meaning.specs.CalledUnits.{change_of, FormAgrees, ExternalAgrees, ExternalsAgree, IsUnitCalling, IsUnitCallingWith, IsUnitCallingWithAll}
 use Rattle.dm_meaning.proofs.StatementLemmas.{zipped_append}
-use Rattle.dm_meaning.proofs.CallStartLemmas.{called_refines}
-use Rattle.dm_meaning.proofs.PassRefineLemmas.{called_with_refines}
+use Rattle.dm_meaning.proofs.CallInstanceLemmas.{called_refines, called_with_refines}
+use Rattle.dm_meaning.proofs.PassRefineLemmas.{called_with_all_refines}
 
 module _ (change : Called) (R : Trees → Trees → Type 0) where
   -- definitions whose bodies are related
@@ -93,6 +94,26 @@ called_with_units_refine table new old rename added body parameter h =
       statics = h.statics;
       not_main = h.not_main;
       parameters = h.parameters;
+      return_kind = h.return_kind;
+      return_spans = h.return_spans;
+      returns = h.returns;
+      value = h.value;
+    })
+
+-- Likewise with any arguments.
+pub called_with_all_units_refine : (table : Table) (new old : TypedUnit) (rename : ℕ → ℕ) (added : Definition) (body : Tree) → IsUnitCallingWithAll table new old rename added body
+    → Refines (machine_of (program_of table new)) (machine_of (program_of table old))
+called_with_all_units_refine table new old rename added body h =
+    let change = change_of table new old rename added body in
+    called_with_all_refines change (record {
+      injective = h.injective;
+      apart = h.apart;
+      own = h.own;
+      distinct = h.distinct;
+      told = h.told;
+      functions = externals_functions change (passed_all.AllAgree change) new.externals old.externals h.externals;
+      statics = h.statics;
+      not_main = h.not_main;
       return_kind = h.return_kind;
       return_spans = h.return_spans;
       returns = h.returns;

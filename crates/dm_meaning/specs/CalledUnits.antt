@@ -3,11 +3,13 @@
 --     IsUnitCalling table new old rename added body      the units are the same but for calls of an added function without parameters, and
 --                                                        that function
 --     IsUnitCallingWith table new old rename added body parameter      likewise with one parameter
+--     IsUnitCallingWithAll table new old rename added body      likewise with any parameters
 use Rattle.std.specs.Prelude.{◌≡◌, ◌⊎◌, ℕ, false, List, [], ◌∷◌, map, option_map}
 use Rattle.dm_type.specs.CTypes.{CType}
 use Rattle.dm_type.specs.Tables.{Table}
 use Rattle.dm_tree.specs.Trees.{return, Spans, Tree, Trees, node, no_trees, more_trees, trees_of, parts_of}
 use Rattle.dm_tree.specs.Units.{External, ExternalForm, declares, defines_function, TypedUnit}
+use Rattle.dm_meaning.specs.Among.{IsAmong}
 use Rattle.dm_meaning.specs.Programs.{Definition, declaration_at}
 use Rattle.dm_meaning.specs.Steps.{is_main}
 use Rattle.dm_meaning.specs.Units.{definitions_in, all_locals, statics_from, program_of}
@@ -15,6 +17,8 @@ use Rattle.dm_meaning.specs.Replaced.{renamed_declarator, Zipped, facts_of, Stat
 use Rattle.dm_meaning.specs.Called as called
 use Rattle.dm_meaning.specs.Called.{Called, Gives, statics_of}
 use Rattle.dm_meaning.specs.CalledWith as passed
+use Rattle.dm_meaning.specs.CalledWithAll as passed_all
+use Rattle.dm_meaning.specs.CalledWithAll.{AreDistinct}
 
 -- the change between the programs of two units, whose types are the same
 abbrev pub change_of : Table → TypedUnit → TypedUnit → (ℕ → ℕ) → Definition → Tree → Called
@@ -76,6 +80,21 @@ pub record IsUnitCallingWith (table : Table) (new old : TypedUnit) (rename : ℕ
   pub statics : Zipped (StaticAgrees (statics_of (change_of table new old rename added body))) (program_of table new).statics (program_of table old).statics
   pub not_main : is_main (declaration_at new.declared added.function) ≡ false
   pub parameters : added.parameters ≡ parameter ∷ []
+  pub return_kind : CType
+  pub return_spans : Spans
+  pub returns : parts_of added.body ≡ node return return_kind return_spans (more_trees body no_trees) ∷ []
+  pub value : Gives body
+
+-- Likewise for an added function with any parameters, which are distinct and have numbers of their own.
+pub record IsUnitCallingWithAll (table : Table) (new old : TypedUnit) (rename : ℕ → ℕ) (added : Definition) (body : Tree) : Type 0 where
+  pub injective : (c d : ℕ) → rename c ≡ rename d → c ≡ d
+  pub apart : (d : ℕ) → rename d ≡ added.function → ⊥
+  pub own : (p : ℕ) → IsAmong p added.parameters → (d : ℕ) → rename d ≡ p → ⊥
+  pub distinct : AreDistinct added.parameters
+  pub told : (d : ℕ) → option_map facts_of (declaration_at new.declared (rename d)) ≡ option_map facts_of (declaration_at old.declared d)
+  pub externals : ExternalsAgree (change_of table new old rename added body) (passed_all.AllAgree (change_of table new old rename added body)) new.externals old.externals
+  pub statics : Zipped (StaticAgrees (statics_of (change_of table new old rename added body))) (program_of table new).statics (program_of table old).statics
+  pub not_main : is_main (declaration_at new.declared added.function) ≡ false
   pub return_kind : CType
   pub return_spans : Spans
   pub returns : parts_of added.body ≡ node return return_kind return_spans (more_trees body no_trees) ∷ []

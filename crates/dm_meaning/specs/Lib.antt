@@ -22,6 +22,7 @@ pub mod ReplacedUnits
 pub mod MoreObjects
 pub mod Called
 pub mod CalledWith
+pub mod CalledWithAll
 pub mod CalledUnits
 pub mod Choices
 pub mod Examples

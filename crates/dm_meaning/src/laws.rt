@@ -6,8 +6,9 @@ ghost use Rattle.dm_meaning.specs.Refinement.{Refines};
 ghost use Rattle.dm_meaning.specs.Replaced.{Replaced, new_of, IsReplacement};
 ghost use Rattle.dm_meaning.specs.Called as called;
 ghost use Rattle.dm_meaning.specs.Called.{Called, IsCalling};
-ghost use Rattle.dm_meaning.specs.CalledUnits.{IsUnitCalling, IsUnitCallingWith};
+ghost use Rattle.dm_meaning.specs.CalledUnits.{IsUnitCalling, IsUnitCallingWith, IsUnitCallingWithAll};
 ghost use Rattle.dm_meaning.specs.CalledWith.{IsCallingWith};
+ghost use Rattle.dm_meaning.specs.CalledWithAll.{IsCallingWithAll};
 ghost use Rattle.dm_meaning.specs.Simulation.{IsSimulation, GoesWrong};
 ghost use Rattle.dm_meaning.specs.Values.{At, Value};
 ghost use Rattle.dm_meaning.specs.Programs.{Definition, Program};
@@ -155,5 +156,23 @@ pub fn called_units_refine()
 pub fn called_with_units_refine()
     ensures { (table : Table) (new old : TypedUnit) (rename : ℕ → ℕ) (added : Definition) (body : Tree) (parameter : ℕ)
         → IsUnitCallingWith table new old rename added body parameter
+        → Refines (machine_of (program_of table new)) (machine_of (program_of table old)) }
+{}
+
+/// A program in which calls of an added function, whose body is one `return` of an expression, stand in place of the expression
+/// with the arguments in place of the parameters, at any places in any functions, refines the program with the expression. The
+/// function has any number of parameters, none among them. The expression gives a value, reads each parameter once, and first,
+/// below its outermost operator, and names no other objects but those of static storage duration. The arguments give values of
+/// other types than void; they may have effects, and calls of the added function in them, and are evaluated in any order. The
+/// values of `case` labels stay the same.
+pub fn called_with_all_refines()
+    ensures { (change : Called) → IsCallingWithAll change → Refines (machine_of (called.new_of change)) (machine_of change.old) }
+{}
+
+/// A translation unit in which calls of an added function with any parameters stand in place of its expression, with the
+/// arguments in it, refines the unit with the expression.
+pub fn called_with_all_units_refine()
+    ensures { (table : Table) (new old : TypedUnit) (rename : ℕ → ℕ) (added : Definition) (body : Tree)
+        → IsUnitCallingWithAll table new old rename added body
         → Refines (machine_of (program_of table new)) (machine_of (program_of table old)) }
 {}

@@ -1,4 +1,4 @@
-use Rattle.dm_meaning.proofs.CallStartLemmas.{called_refines}
+use Rattle.dm_meaning.proofs.CallInstanceLemmas.{called_refines}
 use Rattle.dm_meaning.proofs.laws.called_refines.Goals as goal
 
 pub returns : goal.returns

@@ -1,4 +1,4 @@
-use Rattle.dm_meaning.proofs.PassRefineLemmas.{called_with_refines}
+use Rattle.dm_meaning.proofs.CallInstanceLemmas.{called_with_refines}
 use Rattle.dm_meaning.proofs.laws.called_with_refines.Goals as goal
 
 pub returns : goal.returns

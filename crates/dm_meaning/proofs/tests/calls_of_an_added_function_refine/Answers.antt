@@ -1,7 +1,7 @@
 -- The programs meet each premise of the law on calls.
 use Rattle.std.specs.Prelude.{refl}
 use Rattle.dm_meaning.specs.Examples.{calling_twice}
-use Rattle.dm_meaning.proofs.CallStartLemmas.{called_refines}
+use Rattle.dm_meaning.proofs.CallInstanceLemmas.{called_refines}
 use Rattle.dm_meaning.proofs.CallExample.{premises}
 use Rattle.dm_meaning.proofs.tests.calls_of_an_added_function_refine.Goals as goal
 

@@ -1,7 +1,7 @@
 -- The programs meet each premise of the law on calls with a parameter.
 use Rattle.std.specs.Prelude.{refl}
 use Rattle.dm_meaning.specs.Examples.{calling_double}
-use Rattle.dm_meaning.proofs.PassRefineLemmas.{called_with_refines}
+use Rattle.dm_meaning.proofs.CallInstanceLemmas.{called_with_refines}
 use Rattle.dm_meaning.proofs.CallExample.{premises_double}
 use Rattle.dm_meaning.proofs.tests.nested_calls_with_a_parameter_refine.Goals as goal
 
