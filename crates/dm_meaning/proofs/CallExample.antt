@@ -1,11 +1,16 @@
 -- Small programs that meet each premise of the laws on calls.
 use Rattle.std.specs.Prelude.{◌≡◌, refl, ℕ, zero, suc, [], ◌∷◌, option_map}
+use Rattle.dm_tree.specs.Trees.{Trees, no_trees, more_trees}
 use Rattle.std.proofs.Common.{arith, ap, sym, ◌∙◌, inl, inr}
 use Rattle.dm_meaning.specs.Called.{Called, new_of, IsSame, Agrees, IsCalling}
-use Rattle.dm_meaning.specs.CalledUnits.{change_of, IsUnitCallingWith}
+use Rattle.dm_meaning.specs.Among.{IsAmong}
+use Rattle.dm_meaning.specs.Called as called
+use Rattle.dm_meaning.specs.CalledUnits.{change_of, IsUnitCalling, IsUnitCallingWith, IsUnitCallingWithAll}
 use Rattle.dm_meaning.specs.CalledWith as passed
 use Rattle.dm_meaning.specs.CalledWith.{Holds, IsCallingWith}
-use Rattle.dm_meaning.specs.Examples.{beyond_third, called_add, calling_twice, stored_there, reading, summed, doubled, counted, called_with, beyond_two, calling_with_twice, types, inverted, inverted_unit, inverting, inverting_unit, called_one, beyond_main, calling_double}
+use Rattle.dm_meaning.specs.CalledWithAll as passed_all
+use Rattle.dm_meaning.specs.CalledWithAll.{times_named, IsCallingWithAll}
+use Rattle.dm_meaning.specs.Examples.{beyond_third, called_add, calling_twice, stored_there, reading, summed, doubled, counted, called_with, beyond_two, calling_with_twice, types, inverted, inverted_unit, inverting, inverting_unit, called_one, beyond_main, calling_double, constant, taken, called_take, beyond_take, take, calling_take, taken_unit, called_take_unit, six_unit, six_body, called_six, calling_six_unit, beyond_six}
 use Rattle.dm_meaning.specs.Programs.{declaration_at, declaration_of}
 use Rattle.dm_meaning.specs.Replaced.{facts_of}
 
@@ -245,4 +250,181 @@ premises_inverted = record {
   return_spans = _;
   returns = refl;
   value = inr (refl, inl refl, refl, inl refl);
+}
+
+-- ---- with two arguments, which are read in the other order
+
+without_take : ℕ → ℕ
+without_take zero = 0
+without_take (suc zero) = 0
+without_take (suc (suc zero)) = 0
+without_take (suc (suc (suc zero))) = 0
+without_take (suc (suc (suc (suc d)))) = suc d
+
+without_beyond_take : (d : ℕ) → without_take (beyond_take d) ≡ d
+unfolding without_take
+without_beyond_take zero = refl
+without_beyond_take (suc d) = refl
+
+injective_take : (c d : ℕ) → beyond_take c ≡ beyond_take d → c ≡ d
+injective_take c d e = sym (without_beyond_take c) ∙ ap without_take e ∙ without_beyond_take d
+
+apart_take : (d : ℕ) → beyond_take d ≡ 1 → ⊥
+apart_take zero e = omega (arith, e)
+apart_take (suc d) e = omega (arith, e)
+
+other_take : (d : ℕ) → beyond_take d ≡ 2 → ⊥
+other_take zero e = omega (arith, e)
+other_take (suc d) e = omega (arith, e)
+
+last_take : (d : ℕ) → beyond_take d ≡ 3 → ⊥
+last_take zero e = omega (arith, e)
+last_take (suc d) e = omega (arith, e)
+
+own_take : (p : ℕ) → IsAmong p (2 ∷ 3 ∷ []) → (d : ℕ) → beyond_take d ≡ p → ⊥
+own_take p (inl e) d f = other_take d (f ∙ e)
+own_take p (inr (inl e)) d f = last_take d (f ∙ e)
+own_take p (inr (inr k)) d f = absurd k
+
+-- its parameters are distinct
+two_not_three : (d : ℕ) → d ≡ 2 → d ≡ 3 → ⊥
+two_not_three d e f = omega (arith, e, f)
+
+differ : (d : ℕ) → d ≡ 2 → IsAmong d (3 ∷ []) → ⊥
+differ d e (inl f) = two_not_three d e f
+differ d e (inr k) = k
+
+told_take : (d : ℕ) → option_map facts_of (declaration_of (new_of calling_take) (beyond_take d)) ≡ option_map facts_of (declaration_of calling_take.old d)
+told_take zero = refl
+told_take (suc d) = refl
+
+once_take : (d : ℕ) → IsAmong d (2 ∷ 3 ∷ []) → times_named d (taken (reading 2) (reading 3)) ≡ 1
+once_take d (inl e) = ap (λ n. times_named n (taken (reading 2) (reading 3))) e
+once_take d (inr (inl e)) = ap (λ n. times_named n (taken (reading 2) (reading 3))) e
+once_take d (inr (inr k)) = absurd k
+
+first_arguments : Trees
+first_arguments = more_trees (constant 1) (more_trees (counted 1) no_trees)
+
+second_arguments : Trees
+second_arguments = more_trees (taken (constant 1) (counted 1)) (more_trees (counted 2) no_trees)
+
+holds_first : passed_all.Holds calling_take first_arguments (taken (reading 2) (reading 3)) (taken (constant 1) (counted 1))
+unfolding first_arguments
+holds_first = (
+  refl,
+  refl,
+  refl,
+  (
+    inr (refl, inl (record { parameter = 3; spans = _; named_kind = _; named_spans = _; is = refl; own = refl; stands = refl })),
+    (inr (refl, inl (record { parameter = 2; spans = _; named_kind = _; named_spans = _; is = refl; own = refl; stands = refl })), tt),
+  ),
+)
+
+holds_second : passed_all.Holds calling_take second_arguments (taken (reading 2) (reading 3)) (taken (taken (constant 1) (counted 1)) (counted 2))
+unfolding second_arguments
+holds_second = (
+  refl,
+  refl,
+  refl,
+  (
+    inr (refl, inl (record { parameter = 3; spans = _; named_kind = _; named_spans = _; is = refl; own = refl; stands = refl })),
+    (inr (refl, inl (record { parameter = 2; spans = _; named_kind = _; named_spans = _; is = refl; own = refl; stands = refl })), tt),
+  ),
+)
+
+first_take : passed_all.Agrees calling_take (called_take (constant 1) (counted 4)) (taken (constant 1) (counted 1))
+unfolding first_arguments
+first_take = inr (
+  first_arguments,
+  record { is = refl; typed = refl; holds = holds_first; each = refl; once = once_take },
+  (record { kind = _; spans = _; is = refl }, (inl refl, refl, inl (refl, refl, tt, tt), (inl refl, refl, inl (refl, refl, tt, (inl (refl, refl, tt, tt), tt)), tt))),
+)
+
+second_take : passed_all.Agrees calling_take (called_take (called_take (constant 1) (counted 4)) (counted 5)) (taken (taken (constant 1) (counted 1)) (counted 2))
+unfolding second_arguments
+second_take = inr (
+  second_arguments,
+  record { is = refl; typed = refl; holds = holds_second; each = refl; once = once_take },
+  (record { kind = _; spans = _; is = refl }, (inl refl, refl, first_take, (inl refl, refl, inl (refl, refl, tt, (inl (refl, refl, tt, tt), tt)), tt))),
+)
+
+pub premises_take : IsCallingWithAll calling_take
+premises_take = record {
+  injective = injective_take;
+  apart = apart_take;
+  own = own_take;
+  distinct = (differ 2 refl, ((λ k. k), tt));
+  told = told_take;
+  functions =
+      inl (refl, ((refl, refl, (inl (refl, refl, tt, (inl (refl, refl, tt, tt), tt)), (inl (refl, refl, tt, (inl (refl, refl, tt, tt), tt)), (inl (refl, refl, tt, (second_take, tt)), tt)))), tt));
+  statics = tt;
+  not_main = refl;
+  return_kind = _;
+  return_spans = _;
+  returns = refl;
+  value = inl refl;
+}
+
+pub premises_take_unit : IsUnitCallingWithAll types called_take_unit taken_unit beyond_take take (taken (reading 2) (reading 3))
+premises_take_unit = record {
+  injective = injective_take;
+  apart = apart_take;
+  own = own_take;
+  distinct = (differ 2 refl, ((λ k. k), tt));
+  told = told_take;
+  externals =
+      inl (refl, ((refl, refl, (inl (refl, refl, tt, (inl (refl, refl, tt, tt), tt)), (inl (refl, refl, tt, (inl (refl, refl, tt, tt), tt)), (inl (refl, refl, tt, (second_take, tt)), tt)))), tt));
+  statics = tt;
+  not_main = refl;
+  return_kind = _;
+  return_spans = _;
+  returns = refl;
+  value = inl refl;
+}
+
+-- ---- units without arguments
+
+without_six : ℕ → ℕ
+without_six zero = 0
+without_six (suc zero) = 0
+without_six (suc (suc d)) = suc d
+
+without_beyond_six : (d : ℕ) → without_six (beyond_six d) ≡ d
+unfolding without_six
+without_beyond_six zero = refl
+without_beyond_six (suc d) = refl
+
+injective_six : (c d : ℕ) → beyond_six c ≡ beyond_six d → c ≡ d
+injective_six c d e = sym (without_beyond_six c) ∙ ap without_six e ∙ without_beyond_six d
+
+apart_six : (d : ℕ) → beyond_six d ≡ 1 → ⊥
+apart_six zero e = omega (arith, e)
+apart_six (suc d) e = omega (arith, e)
+
+told_six : (d : ℕ) → option_map facts_of (declaration_at calling_six_unit.declared (beyond_six d)) ≡ option_map facts_of (declaration_at six_unit.declared d)
+told_six zero = refl
+told_six (suc d) = refl
+
+six_change : Called
+six_change = change_of types calling_six_unit six_unit beyond_six (record { function = 1; parameters = []; body = six_body }) (doubled (constant 3))
+
+call_of_six : called.Agrees six_change called_six (doubled (constant 3))
+unfolding six_change
+call_of_six = inr (record { named_kind = _; named_spans = _; is = refl; alone = refl; typed = refl; same = (refl, refl, refl, ((refl, refl, refl, tt), ((refl, refl, refl, tt), tt))) })
+
+pub premises_six : IsUnitCalling types calling_six_unit six_unit beyond_six (record { function = 1; parameters = []; body = six_body }) (doubled (constant 3))
+unfolding six_change
+premises_six = record {
+  injective = injective_six;
+  apart = apart_six;
+  told = told_six;
+  externals = inl (refl, ((refl, refl, (inl (refl, refl, tt, (call_of_six, tt)), tt)), tt));
+  statics = tt;
+  not_main = refl;
+  parameters = refl;
+  return_kind = _;
+  return_spans = _;
+  returns = refl;
+  value = inl refl;
 }

@@ -18,7 +18,7 @@ use Rattle.dm_meaning.proofs.OptionLemmas.{none_is_some, some_is_some}
 use Rattle.dm_meaning.proofs.RunLemmas.{renamed_objects}
 use Rattle.dm_meaning.proofs.GrowLemmas.{equal_is, equal_of, differ_is, look_added, look_beside}
 use Rattle.dm_meaning.proofs.MatchLemmas.{parameter_block}
-use Rattle.dm_meaning.proofs.StandLemmas.{run_list}
+use Rattle.dm_meaning.proofs.StandLemmas.{suc_same, run_list}
 use Rattle.dm_meaning.proofs.PassRunLemmas.{Entry, HaveCome, AreStored}
 
 -- ---- when the function is called
@@ -36,9 +36,6 @@ objects_in entries = map (λ (entry : Entry). (entry.parameter, entry.stored)) e
 abbrev pub with_entries : Called → List Entry → Memory → Memory
 with_entries change [] memory = memory
 with_entries change (entry ∷ entries) memory = (entry.stored, parameter_block change entry.parameter entry.value) ∷ with_entries change entries memory
-
-suc_same : (m n : ℕ) → suc m ≡ suc n → m ≡ n
-suc_same m n e = omega (arith, e)
 
 zero_suc : (n : ℕ) → 0 ≡ suc n → ⊥
 zero_suc n e = omega (arith, e)

@@ -342,7 +342,7 @@ pub record IsListed (ps : List ℕ) (holes : Holes) : Type 0 where
 suc_none : (n : ℕ) → suc n ≡ 0 → ⊥
 suc_none n e = omega (arith, e)
 
-suc_same : (m n : ℕ) → suc m ≡ suc n → m ≡ n
+pub suc_same : (m n : ℕ) → suc m ≡ suc n → m ≡ n
 suc_same m n e = omega (arith, e)
 
 pub listed_at : (ps : List ℕ) → AreDistinct ps → (holes : Holes) (run : Run) → length (run_list (all_filled_in holes run)) ≡ length ps → IsListed ps holes

@@ -16,7 +16,7 @@ use Rattle.dm_tree.specs.Trees.{Label, number, literal, object, function, read, 
 use Rattle.dm_tree.specs.Units.{Declaration, External, declares, defines_function, TypedUnit}
 use Rattle.dm_meaning.specs.Machines.{Standing}
 use Rattle.dm_meaning.specs.Called.{Called}
-use Rattle.dm_meaning.specs.Programs.{Program}
+use Rattle.dm_meaning.specs.Programs.{Definition, Program}
 use Rattle.dm_meaning.specs.Units.{program_of}
 use Rattle.dm_meaning.specs.Choices.{run_by}
 use Rattle.dm_meaning.specs.States.{State}
@@ -36,7 +36,7 @@ tree n label kind parts = node label kind (record { inner = no_span; outer = no_
 abbrev int : CType
 int = integer Int
 
-abbrev constant : ℕ → Tree
+abbrev pub constant : ℕ → Tree
 constant z = tree 0 (number (pos z)) int []
 
 -- an object, and its value
@@ -499,3 +499,66 @@ calling_double = record {
   added = record { function = 1; parameters = 2 ∷ []; body = tree 9 block void (returned (doubled (reading 2)) ∷ []) };
   body = doubled (reading 2);
 }
+
+-- int main(void) { int j = 4, k = 9; return k++ - (j++ - 1); }
+abbrev pub taken : Tree → Tree → Tree
+taken less more = operated 0 Sub more less
+
+abbrev pub taken_unit : TypedUnit
+taken_unit = unit (local (codes "j") int ∷ local (codes "k") int ∷ [])
+    (defined 0 [] (declared_as 1 (constant 4) ∷ declared_as 2 (constant 9) ∷ returned (taken (taken (constant 1) (counted 1)) (counted 2)) ∷ []) ∷ [])
+
+abbrev pub taken_twice : Program
+taken_twice = program_of types taken_unit
+
+-- int take(int x, int y) { return y - x; } int main(void) { int j = 4, k = 9; return take(take(1, j++), k++); }
+abbrev pub called_take : Tree → Tree → Tree
+called_take less more = called 0 1 int (less ∷ more ∷ [])
+
+abbrev pub called_take_unit : TypedUnit
+called_take_unit =
+    unit (of_function (codes "take") (function_type int (more_types int (more_types int no_types))) ∷ local (codes "x") int ∷ local (codes "y") int ∷ local (codes "j") int ∷ local (codes "k") int ∷ [])
+    (defined 1 (2 ∷ 3 ∷ []) (returned (taken (reading 2) (reading 3)) ∷ []) ∷
+    defined 0 [] (declared_as 4 (constant 4) ∷ declared_as 5 (constant 9) ∷ returned (called_take (called_take (constant 1) (counted 4)) (counted 5)) ∷ []) ∷ [])
+
+abbrev pub called_take_twice : Program
+called_take_twice = program_of types called_take_unit
+
+-- the numbers of the declarations where a second, a third and a fourth are added
+abbrev pub beyond_take : ℕ → ℕ
+beyond_take zero = 0
+beyond_take (suc d) = suc (suc (suc (suc d)))
+
+abbrev pub take : Definition
+take = record { function = 1; parameters = 2 ∷ 3 ∷ []; body = tree 9 block void (returned (taken (reading 2) (reading 3)) ∷ []) }
+
+-- the change between the two
+abbrev pub calling_take : Called
+calling_take = record {
+  old = taken_twice;
+  declared = called_take_twice.declared;
+  functions = called_take_twice.functions;
+  statics = called_take_twice.statics;
+  rename = beyond_take;
+  added = take;
+  body = taken (reading 2) (reading 3);
+}
+
+-- int main(void) { return 3 * 2; }
+abbrev pub six_unit : TypedUnit
+six_unit = unit [] (defined 0 [] (returned (doubled (constant 3)) ∷ []) ∷ [])
+
+-- int six(void) { return 3 * 2; } int main(void) { return six(); }
+abbrev pub six_body : Tree
+six_body = tree 9 block void (returned (doubled (constant 3)) ∷ [])
+
+abbrev pub called_six : Tree
+called_six = called 0 1 int []
+
+abbrev pub calling_six_unit : TypedUnit
+calling_six_unit = unit (of_function (codes "six") int_of_nothing ∷ []) (defined 1 [] (returned (doubled (constant 3)) ∷ []) ∷ defined 0 [] (returned called_six ∷ []) ∷ [])
+
+-- the numbers of the declarations where a second one is added
+abbrev pub beyond_six : ℕ → ℕ
+beyond_six zero = 0
+beyond_six (suc d) = suc (suc d)

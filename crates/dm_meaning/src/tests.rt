@@ -9,6 +9,7 @@ ghost use Rattle.dm_meaning.specs.declared.cause.Cause.TheVariants.{Overflow, Di
 ghost use Rattle.dm_meaning.specs.Machines.{going, exited, undefined};
 ghost use Rattle.dm_meaning.specs.Called.{new_of, IsCalling};
 ghost use Rattle.dm_meaning.specs.CalledWith.{IsCallingWith};
+ghost use Rattle.dm_meaning.specs.CalledWithAll.{IsCallingWithAll};
 ghost use Rattle.dm_meaning.specs.Refinement.{Refines};
 ghost use Rattle.dm_meaning.specs.Units.{machine_of, program_of};
 ghost use Rattle.dm_meaning.specs.Examples as examples;
@@ -135,6 +136,23 @@ fn units_with_calls_refine()
     ensures refines { Refines (machine_of (program_of examples.types examples.inverting_unit)) (machine_of (program_of examples.types examples.inverted_unit)) }
 {}
 
+fn calls_with_two_parameters_refine()
+    ensures taken_from_the_left { by_choice 0 90 [] examples.taken_twice ≡ Some (exited 6, []) }
+    ensures taken_from_the_right { by_choice 9 90 [] examples.taken_twice ≡ Some (exited 6, []) }
+    ensures called_from_the_left { by_choice 0 90 [] examples.called_take_twice ≡ Some (exited 6, []) }
+    ensures called_from_the_right { by_choice 9 90 [] examples.called_take_twice ≡ Some (exited 6, []) }
+    ensures new { new_of examples.calling_take ≡ examples.called_take_twice }
+    ensures premises { IsCallingWithAll examples.calling_take }
+    ensures refines { Refines (machine_of examples.called_take_twice) (machine_of examples.taken_twice) }
+    ensures units_refine { Refines (machine_of (program_of examples.types examples.called_take_unit)) (machine_of (program_of examples.types examples.taken_unit)) }
+{}
+
+fn units_with_calls_without_arguments_refine()
+    ensures written { by_choice 0 60 [] (program_of examples.types examples.six_unit) ≡ Some (exited 6, []) }
+    ensures called { by_choice 0 60 [] (program_of examples.types examples.calling_six_unit) ≡ Some (exited 6, []) }
+    ensures refines { Refines (machine_of (program_of examples.types examples.calling_six_unit)) (machine_of (program_of examples.types examples.six_unit)) }
+{}
+
 #[test]
 fn examples_come_to_what_c_says() {
     functions_have_frames_of_their_own();
@@ -152,4 +170,6 @@ fn examples_come_to_what_c_says() {
     calls_with_a_parameter_refine();
     nested_calls_with_a_parameter_refine();
     units_with_calls_refine();
+    calls_with_two_parameters_refine();
+    units_with_calls_without_arguments_refine();
 }
