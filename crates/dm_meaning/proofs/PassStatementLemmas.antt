@@ -3,7 +3,6 @@ use Rattle.std.specs.Prelude.{◌⊎◌, List}
 use Rattle.std.proofs.Common.{inl, inr}
 use Rattle.dm_type.specs.CTypes.{CType}
 use Rattle.dm_tree.specs.Trees.{Label, Spans, Trees, node, no_trees, more_trees}
-use Rattle.dm_meaning.specs.Running.{begun}
 use Rattle.dm_meaning.specs.States.{Use, Task}
 use Rattle.dm_meaning.specs.Statements.{Turned}
 use Rattle.dm_meaning.specs.Called.{Called}
