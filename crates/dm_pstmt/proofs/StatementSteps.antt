@@ -4,7 +4,6 @@ use Rattle.dm_syn.specs.declared.declared.Declared.{Declared}
 use Rattle.dm_syn.specs.declared.expression.Expr.{Expr}
 use Rattle.dm_syn.specs.declared.statement.Stmt.{Stmt}
 use Rattle.dm_syn.specs.declared.statement.Item.{Item}
-use Rattle.dm_syn.specs.declared.statement.ForStart.{ForStart}
 use Rattle.dm_syn.specs.declared.statement.SwitchItem.{SwitchItem}
 use Rattle.dm_syn.specs.declared.symbol.Symbol.{Symbol}
 use Rattle.dm_syn.specs.declared.symbol.Symbol.TheVariants as symbol
@@ -13,8 +12,8 @@ use Rattle.dm_syn.specs.Sources.{Source, symbol_in}
 use Rattle.dm_syn.specs.Trees as tree
 use Rattle.dm_syn.specs.Views as view
 use Rattle.dm_syn.specs.Spans.{expr_span, stmt_span}
-use Rattle.dm_syn.specs.Scopes.{expr_declares, optional_declares, start_declares}
-use Rattle.dm_syn.specs.Statements.{optional_after, start_after}
+use Rattle.dm_syn.specs.Scopes.{expr_declares, optional_declares}
+use Rattle.dm_syn.specs.Statements.{optional_after}
 use Rattle.dm_pexpr.specs.declared.part.Part.{Part}
 use Rattle.dm_pexpr.specs.Parsing.{Parts, lower, and_then, where_true, all_turns}
 use Rattle.dm_pexpr.specs.Parts.{Kind, IsPart, Gives, Passes, an_expr}
@@ -22,8 +21,8 @@ use Rattle.dm_pexpr.proofs.Expressions.{holds}
 use Rattle.dm_pexpr.proofs.SymbolLemmas.{is-same}
 use Rattle.dm_pexpr.proofs.SymbolTests.{is-it}
 use Rattle.dm_pexpr.proofs.Soundness.{inside}
-use Rattle.dm_pstmt.specs.Kinds.{a_stmt, a_start, an_optional, block_items_from, switch_items_from, switch_items_declares}
-use Rattle.dm_pstmt.specs.Parsing.{Within, within, initialiser_of, stands, optional_of, enclosed_of, block_items, block_with, if_with, if_behind, else_with, if_only_behind, switch_items, switch_with, switch_braced, while_with, while_behind, do_with, do_behind, start_of, for_start, for_condition, for_step, for_body, stmt_by, stmt_of, lead_kind, evaluating, labelled_of, opening, choosing, switching, repeating, doing, looping, block_item_of, declaration_of, start_with, case_with, case_behind, default_behind, unlabelled_with}
+use Rattle.dm_pstmt.specs.Kinds.{a_stmt, block_items_from, switch_items_from, switch_items_declares}
+use Rattle.dm_pstmt.specs.Parsing.{Within, within, initialiser_of, stands, optional_of, enclosed_of, block_items, block_with, if_with, if_behind, else_with, if_only_behind, switch_items, switch_with, switch_braced, while_with, while_behind, do_with, do_behind, start_of, stmt_by, stmt_of, lead_kind, evaluating, labelled_of, opening, choosing, switching, repeating, doing, block_item_of, declaration_of, start_with, case_with, case_behind, default_behind, unlabelled_with}
 use Rattle.dm_pstmt.specs.Steps.{closed_by, clause_of, default_from}
 use Rattle.dm_pstmt.proofs.Results.{then-some, alike}
 use Rattle.dm_pstmt.proofs.Wholes.{then-none, then-is, fails, if-so, if-not, gives-along}

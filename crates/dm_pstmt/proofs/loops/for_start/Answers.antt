@@ -1,7 +1,6 @@
-use Rattle.std.proofs.Common.{◌≡◌, ◌<◌, ◌≤◌, ◌+◌, true, false, length, refl, arith, sym, ap, ◌∙◌}
+use Rattle.std.proofs.Common.{◌≡◌, ◌<◌, ◌≤◌, ◌+◌, true, length, refl, arith, sym, ap, ◌∙◌}
 use Rattle.dm_syn.specs.declared.symbol.Symbol.TheVariants as symbol
 use Rattle.dm_syn.specs.Symbols.{begins_specifiers}
-use Rattle.dm_syn.specs.Sources.{symbol_in}
 use Rattle.dm_syn.specs.Views as view
 use Rattle.dm_pexpr.specs.Parsing.{lower}
 use Rattle.dm_pexpr.specs.Parts.{source_of}

@@ -1,7 +1,5 @@
-use Rattle.std.proofs.Common.{◌≡◌, ◌+◌, ap, sym, ◌∙◌, refl, arith}
+use Rattle.std.proofs.Common.{◌≡◌, ◌+◌, ap, ◌∙◌, refl, arith}
 use Rattle.dm_syn.specs.declared.symbol.Symbol.TheVariants as symbol
-use Rattle.dm_syn.specs.Views as view
-use Rattle.dm_pexpr.specs.Parsing.{lower}
 use Rattle.dm_pexpr.specs.Parts.{source_of, an_expr}
 use Rattle.dm_pexpr.proofs.PartLemmas.{part-of}
 use Rattle.dm_pstmt.specs.Parsing.{within, enclosed_of}

@@ -1,4 +1,4 @@
-use Rattle.std.proofs.Common.{max, sym, ap, ◌∙◌}
+use Rattle.std.proofs.Common.{max, ap, ◌∙◌}
 use Rattle.dm_pstmt.proofs.NodeLemmas.{clauses-made}
 use Rattle.dm_pstmt.proofs.nodes.clauses_node.Goals as goal
 

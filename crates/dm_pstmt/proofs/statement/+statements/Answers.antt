@@ -1,10 +1,10 @@
-use Rattle.std.proofs.Common.{true, false, ◌≡◌, ◌+◌, ◌-◌, ◌<◌, ◌≤◌, length, map, refl, sym, ap, ◌∙◌, arith, subst}
+use Rattle.std.proofs.Common.{true, false, ◌≡◌, ◌+◌, ◌-◌, ◌<◌, length, map, refl, sym, ap, ◌∙◌, arith, subst}
 use Rattle.dm_syn.specs.declared.symbol.Symbol.TheVariants as symbol
-use Rattle.dm_syn.specs.Symbols.{is, begins_specifiers}
+use Rattle.dm_syn.specs.Symbols.{is}
 use Rattle.dm_syn.specs.Trees as tree
 use Rattle.dm_syn.specs.Views as view
 use Rattle.dm_pexpr.specs.Parsing.{lower, all_turns}
-use Rattle.dm_pexpr.specs.Parts.{source_of, IsPart, Gives, an_expr}
+use Rattle.dm_pexpr.specs.Parts.{source_of, IsPart, an_expr}
 use Rattle.dm_pexpr.proofs.PartLemmas.{part-of}
 use Rattle.dm_pexpr.proofs.ReadExprs.{ok-same, seen-is, seen-begins, not-end}
 use Rattle.dm_pstmt.specs.Kinds.{a_stmt, a_labelled, a_block_item, block_items_from, switch_items_from, clauses_from}
