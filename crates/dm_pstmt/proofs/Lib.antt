@@ -21,5 +21,6 @@ pub mod ClauseSteps
 pub mod DeclaredLists
 pub mod DeclarationSteps
 pub mod StatementSteps
+pub mod ForSteps
 pub mod Turns
 pub mod DeclarationNodes

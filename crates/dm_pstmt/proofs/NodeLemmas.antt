@@ -17,16 +17,18 @@ use Rattle.dm_syn.specs.Sources.{Source}
 use Rattle.dm_syn.specs.Trees as tree
 use Rattle.dm_syn.specs.Spans.{stmt_span, switch_item_span, switch_items_after}
 use Rattle.dm_syn.specs.Heights.{expr_height, optional_height, start_height, stmt_height, block_item_height, switch_items_height, switch_item_height, above}
-use Rattle.dm_syn.specs.Scopes.{expr_declares, optional_declares, stmt_declares, block_item_declares, switch_item_declares}
+use Rattle.dm_syn.specs.Scopes.{expr_declares, optional_declares, start_declares, stmt_declares, block_item_declares, switch_item_declares}
 use Rattle.dm_syn.specs.Statements.{optional_after}
 use Rattle.dm_syn.specs.Views as view
 use Rattle.dm_pexpr.specs.declared.part.Part.{Part}
 use Rattle.dm_pexpr.specs.Parsing.{limit, span_of, and_then}
 use Rattle.dm_pexpr.specs.Parts.{IsPart, Gives, an_expr}
 use Rattle.dm_pexpr.proofs.Expressions.{holds}
-use Rattle.dm_pexpr.proofs.PartLemmas.{made-gives, part-of}
-use Rattle.dm_pstmt.specs.Kinds.{a_declaration, a_stmt, a_labelled, a_block_item, an_optional, a_start, block_items_from, switch_items_from}
-use Rattle.dm_pstmt.specs.Parsing.{stands, checked_stmt, checked_item, expression_with, return_with, jump, block_with, if_only_behind, else_with, while_behind, do_behind, switch_braced, for_body, case_behind, default_behind, unlabelled_with}
+use Rattle.dm_pexpr.proofs.PartLemmas.{made-gives, part-of, part-is}
+use Rattle.dm_pstmt.specs.Kinds.{a_declaration, a_stmt, a_labelled, a_block_item, an_optional, a_start, block_items_from, switch_items_from, clauses_from, seen_clauses}
+use Rattle.dm_pstmt.specs.Parsing.{stands, checked_stmt, checked_item, expression_with, return_with, jump, block_with, if_only_behind, else_with, while_behind, do_behind, switch_braced, case_behind, default_behind, unlabelled_with}
+use Rattle.dm_pstmt.specs.Steps.{Clauses, with_step, clauses_height, looping_over}
+use Rattle.dm_pstmt.specs.declared.nodes.ForClauses.{ForClauses}
 use Rattle.dm_pstmt.proofs.ViewLemmas.{view-block, view-while, view-if_only, view-if_else, view-expression, view-return, view-break, view-continue, view-do, view-switch, view-for, view-case, view-default, view-unlabelled, view-declared, view-stated}
 use Rattle.dm_pstmt.proofs.Wholes.{pass-part}
 
@@ -135,27 +137,44 @@ switch-made source before names behind subject read items wanted k g first after
     (view-switch _ subject.tree items.tree)
     (high (omega (arith, k.low)) (omega (arith, deeper, g.low)) ∙ ap (λ n. above n inside) k.high ∙ ap (above (expr_height c)) taller) refl within refl
 
-pub for-made : (source : Source) (before one two three behind : List Declared) (at next last : ℕ) (start : Part ForStart) (begun : Option tree.ForStart) (condition : Part (Option Expr)) (tested : Option (Option tree.Expr))
-    (step : Part (Option Expr)) (stepped : Option (Option tree.Expr)) (found : Option (Part Stmt)) (body : Part Stmt) (wanted : Option tree.Stmt) → found ≡ Some body
-    → IsPart (a_start source at) source before one start begun → IsPart (an_optional source next) source one two condition tested → IsPart (an_optional source last) source two three step stepped
-    → Gives (a_stmt source) source three behind found wanted
-    → (first height : ℕ) (boxed : Stmt) (made : Option (Part Stmt)) → boxed ≡ body.tree
-    → (max start.height condition.height < 1000 → max step.height body.height < 1000 → height ≡ above (max start.height condition.height) (max step.height body.height))
-    → made ≡ made_node first body.after height (form.For start.tree condition.tree step.tree boxed)
-    → Gives (a_stmt source) source before before made (and_then (for_body first (view.start start.tree) (view.optional condition.tree) (view.optional step.tree)) wanted)
-unfolding stmt_height stmt_declares
-for-made source before one two three behind at next last start begun condition tested step stepped found body wanted there s k t given first height boxed made same high node =
-    let g = part-of (a_stmt source) source three behind found body wanted there given in
+-- the clauses of a `for`
+pub clauses-made : (source : Source) (before one two three : List Declared) (at : ℕ) (start : Part ForStart) (begun : Option tree.ForStart) (condition : Part (Option Expr)) (tested : Option (Option tree.Expr))
+    (step : Part (Option Expr)) (stepped : Option (Option tree.Expr))
+    → IsPart (a_start source at) source before one start begun → IsPart (an_optional source start.after) source one two condition tested → IsPart (an_optional source (condition.after + 1)) source two three step stepped
+    → (height after : ℕ) (inner : ForStart) (own : ForClauses) → inner ≡ start.tree → own ≡ record { start = inner; condition = condition.tree; step = step.tree } → height ≡ max (max start.height condition.height) step.height
+    → after ≡ step.after + 1 → after ≤ length source.tokens
+    → IsPart (clauses_from source at) source before three (record { tree = own; height = height; after = after }) (option_map (with_step (view.start start.tree) (view.optional condition.tree)) stepped)
+clauses-made source before one two three at start begun condition tested step stepped s k t height after inner own same is high end within =
     let b : tree.ForStart = view.start start.tree in
     let c : Option tree.Expr = view.optional condition.tree in
     let e : Option tree.Expr = view.optional step.tree in
+    part-is (clauses_from source at) source before three own height after (with_step b c e) _ (ap (option_map (with_step b c)) t.read) (ap seen_clauses is ∙ ap (λ it. with_step (view.start it) c e) same) refl
+    (high ∙ ap (λ n. max (max n condition.height) step.height) s.high ∙ ap (λ n. max (max (start_height b) n) step.height) k.high ∙ ap (max (max (start_height b) (optional_height c))) t.high)
+    (omega (arith, high, s.low, k.low, t.low))
+    (end ∙ ap (λ n. n + 1) (t.ends ∙ ap (λ n. optional_after (n + 1) e) (k.ends ∙ ap (λ n. optional_after n c) s.ends))) within
+    (t.scoped ∙ ap (λ those. optional_declares source e ++ those)
+    (k.scoped ∙ ap (λ those. optional_declares source c ++ those) s.scoped ∙ sym (append_assoc (optional_declares source c) (start_declares source b) before))
+    ∙ sym (append_assoc (optional_declares source e) (optional_declares source c ++ start_declares source b) before))
+
+above-three : (one two three four : ℕ) → above (max (max one two) three) four ≡ above (max one two) (max three four)
+above-three one two three four = omega arith
+
+pub for-made : (source : Source) (before names behind : List Declared) (at : ℕ) (clauses : Part ForClauses) (read : Option Clauses) (found : Option (Part Stmt)) (body : Part Stmt) (wanted : Option tree.Stmt) → found ≡ Some body
+    → IsPart (clauses_from source at) source before names clauses read → Gives (a_stmt source) source names behind found wanted
+    → (first height : ℕ) (own : ForClauses) (boxed : Stmt) (made : Option (Part Stmt)) → own ≡ clauses.tree → boxed ≡ body.tree
+    → (clauses.height < 1000 → body.height < 1000 → height ≡ above clauses.height body.height) → made ≡ made_node first body.after height (form.For own.start own.condition own.step boxed)
+    → Gives (a_stmt source) source before before made (and_then (looping_over first (seen_clauses clauses.tree)) wanted)
+unfolding stmt_height stmt_declares
+for-made source before names behind at clauses read found body wanted there h given first height own boxed made mine same high node =
+    let g = part-of (a_stmt source) source names behind found body wanted there given in
+    let l : Clauses = seen_clauses clauses.tree in
     let v : tree.Stmt = view.stmt body.tree in
-    node-gives source before before made first body.after height (form.For start.tree condition.tree step.tree boxed) (tree.for_loop (span_of first body.after) b c e v) _ node
-    (ap (and_then (for_body first b c e)) g.read ∙ ap (λ n. checked_stmt (tree.for_loop (span_of first n) b c e v)) (sym g.ends))
-    (view-for _ start.tree condition.tree step.tree boxed ∙ ap (λ it. tree.for_loop (span_of first body.after) b c e (view.stmt it)) same)
-    (high (omega (arith, s.low, k.low)) (omega (arith, t.low, g.low))
-    ∙ ap (λ n. above (max n condition.height) (max step.height body.height)) s.high ∙ ap (λ n. above (max (start_height b) n) (max step.height body.height)) k.high
-    ∙ ap (λ n. above (max (start_height b) (optional_height c)) (max n body.height)) t.high ∙ ap (λ n. above (max (start_height b) (optional_height c)) (max (optional_height e) n)) g.high) refl g.within refl
+    node-gives source before before made first body.after height (form.For own.start own.condition own.step boxed) (tree.for_loop (span_of first body.after) l.start l.condition l.step v) _ node
+    (ap (and_then (looping_over first l)) g.read ∙ ap (λ n. checked_stmt (tree.for_loop (span_of first n) l.start l.condition l.step v)) (sym g.ends))
+    (view-for _ own.start own.condition own.step boxed ∙ ap (λ it. tree.for_loop (span_of first body.after) (view.start own.start) (view.optional own.condition) (view.optional own.step) (view.stmt it)) same
+    ∙ ap (λ it. tree.for_loop (span_of first body.after) (view.start it.start) (view.optional it.condition) (view.optional it.step) v) mine)
+    (high (omega (arith, h.low)) (omega (arith, g.low)) ∙ ap (λ n. above n body.height) h.high ∙ ap (above (clauses_height l)) g.high
+    ∙ above-three (start_height l.start) (optional_height l.condition) (optional_height l.step) (stmt_height v)) refl g.within refl
 
 pub expression-made : (source : Source) (before names : List Declared) (value : Part (Option Expr)) (wanted : Option (Option tree.Expr)) (first after height : ℕ) (made : Option (Part Stmt))
     → IsPart (an_optional source first) source before names value wanted → stands source names value.after symbol.Semicolon ≡ true → after ≡ value.after + 1 → after ≤ length source.tokens

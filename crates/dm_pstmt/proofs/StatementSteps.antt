@@ -4,7 +4,6 @@ use Rattle.dm_syn.specs.declared.declared.Declared.{Declared}
 use Rattle.dm_syn.specs.declared.expression.Expr.{Expr}
 use Rattle.dm_syn.specs.declared.statement.Stmt.{Stmt}
 use Rattle.dm_syn.specs.declared.statement.Item.{Item}
-use Rattle.dm_syn.specs.declared.statement.ForStart.{ForStart}
 use Rattle.dm_syn.specs.declared.statement.SwitchItem.{SwitchItem}
 use Rattle.dm_syn.specs.declared.symbol.Symbol.{Symbol}
 use Rattle.dm_syn.specs.declared.symbol.Symbol.TheVariants as symbol
@@ -13,8 +12,8 @@ use Rattle.dm_syn.specs.Sources.{Source, symbol_in}
 use Rattle.dm_syn.specs.Trees as tree
 use Rattle.dm_syn.specs.Views as view
 use Rattle.dm_syn.specs.Spans.{expr_span, stmt_span}
-use Rattle.dm_syn.specs.Scopes.{expr_declares, optional_declares, start_declares}
-use Rattle.dm_syn.specs.Statements.{optional_after, start_after}
+use Rattle.dm_syn.specs.Scopes.{expr_declares, optional_declares}
+use Rattle.dm_syn.specs.Statements.{optional_after}
 use Rattle.dm_pexpr.specs.declared.part.Part.{Part}
 use Rattle.dm_pexpr.specs.Parsing.{Parts, lower, and_then, where_true, all_turns}
 use Rattle.dm_pexpr.specs.Parts.{Kind, IsPart, Gives, Passes, an_expr}
@@ -22,8 +21,8 @@ use Rattle.dm_pexpr.proofs.Expressions.{holds}
 use Rattle.dm_pexpr.proofs.SymbolLemmas.{is-same}
 use Rattle.dm_pexpr.proofs.SymbolTests.{is-it}
 use Rattle.dm_pexpr.proofs.Soundness.{inside}
-use Rattle.dm_pstmt.specs.Kinds.{a_stmt, a_start, an_optional, block_items_from, switch_items_from, switch_items_declares}
-use Rattle.dm_pstmt.specs.Parsing.{Within, within, initialiser_of, stands, optional_of, enclosed_of, block_items, block_with, if_with, if_behind, else_with, if_only_behind, switch_items, switch_with, switch_braced, while_with, while_behind, do_with, do_behind, start_of, for_start, for_condition, for_step, for_body, stmt_by, stmt_of, lead_kind, evaluating, labelled_of, opening, choosing, switching, repeating, doing, looping, block_item_of, declaration_of, start_with, case_with, case_behind, unlabelled_with}
+use Rattle.dm_pstmt.specs.Kinds.{a_stmt, block_items_from, switch_items_from, switch_items_declares}
+use Rattle.dm_pstmt.specs.Parsing.{Within, within, initialiser_of, stands, optional_of, enclosed_of, block_items, block_with, if_with, if_behind, else_with, if_only_behind, switch_items, switch_with, switch_braced, while_with, while_behind, do_with, do_behind, start_of, stmt_by, stmt_of, lead_kind, evaluating, labelled_of, opening, choosing, switching, repeating, doing, block_item_of, declaration_of, start_with, case_with, case_behind, default_behind, unlabelled_with}
 use Rattle.dm_pstmt.specs.Steps.{closed_by, clause_of, default_from}
 use Rattle.dm_pstmt.proofs.Results.{then-some, alike}
 use Rattle.dm_pstmt.proofs.Wholes.{then-none, then-is, fails, if-so, if-not, gives-along}
@@ -33,6 +32,10 @@ pub within-parts : (source : Source) (depth : ℕ) → (within source depth).par
 unfolding within
 within-parts source zero = refl
 within-parts source (suc depth) = refl
+
+pub enclosed-here : (source : Source) (depth : ℕ) (names : List Declared) (first next : ℕ) → next ≡ first + 1 → enclosed_of source (within source depth).parts names (first + 1) ≡ enclosed_of source (lower source depth) names next
+enclosed-here source depth names first next place =
+    ap (λ n. enclosed_of source (within source depth).parts names n) (sym place) ∙ ap (λ parts. enclosed_of source parts names next) (within-parts source depth)
 
 pub within-initialiser : (source : Source) (depth : ℕ) → (within source depth).initialiser ≡ initialiser_of source depth
 unfolding within
@@ -116,13 +119,6 @@ pub no-clause-in : {B : Type 0} (next : Option tree.Expr → Option B) (test oth
     → and_then (λ it. where_true (other it) (Some it)) found ≡ None → and_then (λ it. where_true (test it) (next it)) found ≡ None
 no-clause-in next test other None same none = refl
 no-clause-in next test other (Some it) same none = no-test next it (test it) (other it) (same it) none
-
--- where it doesn't, what is read behind it isn't there
-pub no-clause : {B : Type 0} (source : Source) (parts : Parts) (stop : Symbol) (outer names : List Declared) (at : ℕ) (next : Option tree.Expr → Option B) → is_identifier stop ≡ false → clause_of source parts stop names at ≡ None
-    → and_then (λ it. where_true (stands source outer (optional_after at it) stop) (next it)) (optional_of source parts stop names at) ≡ None
-no-clause source parts stop outer names at next plain none =
-    no-clause-in next (λ it. stands source outer (optional_after at it) stop) (λ it. stands source (optional_declares source it ++ names) (optional_after at it) stop) (optional_of source parts stop names at)
-    (λ it. stands-same source outer (optional_declares source it ++ names) (optional_after at it) stop plain) none
 
 -- a block
 pub block-read : (source : Source) (inner : Within) (old behind now : List Declared) (first kept : ℕ) (items : Part (List Item)) (made : Option (Part Stmt))
@@ -251,6 +247,20 @@ pub no-while : (source : Source) (inner : Within) (old behind : List Declared) (
     → IsPart (a_stmt source) source old behind body seen → stands source old body.after symbol.While ≡ false → do_with source inner old first (view.stmt body.tree) ≡ None
 no-while source inner old behind first body seen b none = fails _ _ (ap (λ n. stands source old n symbol.While) (sym b.ends) ∙ none)
 
+pub no-repeated-test : (source : Source) (inner : Within) (old behind : List Declared) (first next : ℕ) (body : Part Stmt) (seen : Option tree.Stmt)
+    → IsPart (a_stmt source) source old behind body seen → Passes (stands source old body.after symbol.While) body.after (length source.tokens) (Some next) → enclosed_of source inner.parts old next ≡ None
+    → do_with source inner old first (view.stmt body.tree) ≡ None
+no-repeated-test source inner old behind first next body seen b there none = repeated-wanted source inner old behind first next body seen b there ∙ then-none _ _ none
+
+pub no-semicolon : (source : Source) (inner : Within) (old behind names : List Declared) (first next : ℕ) (body : Part Stmt) (seen : Option tree.Stmt) (condition : Part Expr)
+    → IsPart (a_stmt source) source old behind body seen → Passes (stands source old body.after symbol.While) body.after (length source.tokens) (Some next)
+    → IsPart (an_expr source) source old names condition (enclosed_of source inner.parts old next) → stands source names (condition.after + 1) symbol.Semicolon ≡ false
+    → do_with source inner old first (view.stmt body.tree) ≡ None
+no-semicolon source inner old behind names first next body seen condition b there k none =
+    let v : tree.Expr = view.expr condition.tree in
+    repeated-wanted source inner old behind first next body seen b there ∙ then-is (do_behind source old first (view.stmt body.tree)) _ v k.read
+    ∙ fails _ _ (stands-same source old names ((expr_span v).after + 1) symbol.Semicolon refl ∙ ap (λ n. stands source names (n + 1) symbol.Semicolon) (sym k.ends) ∙ none)
+
 pub repeated-read : (source : Source) (inner : Within) (old behind names now : List Declared) (first next kept : ℕ) (body : Part Stmt) (seen : Option tree.Stmt) (condition : Part Expr) (made : Option (Part Stmt))
     → IsPart (a_stmt source) source old behind body seen → Passes (stands source old body.after symbol.While) body.after (length source.tokens) (Some next)
     → IsPart (an_expr source) source old names condition (enclosed_of source inner.parts old next) → kept ≡ length old → now ≡ drop (length names - kept) names
@@ -264,69 +274,14 @@ repeated-read source inner old behind names now first next kept body seen condit
     (re-scoped (a_stmt source) source old old now made _ (λ it is. ended (expr_declares source v) old names now kept count k.scoped cut) given)
 
 -- and whole
-pub do-read : (source : Source) (inner : Within) (old mid now last : List Declared) (first kept : ℕ) (body : Part Stmt) (made : Option (Part Stmt))
+pub do-read : (source : Source) (inner : Within) (old mid now last : List Declared) (first : ℕ) (body : Part Stmt) (made : Option (Part Stmt))
     → IsPart (a_stmt source) source old mid body (inner.stmt old (first + 1)) → now ≡ old
     → Gives (a_stmt source) source now last made (do_with source inner now first (view.stmt body.tree))
     → Gives (a_stmt source) source old last made (stmt_by source inner old first doing)
 unfolding stmt_by
-do-read source inner old mid now last first kept body made b same given =
+do-read source inner old mid now last first body made b same given =
     gives-along (a_stmt source) source old last made (do_with source inner old first (view.stmt body.tree)) _ (then-is (do_with source inner old first) _ (view.stmt body.tree) b.read)
     (subst (λ names. Gives (a_stmt source) source names last made (do_with source inner names first (view.stmt body.tree))) same given)
-
--- `for`: behind its first clause, its second, and its third
-pub for-begun : (source : Source) (inner : Within) (old one : List Declared) (first inside : ℕ) (start : Part ForStart)
-    → stands source old (first + 1) symbol.LeftParen ≡ true → inside ≡ first + 2 → IsPart (a_start source inside) source old one start (start_of source inner old inside)
-    → stmt_by source inner old first looping
-    ≡ and_then (for_condition source inner old first (view.start start.tree) start.after) (optional_of source inner.parts symbol.Semicolon one start.after)
-unfolding stmt_by
-for-begun source inner old one first inside start there place s =
-    let b : tree.ForStart = view.start start.tree in
-    let ends : start_after (first + 2) b ≡ start.after = ap (λ n. start_after n b) (sym place) ∙ sym s.ends in
-    holds _ _ there ∙ ap (λ n. and_then (for_start source inner old first) (start_of source inner old n)) (sym place) ∙ then-is (for_start source inner old first) _ b s.read
-    ∙ ap (λ n. and_then (for_condition source inner old first b n) (optional_of source inner.parts symbol.Semicolon (start_declares source b ++ old) n)) ends
-    ∙ ap (λ names. and_then (for_condition source inner old first b start.after) (optional_of source inner.parts symbol.Semicolon names start.after)) (sym s.scoped)
-
-pub for-tested : (source : Source) (inner : Within) (old one two : List Declared) (first : ℕ) (begun : tree.ForStart) (at : ℕ) (condition : Part (Option Expr)) → one ≡ start_declares source begun ++ old
-    → IsPart (an_optional source at) source one two condition (clause_of source inner.parts symbol.Semicolon one at)
-    → and_then (for_condition source inner old first begun at) (optional_of source inner.parts symbol.Semicolon one at)
-    ≡ and_then (for_step source inner old first begun (view.optional condition.tree) (condition.after + 1)) (optional_of source inner.parts symbol.RightParen two (condition.after + 1))
-for-tested source inner old one two first begun at condition scoped k =
-    let c : Option tree.Expr = view.optional condition.tree in
-    let there = clause-there source inner.parts symbol.Semicolon one at c k.read in
-    then-is (for_condition source inner old first begun at) _ c there.0
-    ∙ holds _ _ (stands-same source old (optional_declares source c ++ one) (optional_after at c) symbol.Semicolon refl ∙ there.1)
-    ∙ ap (λ n. and_then (for_step source inner old first begun c (n + 1)) (optional_of source inner.parts symbol.RightParen (optional_declares source c ++ (start_declares source begun ++ old)) (n + 1))) (sym k.ends)
-    ∙ ap (λ names. and_then (for_step source inner old first begun c (condition.after + 1)) (optional_of source inner.parts symbol.RightParen names (condition.after + 1)))
-    (ap (λ those. optional_declares source c ++ those) (sym scoped) ∙ sym k.scoped)
-
-pub for-stepped : (source : Source) (inner : Within) (old one two three : List Declared) (first : ℕ) (begun : tree.ForStart) (tested : Option tree.Expr) (at : ℕ) (step : Part (Option Expr))
-    → one ≡ start_declares source begun ++ old → two ≡ optional_declares source tested ++ one
-    → IsPart (an_optional source at) source two three step (clause_of source inner.parts symbol.RightParen two at)
-    → and_then (for_step source inner old first begun tested at) (optional_of source inner.parts symbol.RightParen two at)
-    ≡ and_then (for_body first begun tested (view.optional step.tree)) (inner.stmt three (step.after + 1))
-for-stepped source inner old one two three first begun tested at step scoped further k =
-    let e : Option tree.Expr = view.optional step.tree in
-    let there = clause-there source inner.parts symbol.RightParen two at e k.read in
-    then-is (for_step source inner old first begun tested at) _ e there.0
-    ∙ holds _ _ (stands-same source old (optional_declares source e ++ two) (optional_after at e) symbol.RightParen refl ∙ there.1)
-    ∙ ap (λ n. and_then (for_body first begun tested e) (inner.stmt (optional_declares source e ++ (optional_declares source tested ++ (start_declares source begun ++ old))) (n + 1))) (sym k.ends)
-    ∙ ap (λ names. and_then (for_body first begun tested e) (inner.stmt names (step.after + 1)))
-    (ap (λ those. optional_declares source e ++ (optional_declares source tested ++ those)) (sym scoped) ∙ ap (λ those. optional_declares source e ++ those) (sym further) ∙ sym k.scoped)
-
-pub for-read : (source : Source) (old one two three last now : List Declared) (kept : ℕ) (start : Part ForStart) (condition step : Part (Option Expr)) (found made : Option (Part Stmt)) (at next place : ℕ)
-    (begun : Option tree.ForStart) (tested stepped : Option (Option tree.Expr)) (wanted whole : Option tree.Stmt) (next_step : tree.Stmt → Option tree.Stmt)
-    → IsPart (a_start source at) source old one start begun → IsPart (an_optional source next) source one two condition tested → IsPart (an_optional source place) source two three step stepped
-    → Gives (a_stmt source) source three last found wanted → kept ≡ length old → now ≡ drop (length last - kept) last → whole ≡ and_then next_step wanted
-    → Gives (a_stmt source) source old old made (and_then next_step wanted) → Gives (a_stmt source) source old now made whole
-for-read source old one two three last now kept start condition step found made at next place begun tested stepped wanted whole next_step s k t body count cut is given =
-    let front : List Declared = optional_declares source (view.optional step.tree) ++ (optional_declares source (view.optional condition.tree) ++ start_declares source (view.start start.tree)) in
-    let fronts : three ≡ front ++ old =
-    t.scoped ∙ ap (λ those. optional_declares source (view.optional step.tree) ++ those) (k.scoped ∙ ap (λ those. optional_declares source (view.optional condition.tree) ++ those) s.scoped
-    ∙ sym (append_assoc (optional_declares source (view.optional condition.tree)) (start_declares source (view.start start.tree)) old))
-    ∙ sym (append_assoc (optional_declares source (view.optional step.tree)) (optional_declares source (view.optional condition.tree) ++ start_declares source (view.start start.tree)) old) in
-    gives-along (a_stmt source) source old now made (and_then next_step wanted) whole is
-    (re-scoped (a_stmt source) source old old now made _
-    (λ it there. let one = then-some next_step wanted it there in ended-after (a_stmt source) source front old three last now kept found wanted one.0 count fronts body one.1 cut) given)
 
 -- what a statement is by its first symbol
 pub lead-is : (source : Source) (depth left : ℕ) (names : List Declared) (at : ℕ) (it : Symbol) → suc left ≡ depth → symbol_in source names at ≡ it
@@ -367,16 +322,6 @@ no-loop-test source inner names at none = then-none _ _ none
 pub no-body : (source : Source) (inner : Within) (names : List Declared) (at : ℕ) → inner.stmt names (at + 1) ≡ None → stmt_by source inner names at doing ≡ None
 unfolding stmt_by
 no-body source inner names at none = then-none _ _ none
-
-pub no-clauses : (source : Source) (inner : Within) (names : List Declared) (at : ℕ) → stands source names (at + 1) symbol.LeftParen ≡ false → stmt_by source inner names at looping ≡ None
-unfolding stmt_by
-no-clauses source inner names at none = fails _ _ none
-
-pub no-start : (source : Source) (inner : Within) (names : List Declared) (at inside : ℕ) → stands source names (at + 1) symbol.LeftParen ≡ true → inside ≡ at + 2 → start_of source inner names inside ≡ None
-    → stmt_by source inner names at looping ≡ None
-unfolding stmt_by
-no-start source inner names at inside there place none =
-    holds _ _ there ∙ ap (λ n. and_then (for_start source inner names at) (start_of source inner names n)) (sym place) ∙ then-none _ _ none
 
 -- what a block item and the first clause of a `for` are by their first symbol
 pub declared-item-wanted : (source : Source) (inner : Within) (names : List Declared) (at : ℕ) → begins_specifiers (symbol_in source names at) ≡ true
@@ -460,3 +405,12 @@ no-colon source depth names behind at label k none =
 pub no-label : (source : Source) (depth : ℕ) (names : List Declared) (at : ℕ) → (lower source depth).expr 2 names (at + 1) ≡ None
     → and_then (case_with source (within source depth) names at) ((within source depth).parts.expr 2 names (at + 1)) ≡ None
 no-label source depth names at none = then-none _ _ (ap (λ parts. parts.expr 2 names (at + 1)) (within-parts source depth) ∙ none)
+
+pub no-default-colon : (source : Source) (inner : Within) (names : List Declared) (at next : ℕ) → next ≡ at + 1 → stands source names next symbol.Colon ≡ false → default_from source inner names at ≡ None
+no-default-colon source inner names at next place none = fails _ _ (ap (λ n. stands source names n symbol.Colon) (sym place) ∙ none)
+
+pub default-behind : (source : Source) (inner : Within) (names : List Declared) (at next inside : ℕ) → next ≡ at + 1 → Passes (stands source names next symbol.Colon) next (length source.tokens) (Some inside)
+    → default_from source inner names at ≡ and_then (default_behind at) (inner.labelled names inside)
+default-behind source inner names at next inside place there =
+    let end : at + 2 ≡ inside = (let e = place in let f = there.1 in omega (arith, e, f)) in
+    holds _ _ (ap (λ n. stands source names n symbol.Colon) (sym place) ∙ there.0) ∙ ap (λ n. and_then (default_behind at) (inner.labelled names n)) end

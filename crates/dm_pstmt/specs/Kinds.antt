@@ -10,6 +10,7 @@ use Rattle.dm_syn.specs.declared.statement.Stmt.{Stmt}
 use Rattle.dm_syn.specs.declared.statement.Item.{Item}
 use Rattle.dm_syn.specs.declared.statement.SwitchItem.{SwitchItem}
 use Rattle.dm_syn.specs.declared.statement.External.{External}
+use Rattle.dm_pstmt.specs.declared.nodes.ForClauses.{ForClauses}
 use Rattle.dm_syn.specs.Sources.{Source}
 use Rattle.dm_syn.specs.Trees as tree
 use Rattle.dm_syn.specs.Views as view
@@ -18,6 +19,7 @@ use Rattle.dm_syn.specs.Heights.{initialiser_height, initialisers_height, item_h
 use Rattle.dm_syn.specs.Scopes.{initialiser_declares, initialisers_declares, item_declares, items_declares, declaration_declares, optional_declares, start_declares, stmt_declares, block_item_declares, switch_item_declares, external_declares}
 use Rattle.dm_syn.specs.Statements.{optional_after, start_after}
 use Rattle.dm_pexpr.specs.Parts.{Kind}
+use Rattle.dm_pstmt.specs.Steps.{Clauses, clauses_height, clauses_after, clauses_declare}
 
 -- what the items of a block declare, the latest first
 abbrev pub block_items_declares : Source → tree.BlockItems → List Declared
@@ -69,3 +71,10 @@ an_optional source at = record { view = view.optional; begins = λ _. 0; first =
 
 abbrev pub a_start : Source → ℕ → Kind ForStart tree.ForStart
 a_start source at = record { view = view.start; begins = λ _. 0; first = λ _. 0; height = start_height; after = start_after at; declares = start_declares source; highest = 512 }
+
+-- the clauses of a `for`, with the closing parenthesis, at a place
+abbrev pub seen_clauses : ForClauses → Clauses
+seen_clauses clauses = record { start = view.start clauses.start; condition = view.optional clauses.condition; step = view.optional clauses.step }
+
+abbrev pub clauses_from : Source → ℕ → Kind ForClauses Clauses
+clauses_from source at = record { view = seen_clauses; begins = λ _. 0; first = λ _. 0; height = clauses_height; after = clauses_after at; declares = clauses_declare source; highest = 512 }

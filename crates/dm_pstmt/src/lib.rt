@@ -6,6 +6,8 @@ mod declaration;
 mod declares;
 mod initialiser;
 mod laws;
+mod loops;
 mod nodes;
+mod statement;
 
 pub use laws::{externals_are_inside, one_external, reads_externals};

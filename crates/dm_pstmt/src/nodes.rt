@@ -8,13 +8,22 @@ ghost use Rattle.dm_syn.specs.Trees as tree;
 ghost use Rattle.dm_syn.specs.Views as view;
 ghost use Rattle.dm_pexpr.specs.Parsing.{limit, span_of, and_then};
 ghost use Rattle.dm_pexpr.specs.Parts.{Gives, IsPart, an_expr};
-ghost use Rattle.dm_pstmt.specs.Kinds.{a_declaration, a_stmt, a_labelled, a_block_item, an_optional, a_start, block_items_from, switch_items_from};
-ghost use Rattle.dm_pstmt.specs.Parsing.{stands, expression_with, return_with, jump, block_with, if_only_behind, else_with, while_behind, do_behind, switch_braced, for_body, case_behind, default_behind, unlabelled_with};
+ghost use Rattle.dm_pstmt.specs.Kinds.{a_declaration, a_stmt, a_labelled, a_block_item, an_optional, a_start, block_items_from, switch_items_from, clauses_from, seen_clauses};
+ghost use Rattle.dm_pstmt.specs.Parsing.{stands, expression_with, return_with, jump, block_with, if_only_behind, else_with, while_behind, do_behind, switch_braced, case_behind, default_behind, unlabelled_with};
+ghost use Rattle.dm_pstmt.specs.Steps.{Clauses, with_step, looping_over};
 
 use dm_pexpr::{Part, above, checked, over};
 use dm_syn::{Declaration, Expr, ForStart, Item, Stmt, StmtForm, SwitchForm, SwitchItem};
 use dm_token::{Boxed, List, Memory, Span};
 use std::alloc::Global;
+
+/// The clauses of a `for`: its start, its condition and its step (6.8.5.3).
+#[derive(Drop)]
+pub(crate) struct ForClauses {
+    start: ForStart,
+    condition: Option<Expr>,
+    step: Option<Expr>,
+}
 
 // A statement of that form, unless it is too high. It is boxed, so that what drops it is one call.
 fn node(
@@ -147,28 +156,69 @@ pub(crate) fn switch_on(
     node(alloc, first, after, height, form)
 }
 
-// `for` with its three clauses and its body.
+// The first clause of a `for`, boxed, so that what drops it is one call.
+pub(crate) fn boxed_start(
+    alloc: Global,
+    start: Part<ForStart>,
+) -> Result<Part<Boxed<ForStart>>, Memory>
+    ensures { IfOk result (λ boxed. boxed ≡ record { tree = start.tree; height = start.height; after = start.after }) }
+{
+    Ok(Part {
+        tree: Boxed::new(alloc, start.tree)?,
+        height: start.height,
+        after: start.after,
+    })
+}
+
+// The clauses of a `for`, of which the last ends before a `)`, behind which they end. They are boxed too.
+pub(crate) fn clauses_node(
+    alloc: Global,
+    start: Part<Boxed<ForStart>>,
+    condition: Part<Option<Expr>>,
+    step: Part<Option<Expr>>,
+    after: u32,
+) -> Result<Part<Boxed<ForClauses>>, Memory>
+    ensures { (source : Source) (before one two three : List Declared) (at : ℕ) (begun : Option tree.ForStart) (tested stepped : Option (Option tree.Expr))
+        → IsPart (a_start source at) source before one start begun → IsPart (an_optional source start.after) source one two condition tested
+        → IsPart (an_optional source (condition.after + 1)) source two three step stepped → after ≡ step.after + 1 → after ≤ length source.tokens
+        → IfOk result (λ made. IsPart (clauses_from source at) source before three made (option_map (with_step (view.start start.tree) (view.optional condition.tree)) stepped)) }
+{
+    let height = start.height.max(condition.height).max(step.height);
+    let tree = ForClauses {
+        start: start.tree.into_inner(),
+        condition: condition.tree,
+        step: step.tree,
+    };
+    let tree = Boxed::new(alloc, tree)?;
+    Ok(Part {
+        tree,
+        height,
+        after,
+    })
+}
+
+// `for` with its clauses and its body.
 pub(crate) fn for_loop(
     alloc: Global,
     first: u32,
-    start: Part<ForStart>,
-    condition: Part<Option<Expr>>,
-    step: Part<Option<Expr>>,
+    clauses: Part<Boxed<ForClauses>>,
     body: Option<Part<Boxed<Stmt>>>,
 ) -> Result<Option<Part<Boxed<Stmt>>>, Memory>
-    ensures { (source : Source) (before one two three behind : List Declared) (at next last : ℕ) (begun : Option tree.ForStart) (tested stepped : Option (Option tree.Expr)) (wanted : Option tree.Stmt)
-        → IsPart (a_start source at) source before one start begun → IsPart (an_optional source next) source one two condition tested → IsPart (an_optional source last) source two three step stepped
-        → Gives (a_stmt source) source three behind body wanted
-        → IfOk result (λ made. Gives (a_stmt source) source before before made (and_then (for_body first (view.start start.tree) (view.optional condition.tree) (view.optional step.tree)) wanted)) }
+    ensures { (source : Source) (before names behind : List Declared) (at : ℕ) (read : Option Clauses) (wanted : Option tree.Stmt)
+        → IsPart (clauses_from source at) source before names clauses read → Gives (a_stmt source) source names behind body wanted
+        → IfOk result (λ made. Gives (a_stmt source) source before before made (and_then (looping_over first (seen_clauses clauses.tree)) wanted)) }
 {
     let Some(body) = body else {
         return Ok(None);
     };
-    let left = start.height.max(condition.height);
-    let right = step.height.max(body.height);
-    let height = above(left, right);
+    let height = above(clauses.height, body.height);
     let after = body.after;
-    let form = StmtForm::For(start.tree, condition.tree, step.tree, body.tree);
+    let ForClauses {
+        start,
+        condition,
+        step,
+    } = clauses.tree.into_inner();
+    let form = StmtForm::For(start, condition, step, body.tree);
     node(alloc, first, after, height, form)
 }
 

@@ -1,13 +1,10 @@
-use Rattle.std.proofs.Common.{◌<◌, refl, max, sym, ap, ◌∙◌, subst}
-use Rattle.dm_syn.specs.Heights.{above}
 use Rattle.dm_pstmt.proofs.NodeLemmas.{for-made}
 use Rattle.dm_pstmt.proofs.Wholes.{ok-along}
 use Rattle.dm_pstmt.proofs.nodes.for_loop.Goals as goal
+use Rattle.std.proofs.Common.{refl}
 
 pub returns : goal.returns
-returns c source before one two three behind at next last begun tested stepped wanted start condition step given =
+returns c source before names behind at read wanted clauses given =
     ok-along _ _ c.node.result
-    (λ made is. for-made source before one two three behind at next last c.args.start begun c.args.condition tested c.args.step stepped c.args.body c.in-Some.body wanted c.in-Some.is start condition step given
-    c.args.first c.above-height.result c.in-Some.body.tree made refl
-    (λ small large. c.above-height.ensures (subst (λ n. n < 1000) (sym c.max-left.ensures) small) (subst (λ n. n < 1000) (sym c.max-right.ensures) large)
-    ∙ ap (λ n. above n c.max-right.result) c.max-left.ensures ∙ ap (above (max c.args.start.height c.args.condition.height)) c.max-right.ensures) is) c.node.ensures
+    (λ made is. for-made source before names behind at c.args.clauses read c.args.body c.in-Some.body wanted c.in-Some.is clauses given
+    c.args.first c.above-height.result c.into_inner-start.result c.in-Some.body.tree made c.into_inner-start.ensures refl c.above-height.ensures is) c.node.ensures
