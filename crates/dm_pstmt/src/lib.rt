@@ -4,8 +4,10 @@
 mod clauses;
 mod declaration;
 mod declares;
+mod external;
 mod initialiser;
 mod laws;
 mod nodes;
+mod statement;
 
 pub use laws::{externals_are_inside, one_external, reads_externals};
