@@ -7,7 +7,9 @@ mod declares;
 mod external;
 mod initialiser;
 mod laws;
+mod next;
 mod nodes;
 mod statement;
 
 pub use laws::{externals_are_inside, one_external, reads_externals};
+pub use next::next_external;
