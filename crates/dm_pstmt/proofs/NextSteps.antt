@@ -2,6 +2,7 @@
 use Rattle.std.proofs.Common.{◌≡◌, ℕ, List, [], Option, Some, None, refl, sym, ap, ◌∙◌, subst, arith, append-nil}
 use Rattle.std.specs.Prelude.{slice_get, MatchOption}
 use Rattle.dm_token.specs.declared.token.CToken.{CToken}
+use Rattle.dm_token.specs.declared.stop.Refusal.{Refusal}
 use Rattle.dm_token.specs.declared.stop.Stop.{Stop}
 use Rattle.dm_token.specs.declared.stop.Stop.TheVariants.{Memory, Refused, Limit, ReadFault}
 use Rattle.dm_token.specs.declared.place.Span.{Span}
@@ -61,15 +62,20 @@ external-part source before now at found part fresh there given =
     part-of (an_external source) source [] now found part (external_at source [] at) there (subst (λ ns. Gives (an_external source) source ns now found (external_at source ns at)) fresh given)
 
 -- the refusal where nothing is read
+abbrev refusal-at : CToken → Refusal
+refusal-at token = record { number = 16; detail = 0; place = token.place }
+
+stands-there : (found : Option CToken) (token : CToken) → found ≡ Some token → MatchOption found ⊥ (λ it. refusal-at token ≡ refusal-at it)
+stands-there found token is = subst (λ (o : Option CToken). MatchOption o ⊥ (λ it. refusal-at token ≡ refusal-at it)) (sym is) refl
+
 pub external-refused : (source : Source) (before now : List Declared) (at : ℕ) (found : Option (Part External)) (token : CToken) (stop : Stop) → before ≡ [] → found ≡ None
     → Gives (an_external source) source before now found (external_at source before at) → slice_get source.tokens at ≡ Some token
     → stop ≡ Refused (record { number = 16; detail = 0; place = token.place }) → Refuses source at stop
 external-refused source before now at found token stop fresh there given stands is =
-    let none = none-of (an_external source) source [] now found (external_at source [] at) there (subst (λ ns. Gives (an_external source) source ns now found (external_at source ns at)) fresh given) in
-    subst (Refuses source at) (sym is) (
-      λ it formed. external-none source at it none formed,
-      subst (λ (o : Option CToken). MatchOption o ⊥ (λ it. record { number = 16; detail = 0; place = token.place } ≡ record { number = 16; detail = 0; place = it.place })) (sym stands) refl,
-    )
+    let none : external_at source [] at ≡ None =
+    none-of (an_external source) source [] now found (external_at source [] at) there (subst (λ ns. Gives (an_external source) source ns now found (external_at source ns at)) fresh given) in
+    let refused : Refuses source at (Refused (refusal-at token)) = (λ it formed. external-none source at it none formed, stands-there (slice_get source.tokens at) token stands) in
+    subst (Refuses source at) (sym is) refused
 
 -- the names that are known behind it
 pub known-behind : (source : Source) (now : List Declared) (at : ℕ) (part : Part External) (names known : NameMap) → IsPart (an_external source) source [] now part (external_at source [] at)
