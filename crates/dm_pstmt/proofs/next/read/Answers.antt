@@ -5,9 +5,9 @@ use Rattle.dm_pstmt.proofs.next.read.Goals as goal
 
 pub returns-in-Some-clause-found : goal.returns-in-Some-clause-found
 returns-in-Some-clause-found c =
-    external-part (source_with c.args.tokens.now c.args.typedefs.now) c.args.scope.now c.external.new.scope c.args.at c.in_ok-external.field-0 c.in-Some.found c.requires.fresh c.in-Some.is c.in_ok-external.ensures
+    external-part (source_with c.args.tokens.now c.args.typedefs.now) c.args.scope.now c.external.new.scope c.args.at c.in_ok-found.field-0 c.in-Some.found c.requires.fresh c.in-Some.is c.in_ok-found.ensures
 
 pub returns-in-None-clause-stop : goal.returns-in-None-clause-stop
 returns-in-None-clause-stop c =
-    external-refused (source_with c.args.tokens.now c.args.typedefs.now) c.args.scope.now c.external.new.scope c.args.at c.in_ok-external.field-0 c.index-tokens-start.result c.refused.result
-    c.requires.fresh c.in-None.is c.in_ok-external.ensures c.index-tokens-start.is c.refused.ensures
+    external-refused (source_with c.args.tokens.now c.args.typedefs.now) c.args.scope.now c.external.new.scope c.args.at c.in_ok-found.field-0 c.index-tokens-start.result c.refused.result
+    c.requires.fresh c.in-None.is c.in_ok-found.ensures c.index-tokens-start.is c.refused.ensures
