@@ -39,18 +39,18 @@ pub definition-made : (source : Source) (before names between behind within last
     → IsPart (the_specifiers source) source before names specifiers read → IsPart (a_declarator source) source names between declarator seen
     → behind ≡ named_declares source (defines_types source (view.specifiers specifiers.tree)) (view.declarator declarator.tree) ++ names
     → Gives (a_stmt source) source within last found wanted
-    → (first height : ℕ) (made : Option (Part External)) → (specifiers.height < 1000 → max declarator.height body.height < 1000 → height ≡ above specifiers.height (max declarator.height body.height))
-    → made ≡ (if nat_le height limit then Some (record { tree = record { span = record { first = first; after = body.after }; form = external_form.Function specifiers.tree declarator.tree body.tree }; height = height; after = body.after }) else None)
+    → (first height : ℕ) (boxed : Stmt) (made : Option (Part External)) → boxed ≡ body.tree → (specifiers.height < 1000 → max declarator.height body.height < 1000 → height ≡ above specifiers.height (max declarator.height body.height))
+    → made ≡ (if nat_le height limit then Some (record { tree = record { span = record { first = first; after = body.after }; form = external_form.Function specifiers.tree declarator.tree boxed }; height = height; after = body.after }) else None)
     → Gives (an_external source) source before behind made (and_then (definition_with first (view.specifiers specifiers.tree) (view.declarator declarator.tree)) wanted)
 unfolding height_of external_declares
-definition-made source before names between behind within last specifiers read declarator seen found body wanted there p q scoped given first height made high node =
+definition-made source before names between behind within last specifiers read declarator seen found body wanted there p q scoped given first height boxed made same high node =
     let g = part-of (a_stmt source) source within last found body wanted there given in
     let s : tree.Specifiers = view.specifiers specifiers.tree in
     let d : tree.Declarator = view.declarator declarator.tree in
     let v : tree.Stmt = view.stmt body.tree in
     made-gives (an_external source) source before behind made _ height body.after (tree.definition (span_of first body.after) s d v) _ node
     (then-is (definition_with first s d) _ v g.read ∙ ap (λ n. checked (height_of (tree.definition (span_of first n) s d v)) (tree.definition (span_of first n) s d v)) (sym g.ends))
-    refl refl
+    (ap (λ it. tree.definition (span_of first body.after) s d (view.stmt it)) same) refl
     (high (omega (arith, p.low)) (omega (arith, q.low, g.low)) ∙ ap (λ n. above n (max declarator.height body.height)) p.high
     ∙ ap (λ n. above (specifiers_height s) (max n body.height)) q.high ∙ ap (λ n. above (specifiers_height s) (max (declarator_height d) n)) g.high) refl g.within
     (scoped ∙ ap (λ those. named_declares source (defines_types source s) d ++ those) p.scoped ∙ sym (append_assoc (named_declares source (defines_types source s) d) (specifiers_declares source s) before)) (lit≤ tt)

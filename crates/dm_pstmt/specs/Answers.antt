@@ -6,6 +6,7 @@ use Rattle.dm_syn.specs.declared.statement.External.{External}
 use Rattle.dm_syn.specs.Sources.{Source}
 use Rattle.dm_syn.specs.Trees as tree
 use Rattle.dm_syn.specs.Views as view
+use Rattle.dm_pexpr.specs.NameMaps.{NameMap}
 use Rattle.dm_pexpr.specs.Parsing.{span_of}
 use Rattle.dm_pstmt.specs.Readings.{IsExternalAt}
 
@@ -24,3 +25,8 @@ Refuses source at (Refused given) =
     × MatchOption (slice_get source.tokens at) ⊥ (λ token. given ≡ record { number = 16; detail = 0; place = token.place })
 Refuses source at (Limit given) = ⊥
 Refuses source at (ReadFault file) = ⊥
+
+-- a refusal leaves the names as they were
+abbrev pub Keeps : NameMap → NameMap → Stop → Type 0
+Keeps before now (Refused given) = now ≡ before
+Keeps before now other = Unit {0}

@@ -1,9 +1,11 @@
 //! What trees that are read declare (6.2.1): enumerators also within type names, and the names of parameters.
 
-ghost use Rattle.std.specs.Prelude.{◌≡◌, ◌++◌, map, OnOk};
+ghost use Rattle.std.specs.Prelude.{◌≡◌, ◌++◌, map, OnOk, option_copied};
+ghost use Rattle.dm_syn.specs.Statements.{own_parameters as meant_own, own_in_direct as meant_direct};
 ghost use Rattle.dm_syn.specs.Scopes as scopes;
 ghost use Rattle.dm_syn.specs.Views as view;
 ghost use Rattle.dm_pexpr.specs.Parts.{source_of};
+ghost use Rattle.dm_pstmt.specs.Steps.{seen_parameters};
 
 use crate::declaration::declare_name;
 use dm_pexpr::{Reader, Scope};
@@ -225,5 +227,37 @@ fn in_direct(reader: &Reader, scope: &mut Scope, direct: &Direct) -> Result<(), 
             in_expr(reader, scope, length.get())
         }
         Direct::Function(inner, _) => in_direct(reader, scope, inner.get()),
+    }
+}
+
+/// The parameters at the declared name, where the declarator is that of a function, parentheses apart (6.9.1p2).
+#[cycle(owning)]
+pub(crate) fn own_parameters<'a>(
+    nearest: Option<&'a [Parameter]>,
+    declarator: &'a Declarator,
+) -> Option<&'a [Parameter]>
+    ensures { seen_parameters (option_copied result) ≡ meant_own (seen_parameters (option_copied nearest.entry)) (view.declarator declarator.now) }
+{
+    let nearest = if declarator.pointers.is_empty() {
+        nearest
+    } else {
+        None
+    };
+    own_in_direct(nearest, &declarator.direct)
+}
+
+// And likewise behind the pointers.
+#[cycle(owning)]
+fn own_in_direct<'a>(
+    nearest: Option<&'a [Parameter]>,
+    direct: &'a Direct,
+) -> Option<&'a [Parameter]>
+    ensures { seen_parameters (option_copied result) ≡ meant_direct (seen_parameters (option_copied nearest.entry)) (view.direct direct.now) }
+{
+    match direct {
+        Direct::Absent | Direct::Name(_) => nearest,
+        Direct::Paren(inner) => own_parameters(nearest, inner.get()),
+        Direct::Array(inner, _) => own_in_direct(None, inner.get()),
+        Direct::Function(inner, parameters) => own_in_direct(Some(parameters.items()), inner.get()),
     }
 }

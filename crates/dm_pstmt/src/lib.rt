@@ -4,10 +4,13 @@
 mod clauses;
 mod declaration;
 mod declares;
+mod external;
 mod initialiser;
 mod laws;
 mod loops;
+mod next;
 mod nodes;
 mod statement;
 
 pub use laws::{externals_are_inside, one_external, reads_externals};
+pub use next::next_external;

@@ -1,19 +1,23 @@
-//! Statements that are put together of their parts.
+//! Statements and external declarations that are put together of their parts.
 
-ghost use Rattle.std.specs.Prelude.{◌≡◌, ◌+◌, ◌≤◌, ℕ, true, List, Option, Some, None, IfOk, length, nat_le, option_map, if◌then◌else◌};
+ghost use Rattle.std.specs.Prelude.{◌≡◌, ◌+◌, ◌≤◌, ◌++◌, ℕ, true, List, Option, Some, None, IfOk, length, nat_le, option_map, if◌then◌else◌};
 ghost use Rattle.dm_syn.specs.declared.declared.Declared.{Declared};
 ghost use Rattle.dm_syn.specs.declared.symbol.Symbol.TheVariants.{Semicolon};
 ghost use Rattle.dm_syn.specs.Sources.{Source};
+ghost use Rattle.dm_syn.specs.Scopes.{named_declares, defines_types as types_meant};
 ghost use Rattle.dm_syn.specs.Trees as tree;
 ghost use Rattle.dm_syn.specs.Views as view;
 ghost use Rattle.dm_pexpr.specs.Parsing.{limit, span_of, and_then};
-ghost use Rattle.dm_pexpr.specs.Parts.{Gives, IsPart, an_expr};
-ghost use Rattle.dm_pstmt.specs.Kinds.{a_declaration, a_stmt, a_labelled, a_block_item, an_optional, a_start, block_items_from, switch_items_from, clauses_from, seen_clauses};
-ghost use Rattle.dm_pstmt.specs.Parsing.{stands, expression_with, return_with, jump, block_with, if_only_behind, else_with, while_behind, do_behind, switch_braced, case_behind, default_behind, unlabelled_with};
+ghost use Rattle.dm_pexpr.specs.Parts.{Gives, IsPart, an_expr, the_specifiers, a_declarator};
+ghost use Rattle.dm_pstmt.specs.Kinds.{a_declaration, an_external, a_stmt, a_labelled, a_block_item, an_optional, a_start, block_items_from, switch_items_from, clauses_from, seen_clauses};
+ghost use Rattle.dm_pstmt.specs.Parsing.{stands, expression_with, return_with, jump, block_with, if_only_behind, else_with, while_behind, do_behind, switch_braced, case_behind, default_behind, unlabelled_with, external_declared, definition_with};
 ghost use Rattle.dm_pstmt.specs.Steps.{Clauses, with_step, looping_over};
 
 use dm_pexpr::{Part, above, checked, over};
-use dm_syn::{Declaration, Expr, ForStart, Item, Stmt, StmtForm, SwitchForm, SwitchItem};
+use dm_syn::{
+    Declaration, Declarator, Expr, External, ExternalForm, ForStart, Item, Specifiers, Stmt,
+    StmtForm, SwitchForm, SwitchItem,
+};
 use dm_token::{Boxed, List, Memory, Span};
 use std::alloc::Global;
 
@@ -404,4 +408,48 @@ pub(crate) fn evaluated(value: Part<Option<Expr>>, after: u32) -> Part<ForStart>
         height: value.height,
         after,
     }
+}
+
+// A declaration in file scope.
+pub(crate) fn external_declaration(
+    first: u32,
+    declaration: Option<Part<Declaration>>,
+) -> Option<Part<External>>
+    ensures { (source : Source) (before behind : List Declared) (wanted : Option tree.Declaration) → Gives (a_declaration source) source before behind declaration wanted
+        → Gives (an_external source) source before behind result (option_map (external_declared first) wanted) }
+{
+    let declaration = declaration?;
+    let (height, after) = (declaration.height, declaration.after);
+    let tree = External {
+        span: Span { first, after },
+        form: ExternalForm::Declaration(declaration.tree),
+    };
+    Some(Part {
+        tree,
+        height,
+        after,
+    })
+}
+
+// Specifiers, a declarator and a body.
+pub(crate) fn external_definition(
+    first: u32,
+    specifiers: Part<Specifiers>,
+    declarator: Part<Declarator>,
+    body: Option<Part<Boxed<Stmt>>>,
+) -> Option<Part<External>>
+    ensures { (source : Source) (before names between behind inside last : List Declared) (read : Option tree.Specifiers) (seen : Option tree.Declarator) (wanted : Option tree.Stmt)
+        → IsPart (the_specifiers source) source before names specifiers read → IsPart (a_declarator source) source names between declarator seen
+        → behind ≡ named_declares source (types_meant source (view.specifiers specifiers.tree)) (view.declarator declarator.tree) ++ names
+        → Gives (a_stmt source) source inside last body wanted
+        → Gives (an_external source) source before behind result (and_then (definition_with first (view.specifiers specifiers.tree) (view.declarator declarator.tree)) wanted) }
+{
+    let body = body?;
+    let height = above(specifiers.height, declarator.height.max(body.height));
+    let after = body.after;
+    let tree = External {
+        span: Span { first, after },
+        form: ExternalForm::Function(specifiers.tree, declarator.tree, body.tree.into_inner()),
+    };
+    checked(tree, height, after)
 }

@@ -1,0 +1,83 @@
+//! The next external declaration of a unit.
+
+ghost use Rattle.std.specs.Prelude.{◌≡◌, ◌≤◌, ◌<◌, [], length, IfOk, IfErr};
+ghost use Rattle.dm_token.specs.declared.stop.Stop.TheVariants.{Refused};
+ghost use Rattle.dm_syn.specs.Scopes.{external_declares};
+ghost use Rattle.dm_syn.specs.Trees as tree;
+ghost use Rattle.dm_syn.specs.Views as view;
+ghost use Rattle.dm_pexpr.specs.Answers.{source_with};
+ghost use Rattle.dm_pexpr.specs.Parts.{IsPart};
+ghost use Rattle.dm_pexpr.specs.Scoping.{known_with};
+ghost use Rattle.dm_pstmt.specs.Answers.{IsExternalFound, Refuses, Keeps};
+ghost use Rattle.dm_pstmt.specs.Kinds.{an_external};
+ghost use Rattle.dm_pstmt.specs.Readings.{IsExternalAt, external_at};
+
+use crate::external::external;
+use dm_pexpr::{Names, Part, Reader, Scope};
+use dm_syn::External;
+use dm_token::{CToken, Refusal, Stop};
+use std::alloc::Global;
+
+// The greatest height.
+const LIMIT: u32 = 512;
+
+/// The external declaration that begins at a position (6.9), with a height of at most 512, and the position behind it;
+/// refusal 16 at the token there exactly where there is none. Behind it the names have what it declares in file scope,
+/// each with whether it names a type, the latest declaration of a name counting. A refusal leaves them as they were.
+/// After want of memory some of the declarations are in, so they aren't used again.
+pub fn next_external(
+    alloc: Global,
+    tokens: &[CToken],
+    at: u32,
+    typedefs: &mut Names,
+) -> Result<(External, u32), Stop>
+    requires few { length tokens.now ≤ 4294967295 }
+    requires within { at < length tokens.now }
+    ensures found { IfOk result (IsExternalFound (source_with tokens.now typedefs.old) at) }
+    ensures only { IfOk result (λ found. (it : tree.External) → IsExternalAt (source_with tokens.now typedefs.old) [] at it → view.external found.0 ≡ it) }
+    ensures names { IfOk result (λ found. typedefs.new ≡ known_with typedefs.old (external_declares (source_with tokens.now typedefs.old) (view.external found.0))) }
+    ensures stop { IfErr result (Refuses (source_with tokens.now typedefs.old) at) }
+    ensures kept { IfErr result (Keeps typedefs.old typedefs.new) }
+{
+    let mut scope = Scope::new(alloc);
+    let found = read(alloc, tokens, at, typedefs, &mut scope)?;
+    scope.settle(typedefs)?;
+    Ok((found.tree, found.after))
+}
+
+// The external declaration at a position, behind which what it declares in file scope is in scope, or the refusal.
+fn read(
+    alloc: Global,
+    tokens: &[CToken],
+    at: u32,
+    typedefs: &Names,
+    scope: &mut Scope,
+) -> Result<Part<External>, Stop>
+    requires few { length tokens.now ≤ 4294967295 }
+    requires within { at < length tokens.now }
+    requires fresh { scope.old ≡ [] }
+    ensures found { IfOk result (λ found. IsPart (an_external (source_with tokens.now typedefs.now)) (source_with tokens.now typedefs.now) [] scope.new found (external_at (source_with tokens.now typedefs.now) [] at)) }
+    ensures stop { IfErr result (Refuses (source_with tokens.now typedefs.now) at) }
+{
+    let reader = Reader {
+        alloc,
+        tokens,
+        typedefs,
+    };
+    let start = at as usize;
+    match external(&reader, scope, at, LIMIT)? {
+        Some(found) => Ok(found),
+        None => Err(refused(&tokens[start])),
+    }
+}
+
+// What isn't the syntax of C is refused as 16, at a token.
+fn refused(token: &CToken) -> Stop
+    ensures { result ≡ Refused (record { number = 16; detail = 0; place = token.now.place }) }
+{
+    Stop::Refused(Refusal {
+        number: 16,
+        detail: 0,
+        place: token.place,
+    })
+}
