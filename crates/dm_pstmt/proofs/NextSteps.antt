@@ -1,4 +1,5 @@
 -- What is given for an external declaration.
+use Rattle.std.specs.Prelude.{Result, Ok, Err, IfErr}
 use Rattle.std.proofs.Common.{◌≡◌, ℕ, List, [], Option, Some, None, refl, sym, ap, ◌∙◌, subst, arith, append-nil}
 use Rattle.std.specs.Prelude.{slice_get, MatchOption}
 use Rattle.dm_token.specs.declared.token.CToken.{CToken}
@@ -88,3 +89,7 @@ keeps-same names Memory = tt
 keeps-same names (Refused given) = refl
 keeps-same names (Limit given) = tt
 keeps-same names (ReadFault file) = tt
+
+pub keeps-all : {A : Type 0} (names : NameMap) (result : Result A Stop) → IfErr result (Keeps names names)
+keeps-all names (Ok value) = tt
+keeps-all names (Err stop) = keeps-same names stop

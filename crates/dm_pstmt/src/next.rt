@@ -13,9 +13,10 @@ ghost use Rattle.dm_pstmt.specs.Kinds.{an_external};
 ghost use Rattle.dm_pstmt.specs.Readings.{IsExternalAt, external_at};
 
 use crate::external::external;
+use crate::nodes::boxed_external;
 use dm_pexpr::{Names, Part, Reader, Scope};
 use dm_syn::External;
-use dm_token::{CToken, Refusal, Stop};
+use dm_token::{Boxed, CToken, Refusal, Stop};
 use std::alloc::Global;
 
 // The greatest height.
@@ -40,9 +41,30 @@ pub fn next_external(
     ensures kept { IfErr result (Keeps typedefs.old typedefs.new) }
 {
     let mut scope = Scope::new(alloc);
-    let found = read(alloc, tokens, at, typedefs, &mut scope)?;
+    let found = settled(alloc, tokens, at, typedefs, &mut scope)?;
+    Ok((found.tree.into_inner(), found.after))
+}
+
+// The external declaration at a position, behind which the names have what it declares in file scope, or the refusal.
+fn settled(
+    alloc: Global,
+    tokens: &[CToken],
+    at: u32,
+    typedefs: &mut Names,
+    scope: &mut Scope,
+) -> Result<Part<Boxed<External>>, Stop>
+    requires few { length tokens.now ≤ 4294967295 }
+    requires within { at < length tokens.now }
+    requires fresh { scope.old ≡ [] }
+    ensures found { IfOk result (λ found. IsPart (an_external (source_with tokens.now typedefs.old)) (source_with tokens.now typedefs.old) [] scope.new found (external_at (source_with tokens.now typedefs.old) [] at)) }
+    ensures names { IfOk result (λ found. typedefs.new ≡ known_with typedefs.old scope.new) }
+    ensures stop { IfErr result (Refuses (source_with tokens.now typedefs.old) at) }
+    ensures kept { IfErr result (Keeps typedefs.old typedefs.new) }
+{
+    let found = read(alloc, tokens, at, typedefs, scope)?;
+    let found = boxed_external(alloc, found)?;
     scope.settle(typedefs)?;
-    Ok((found.tree, found.after))
+    Ok(found)
 }
 
 // The external declaration at a position, behind which what it declares in file scope is in scope, or the refusal.

@@ -453,3 +453,17 @@ pub(crate) fn external_definition(
     };
     checked(tree, height, after)
 }
+
+/// The same external declaration, boxed, so that what drops it is one call.
+pub(crate) fn boxed_external(
+    alloc: Global,
+    external: Part<External>,
+) -> Result<Part<Boxed<External>>, Memory>
+    ensures { IfOk result (λ boxed. boxed ≡ record { tree = external.tree; height = external.height; after = external.after }) }
+{
+    Ok(Part {
+        tree: Boxed::new(alloc, external.tree)?,
+        height: external.height,
+        after: external.after,
+    })
+}
