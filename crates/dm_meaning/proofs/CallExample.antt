@@ -337,7 +337,7 @@ first_take : passed_all.Agrees calling_take (called_take (constant 1) (counted 4
 unfolding first_arguments
 first_take = inr (
   first_arguments,
-  record { is = refl; typed = refl; holds = holds_first; each = refl; once = once_take },
+  record { is = refl; typed = refl; holds = inr holds_first; each = refl; once = once_take },
   (record { kind = _; spans = _; is = refl }, (inl refl, refl, inl (refl, refl, tt, tt), (inl refl, refl, inl (refl, refl, tt, (inl (refl, refl, tt, tt), tt)), tt))),
 )
 
@@ -345,7 +345,7 @@ second_take : passed_all.Agrees calling_take (called_take (called_take (constant
 unfolding second_arguments
 second_take = inr (
   second_arguments,
-  record { is = refl; typed = refl; holds = holds_second; each = refl; once = once_take },
+  record { is = refl; typed = refl; holds = inr holds_second; each = refl; once = once_take },
   (record { kind = _; spans = _; is = refl }, (inl refl, refl, first_take, (inl refl, refl, inl (refl, refl, tt, (inl (refl, refl, tt, tt), tt)), tt))),
 )
 
