@@ -10,7 +10,7 @@ use Rattle.dm_meaning.specs.CalledWith as passed
 use Rattle.dm_meaning.specs.CalledWith.{Holds, IsCallingWith}
 use Rattle.dm_meaning.specs.CalledWithAll as passed_all
 use Rattle.dm_meaning.specs.CalledWithAll.{times_named, IsCallingWithAll}
-use Rattle.dm_meaning.specs.Examples.{beyond_third, called_add, calling_twice, stored_there, reading, summed, doubled, counted, called_with, beyond_two, calling_with_twice, types, inverted, inverted_unit, inverting, inverting_unit, called_one, beyond_main, calling_double, constant, taken, called_take, beyond_take, take, calling_take, taken_unit, called_take_unit, six_unit, six_body, called_six, calling_six_unit, beyond_six}
+use Rattle.dm_meaning.specs.Examples.{beyond_third, called_add, calling_twice, stored_there, reading, summed, doubled, counted, called_with, beyond_two, calling_with_twice, types, inverted, inverted_unit, inverting, inverting_unit, called_one, beyond_main, calling_double, constant, taken, called_take, beyond_take, take, calling_take, calling_same, taken_unit, called_take_unit, six_unit, six_body, called_six, calling_six_unit, beyond_six}
 use Rattle.dm_meaning.specs.Programs.{declaration_at, declaration_of}
 use Rattle.dm_meaning.specs.Replaced.{facts_of}
 
@@ -337,7 +337,7 @@ first_take : passed_all.Agrees calling_take (called_take (constant 1) (counted 4
 unfolding first_arguments
 first_take = inr (
   first_arguments,
-  record { is = refl; typed = refl; holds = holds_first; each = refl; once = once_take },
+  record { is = refl; typed = refl; holds = inr holds_first; each = refl; once = once_take },
   (record { kind = _; spans = _; is = refl }, (inl refl, refl, inl (refl, refl, tt, tt), (inl refl, refl, inl (refl, refl, tt, (inl (refl, refl, tt, tt), tt)), tt))),
 )
 
@@ -345,7 +345,7 @@ second_take : passed_all.Agrees calling_take (called_take (called_take (constant
 unfolding second_arguments
 second_take = inr (
   second_arguments,
-  record { is = refl; typed = refl; holds = holds_second; each = refl; once = once_take },
+  record { is = refl; typed = refl; holds = inr holds_second; each = refl; once = once_take },
   (record { kind = _; spans = _; is = refl }, (inl refl, refl, first_take, (inl refl, refl, inl (refl, refl, tt, (inl (refl, refl, tt, tt), tt)), tt))),
 )
 
@@ -375,6 +375,62 @@ premises_take_unit = record {
   told = told_take;
   externals =
       inl (refl, ((refl, refl, (inl (refl, refl, tt, (inl (refl, refl, tt, tt), tt)), (inl (refl, refl, tt, (inl (refl, refl, tt, tt), tt)), (inl (refl, refl, tt, (second_take, tt)), tt)))), tt));
+  statics = tt;
+  not_main = refl;
+  return_kind = _;
+  return_spans = _;
+  returns = refl;
+  value = inl refl;
+}
+
+-- ---- with the parameter alone
+
+own_same : (p : ℕ) → IsAmong p (2 ∷ []) → (d : ℕ) → beyond_main d ≡ p → ⊥
+own_same p (inl e) d f = own_double d (f ∙ e)
+own_same p (inr k) d f = absurd k
+
+told_same : (d : ℕ) → option_map facts_of (declaration_of (new_of calling_same) (beyond_main d)) ≡ option_map facts_of (declaration_of calling_same.old d)
+told_same zero = refl
+told_same (suc d) = refl
+
+once_same : (d : ℕ) → IsAmong d (2 ∷ []) → times_named d (reading 2) ≡ 1
+once_same d (inl e) = ap (λ n. times_named n (reading 2)) e
+once_same d (inr k) = absurd k
+
+counted_alone : Trees
+counted_alone = more_trees (counted 1) no_trees
+
+holds_same : passed_all.HoldsWhole calling_same counted_alone (reading 2) (counted 1)
+unfolding counted_alone
+holds_same = inl (record { parameter = 2; spans = _; named_kind = _; named_spans = _; is = refl; own = refl; stands = refl })
+
+count_same : passed_all.Agrees calling_same (counted 3) (counted 1)
+count_same = inl (refl, refl, tt, (inl (refl, refl, tt, tt), tt))
+
+call_same : passed_all.Agrees calling_same (called_one (counted 3)) (counted 1)
+unfolding counted_alone
+call_same = inr (
+  counted_alone,
+  record { is = refl; typed = refl; holds = holds_same; each = refl; once = once_same },
+  (record { kind = _; spans = _; is = refl }, (inl refl, refl, count_same, tt)),
+)
+
+call_same_again : passed_all.Agrees calling_same (called_one (called_one (counted 3))) (counted 1)
+unfolding counted_alone
+call_same_again = inr (
+  counted_alone,
+  record { is = refl; typed = refl; holds = holds_same; each = refl; once = once_same },
+  (record { kind = _; spans = _; is = refl }, (inl refl, refl, call_same, tt)),
+)
+
+pub premises_same : IsCallingWithAll calling_same
+premises_same = record {
+  injective = injective_double;
+  apart = apart_double;
+  own = own_same;
+  distinct = ((λ k. k), tt);
+  told = told_same;
+  functions = inl (refl, ((refl, refl, (inl (refl, refl, tt, (inl (refl, refl, tt, tt), tt)), (inl (refl, refl, tt, (call_same, tt)), (inl (refl, refl, tt, (call_same_again, tt)), tt)))), tt));
   statics = tt;
   not_main = refl;
   return_kind = _;

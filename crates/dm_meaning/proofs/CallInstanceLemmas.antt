@@ -60,7 +60,7 @@ module _ (change : Called) (calling : IsCalling change) where
           record {
             is = h.is;
             typed = h.typed;
-            holds = same_holds change no_trees change.body (node other other_kind other_spans others) h.same;
+            holds = inr (same_holds change no_trees change.body (node other other_kind other_spans others) h.same);
             each = sym (ap length calling.parameters);
             once = λ d k. absurd (no_parameter d k);
           },
@@ -149,7 +149,7 @@ module _ (change : Called) (p : ℕ) (calling : IsCallingWith change p) where
           record {
             is = h.1.is;
             typed = h.1.typed;
-            holds = one_holds change.body (node other other_kind other_spans others) h.0 h.1.holds;
+            holds = inr (one_holds change.body (node other other_kind other_spans others) h.0 h.1.holds);
             each = sym (ap length calling.parameters);
             once = λ d k. ap (λ n. times_named n change.body) (only_parameter d k) ∙ named_once change.body (node other other_kind other_spans others) h.0 h.1.holds;
           },

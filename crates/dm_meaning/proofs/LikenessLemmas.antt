@@ -91,8 +91,6 @@ pub record Likeness (change : Called) (A : Tree → Tree → Type 0) (R : Run �
   pub told : (d : ℕ) → option_map facts_of (declaration_of (new_of change) (change.rename d)) ≡ option_map facts_of (declaration_of change.old d)
   pub opened : (label : Label) (kind : CType) (spans : Spans) (parts : Trees) (other : Label) (other_kind : CType) (other_spans : Spans) (others : Trees)
       → A (node label kind spans parts) (node other other_kind other_spans others) → SameNode change A label kind parts other other_kind others ⊎ CallNode label other
-  pub closed : (label : Label) (kind : CType) (spans : Spans) (parts : Trees) (other : Label) (other_kind : CType) (other_spans : Spans) (others : Trees)
-      → SameNode change A label kind parts other other_kind others → A (node label kind spans parts) (node other other_kind other_spans others)
   pub begun : (tree other : Tree) → A tree other → R (begun tree) (begun other)
 
 -- ---- facts of declarations
@@ -257,29 +255,29 @@ module _ (change : Called) {A : Tree → Tree → Type 0} {R : Run → Run → T
   AllUnlabel no_trees = Unit {0}
   AllUnlabel (more_trees first rest) = Unlabels first × AllUnlabel rest
 
-  unlabel_case : (kind other_kind : CType) (spans other_spans : Spans) (parts others : Trees) → kind ≡ other_kind → SameCase change case parts others → AllAlike A parts others → AllUnlabel parts
+  -- a label without a statement stays
+  unlabel_case : (kind other_kind : CType) (spans other_spans : Spans) (parts others : Trees) → A (node case kind spans parts) (node case other_kind other_spans others) → AllAlike A parts others → AllUnlabel parts
       → A (unlabelled (node case kind spans parts)) (unlabelled (node case other_kind other_spans others))
-  unlabel_case kind other_kind spans other_spans no_trees no_trees e c h below = calling.closed case kind spans no_trees case other_kind other_spans no_trees (refl, e, c, h)
-  unlabel_case kind other_kind spans other_spans no_trees (more_trees other others) e c h below = absurd h
-  unlabel_case kind other_kind spans other_spans (more_trees first rest) no_trees e c h below = absurd h
-  unlabel_case kind other_kind spans other_spans (more_trees first no_trees) (more_trees other no_trees) e c h below =
-      calling.closed case kind spans (more_trees first no_trees) case other_kind other_spans (more_trees other no_trees) (refl, e, c, h)
-  unlabel_case kind other_kind spans other_spans (more_trees first no_trees) (more_trees other (more_trees second others)) e c h below = absurd h.1
-  unlabel_case kind other_kind spans other_spans (more_trees first (more_trees second rest)) (more_trees other no_trees) e c h below = absurd h.1
-  unlabel_case kind other_kind spans other_spans (more_trees first (more_trees second rest)) (more_trees other (more_trees another others)) e c h below = below.1.0 another h.1.0
+  unlabel_case kind other_kind spans other_spans no_trees no_trees whole h below = whole
+  unlabel_case kind other_kind spans other_spans no_trees (more_trees other others) whole h below = absurd h
+  unlabel_case kind other_kind spans other_spans (more_trees first rest) no_trees whole h below = absurd h
+  unlabel_case kind other_kind spans other_spans (more_trees first no_trees) (more_trees other no_trees) whole h below = whole
+  unlabel_case kind other_kind spans other_spans (more_trees first no_trees) (more_trees other (more_trees second others)) whole h below = absurd h.1
+  unlabel_case kind other_kind spans other_spans (more_trees first (more_trees second rest)) (more_trees other no_trees) whole h below = absurd h.1
+  unlabel_case kind other_kind spans other_spans (more_trees first (more_trees second rest)) (more_trees other (more_trees another others)) whole h below = below.1.0 another h.1.0
 
-  unlabel_default : (kind other_kind : CType) (spans other_spans : Spans) (parts others : Trees) → kind ≡ other_kind → SameCase change default parts others → AllAlike A parts others → AllUnlabel parts
+  unlabel_default : (kind other_kind : CType) (spans other_spans : Spans) (parts others : Trees) → A (node default kind spans parts) (node default other_kind other_spans others) → AllAlike A parts others → AllUnlabel parts
       → A (unlabelled (node default kind spans parts)) (unlabelled (node default other_kind other_spans others))
-  unlabel_default kind other_kind spans other_spans no_trees no_trees e c h below = calling.closed default kind spans no_trees default other_kind other_spans no_trees (refl, e, c, h)
-  unlabel_default kind other_kind spans other_spans no_trees (more_trees other others) e c h below = absurd h
-  unlabel_default kind other_kind spans other_spans (more_trees first rest) no_trees e c h below = absurd h
-  unlabel_default kind other_kind spans other_spans (more_trees first rest) (more_trees other others) e c h below = below.0 other h.0
+  unlabel_default kind other_kind spans other_spans no_trees no_trees whole h below = whole
+  unlabel_default kind other_kind spans other_spans no_trees (more_trees other others) whole h below = absurd h
+  unlabel_default kind other_kind spans other_spans (more_trees first rest) no_trees whole h below = absurd h
+  unlabel_default kind other_kind spans other_spans (more_trees first rest) (more_trees other others) whole h below = below.0 other h.0
 
-  unlabel_by : (label : Label) (kind other_kind : CType) (spans other_spans : Spans) (parts others : Trees) → kind ≡ other_kind → SameCase change label parts others → AllAlike A parts others → AllUnlabel parts
+  unlabel_by : (label : Label) (kind other_kind : CType) (spans other_spans : Spans) (parts others : Trees) → A (node (relabelled change.rename label) kind spans parts) (node label other_kind other_spans others) → AllAlike A parts others → AllUnlabel parts
       → A (unlabelled (node (relabelled change.rename label) kind spans parts)) (unlabelled (node label other_kind other_spans others))
-  unlabel_by case kind other_kind spans other_spans parts others e c h below = unlabel_case kind other_kind spans other_spans parts others e c h below
-  unlabel_by default kind other_kind spans other_spans parts others e c h below = unlabel_default kind other_kind spans other_spans parts others e c h below
-  unlabel_by label kind other_kind spans other_spans parts others e c h below = calling.closed (relabelled change.rename label) kind spans parts label other_kind other_spans others (refl, e, c, h)
+  unlabel_by case kind other_kind spans other_spans parts others whole h below = unlabel_case kind other_kind spans other_spans parts others whole h below
+  unlabel_by default kind other_kind spans other_spans parts others whole h below = unlabel_default kind other_kind spans other_spans parts others whole h below
+  unlabel_by label kind other_kind spans other_spans parts others whole h below = whole
 
   value_unlabelled : (label : Label) (kind : CType) (spans : Spans) (parts : Trees) → may_give label ≡ true → unlabelled (node label kind spans parts) ≡ node label kind spans parts
   value_unlabelled case kind spans parts h = absurd (cc)
@@ -292,7 +290,7 @@ module _ (change : Called) {A : Tree → Tree → Type 0} {R : Run → Run → T
       by_form : SameNode change A label kind parts other other_kind others ⊎ CallNode label other → A (unlabelled (node label kind spans parts)) (unlabelled (node other other_kind other_spans others))
       by_form (inl s) =
           subst (λ l. A (unlabelled (node l kind spans parts)) (unlabelled (node other other_kind other_spans others))) (sym s.0)
-          (unlabel_by other kind other_kind spans other_spans parts others s.1 s.2 s.3 below)
+          (unlabel_by other kind other_kind spans other_spans parts others (subst (λ l. A (node l kind spans parts) (node other other_kind other_spans others)) s.0 h) s.3 below)
       by_form (inr s) =
           let leaf : unlabelled (node label kind spans parts) ≡ (node label kind spans parts) = subst (λ l. unlabelled (node l kind spans parts) ≡ node l kind spans parts) (sym s.0) refl in
           subst (λ t. A t (unlabelled (node other other_kind other_spans others))) (sym leaf) (subst (λ t. A (node label kind spans parts) t) (sym (value_unlabelled other other_kind other_spans others s.1)) h)

@@ -26,10 +26,10 @@ use Rattle.dm_meaning.proofs.RunLemmas.{OptionAgrees, renamed_objects}
 use Rattle.dm_meaning.proofs.StartLemmas as plain
 use Rattle.dm_meaning.proofs.StaticLemmas.{statics_memory_same}
 use Rattle.dm_meaning.proofs.LikenessLemmas.{unfolded_agree}
-use Rattle.dm_meaning.proofs.PassStatementLemmas.{likeness}
+use Rattle.dm_meaning.proofs.PassStatementLemmas.{limit, IsSmall, main_small, DefinitionFits, likeness, most, most_enough}
 use Rattle.dm_meaning.proofs.SpareStateLemmas.{unfolded_settled, spared_steps, settled_beginnings}
 use Rattle.dm_meaning.proofs.EntryLemmas.{with_entries, objects_in, AllSpare, kept, has_entered, spare_entered, has_left, spare_left}
-use Rattle.dm_meaning.proofs.PassStateLemmas.{Spare, flat, size, StateAgrees, Related, Met, same_main, frame_objects, frame_tasks, frame_memory, step_met}
+use Rattle.dm_meaning.proofs.PassStateLemmas.{Spare, flat, StateAgrees, Related, Met, same_main, frame_objects, frame_tasks, frame_memory, step_met}
 
 module _ (change : Called) (calling : IsCallingWithAll change) where
   -- ---- objects of static storage duration
@@ -95,14 +95,14 @@ module _ (change : Called) (calling : IsCallingWithAll change) where
 
   -- ---- beginnings
 
-  start_agrees : (names : ℕ → ℕ) (main other : Definition) (input : List ℕ) → DefinitionAgrees change main other → StateAgrees change [] (start names (new_of change) main input) (start names change.old other input)
+  start_agrees : (names : ℕ → ℕ) (main other : Definition) (input : List ℕ) → DefinitionFits change main other → StateAgrees change [] (start names (new_of change) main input) (start names change.old other input)
   start_agrees names main other input h =
       let count = same_count in
       let argv_block = record (new_block (layout change.old) argv_kind) { contents = all_zero (layout change.old) argv_kind } in
       let others : (ℕ → ℕ → ℕ) = λ n i. names (suc n + i) in
       record {
         standing = refl;
-        function = h.0;
+        function = h.0.0;
         objects =
             ap (λ n. (opened_frame (new_of change) (λ i. names (suc n + i)) main).objects) count
             ∙ frame_objects change calling (λ i. names (suc (length change.old.statics) + i)) main other h;
@@ -112,17 +112,18 @@ module _ (change : Called) (calling : IsCallingWithAll change) where
         world =
             ap (λ n. record { memory = opened_memory (new_of change) (λ i. names (suc n + i)) main (arguments_for (names n) main.parameters) ((names n, argv_block) ∷ statics_memory (new_of change) names (named_from names 0 (static_numbers change.statics) [])); input = input; output = [] }) count
             ∙ ap (λ m. record { memory = opened_memory (new_of change) (λ i. names (suc (length change.old.statics) + i)) main (arguments_for (names (length change.old.statics)) main.parameters) ((names (length change.old.statics), argv_block) ∷ m); input = input; output = [] }) (memory_agrees names)
-            ∙ ap (λ ps. record { memory = opened_memory (new_of change) (λ i. names (suc (length change.old.statics) + i)) main (arguments_for (names (length change.old.statics)) ps) ((names (length change.old.statics), argv_block) ∷ statics_memory change.old names (old_statics names)); input = input; output = [] }) h.1
+            ∙ ap (λ ps. record { memory = opened_memory (new_of change) (λ i. names (suc (length change.old.statics) + i)) main (arguments_for (names (length change.old.statics)) ps) ((names (length change.old.statics), argv_block) ∷ statics_memory change.old names (old_statics names)); input = input; output = [] }) h.0.1
             ∙ ap (λ vs. record { memory = opened_memory (new_of change) (λ i. names (suc (length change.old.statics) + i)) main vs ((names (length change.old.statics), argv_block) ∷ statics_memory change.old names (old_statics names)); input = input; output = [] }) (arguments_agree (names (length change.old.statics)) other.parameters)
             ∙ ap (λ m. record { memory = m; input = input; output = [] }) (frame_memory change calling (λ i. names (suc (length change.old.statics) + i)) main other (arguments_for (names (length change.old.statics)) other.parameters) ((names (length change.old.statics), argv_block) ∷ statics_memory change.old names (old_statics names)) h);
       }
 
   begins_agrees : (input : List ℕ) (state : State) → Begins (new_of change) input state → (other : State) × Begins change.old input other × StateAgrees change [] state other
   begins_agrees input state (names, fresh, main, is_main_here, e) =
-      let found = other_main (main_of (new_of change)) (main_of change.old) main (functions_main change.functions change.old.functions calling.functions) is_main_here in (
+      let found = other_main (main_of (new_of change)) (main_of change.old) main (functions_main change.functions change.old.functions calling.functions) is_main_here in
+      let small : IsSmall (limit change) (Some main) = subst (IsSmall (limit change)) is_main_here (main_small (new_of change) change.functions) in (
         start names change.old found.0 input,
         (names, fresh, found.0, found.1, refl),
-        subst (λ s. StateAgrees change [] s (start names change.old found.0 input)) (sym e) (start_agrees names main found.0 input found.2),
+        subst (λ s. StateAgrees change [] s (start names change.old found.0 input)) (sym e) (start_agrees names main found.0 input (found.2, small)),
       )
 
   -- ---- the objects of the parameters
@@ -179,9 +180,9 @@ module _ (change : Called) (calling : IsCallingWithAll change) where
   same_output w spare s t (inr (first, rest, is, h)) = ap (λ (world : _). world.output) (sym h.world)
 
   Outcome : ℕ → State → State → Type 0
-  Outcome w s' t = GoesWrong (machine_of change.old) t ⊎ Meets (machine_of (new_of change)) (machine_of change.old) Relation (size change + 4) w s' t
+  Outcome w s' t = GoesWrong (machine_of change.old) t ⊎ Meets (machine_of (new_of change)) (machine_of change.old) Relation (most change) w s' t
 
-  enough_risen : (n w : ℕ) → n + 4 + 1 ≤ w + (1 + (n + 4)) * 1
+  enough_risen : (n w : ℕ) → n + 1 ≤ w + (1 + n) * 1
   enough_risen n w = omega arith
 
   stays_met : (w v : ℕ) (s' t : State) → v + 1 ≤ w → Relation v s' t → Outcome w s' t
@@ -198,14 +199,14 @@ module _ (change : Called) (calling : IsCallingWithAll change) where
       by_step (inr spared) =
           inr (
             1,
-            size change + 4,
+            most change,
             spared.next,
             goes_once change.old t spared.next spared.step,
-            enough_risen (size change) w,
+            enough_risen (most change) w,
             record {
               more = spared.after;
               spare = spare;
-              related = subst (Related change (size change + 4) spare s') spared.is related;
+              related = subst (Related change (most change) spare s') spared.is related;
               settled = spared.settled;
               has = spared.grown.has;
               known = known_later change.old t spared.next spared.step known;
@@ -242,17 +243,17 @@ module _ (change : Called) (calling : IsCallingWithAll change) where
       (step_met change calling w h.spare s s' (with_memory t h.more) h.related t.world.memory h.spares
       (unfolded_settled t.world.memory t.frame.tasks h.settled.frame.1) h.known step)
 
-  begins_related : (input : List ℕ) (s : State) → Begins (new_of change) input s → (w : ℕ) × (t : State) × (w ≤ size change + 4) × Begins change.old input t × Relation w s t
+  begins_related : (input : List ℕ) (s : State) → Begins (new_of change) input s → (w : ℕ) × (t : State) × (w ≤ most change) × Begins change.old input t × Relation w s t
   begins_related input s b =
       let t = begins_agrees input s b in (
-        size change + 4,
+        most change,
         t.0,
         omega arith,
         t.1,
         record {
           more = t.0.world.memory;
           spare = [];
-          related = inl (omega arith, t.2);
+          related = inl (most_enough change _ _ t.2.tasks, t.2);
           settled = settled_beginnings change.old input t.0 t.1;
           has = λ n block e. e;
           known = begins_known change.old input t.0 t.1;
@@ -260,7 +261,7 @@ module _ (change : Called) (calling : IsCallingWithAll change) where
         },
       )
 
-  simulation : IsSimulation (machine_of (new_of change)) (machine_of change.old) Relates (size change + 4) (size change + 4)
+  simulation : IsSimulation (machine_of (new_of change)) (machine_of change.old) Relates (most change) (most change)
   unfolding Relates Outcome
   simulation = record {
     begins = begins_related;
@@ -272,4 +273,4 @@ module _ (change : Called) (calling : IsCallingWithAll change) where
 
 -- A program that calls the added function with arguments refines the program that has its expression in place, with the arguments in it.
 pub called_with_all_refines : (change : Called) → IsCallingWithAll change → Refines (machine_of (new_of change)) (machine_of change.old)
-called_with_all_refines change calling = simulated (machine_of (new_of change)) (machine_of change.old) (Relates change calling) (size change + 4) (size change + 4) (simulation change calling)
+called_with_all_refines change calling = simulated (machine_of (new_of change)) (machine_of change.old) (Relates change calling) (most change) (most change) (simulation change calling)

@@ -11,7 +11,7 @@ use Rattle.dm_tree.specs.Units.{Declaration}
 use Rattle.dm_meaning.specs.declared.cause.Cause.{Cause}
 use Rattle.dm_meaning.specs.declared.cause.Cause.TheVariants.{Conflict, Bounds, Life, Unset, OtherType}
 use Rattle.dm_meaning.specs.Among.{IsAmong}
-use Rattle.dm_meaning.specs.Values.{At, numbered, Value, unset, overlaps_any}
+use Rattle.dm_meaning.specs.Values.{At, numbered, Value, overlaps_any}
 use Rattle.dm_meaning.specs.Objects.{object_of}
 use Rattle.dm_meaning.specs.Memory.{Block, look_up, lives, reached_in, value_in, or_unset, contents_at}
 use Rattle.dm_meaning.specs.Primitives.{Answer, answers, stops, refuses, Prim}
@@ -22,7 +22,7 @@ use Rattle.dm_meaning.specs.Running.{Doing, evaluates, gives_truth, gives_value,
 use Rattle.dm_meaning.specs.Expressions.{Move, goes, calls, fails, exits, lifted, as_move, by_truth, on_operand, value_of, nth_run, both_chosen, either_chosen, function_in, function_named, answered, undefined_called, called, call_step, kind_of_run, form_step, node_step, own_or_inner, where_open, moves, moves_in}
 use Rattle.dm_meaning.specs.Replaced.{relabelled, Zipped, facts_of}
 use Rattle.dm_meaning.specs.Called.{Called, new_of, IsSame, AreSame}
-use Rattle.dm_meaning.specs.CalledWithAll.{given, times_named, Holds, Agrees, AllAgree, Passes, PassesAll, DefinitionAgrees, FunctionsAgree, IsCallingWithAll}
+use Rattle.dm_meaning.specs.CalledWithAll.{given, times_named, Holds, HoldsWhole, Agrees, AllAgree, Passes, PassesAll, DefinitionAgrees, FunctionsAgree, IsCallingWithAll}
 use Rattle.dm_meaning.specs.Extending.{AreAmong}
 use Rattle.dm_meaning.specs.Statements.{type_declared}
 use Rattle.dm_meaning.specs.Steps.{lacks_value}
@@ -33,9 +33,9 @@ use Rattle.dm_meaning.proofs.FewerLemmas.{SameDid, operate_fewer}
 use Rattle.dm_meaning.proofs.ConstantLemmas.{own_step}
 use Rattle.dm_meaning.proofs.RunLemmas.{redone, same_renamed, OptionAgrees}
 use Rattle.dm_meaning.proofs.GrowLemmas.{equal_is, differ_is}
-use Rattle.dm_meaning.proofs.YieldLemmas.{may_give, given_may, Yields, HoleYields, MoveYields, filled_yields, begun_yields, given_set, move_yields_on}
+use Rattle.dm_meaning.proofs.YieldLemmas.{may_give, given_may, doing_gives, Yields, PicksYield, HoleYields, MoveYields, filled_yields, begun_yields, given_set, move_yields_on}
 use Rattle.dm_meaning.proofs.MatchLemmas.{may_stand, open_parts_redone, function_in_redone, if_agrees, stands_inside, relabelled_gives, among_nothing, among_joined, stands_always, truth_stands, MoveAgrees, lifted_agrees, IsNamedRun, filled_twice, all_filled_twice, not_function, among_both, parameter_block, moving_holds}
-use Rattle.dm_meaning.proofs.StandLemmas.{label_in, IsStanding, Stands, StandBelow, run_list, begun_stands, IsPart, part_of, step_of, lock_of}
+use Rattle.dm_meaning.proofs.StandLemmas.{label_in, IsStanding, Stands, StandsWhole, StandBelow, run_list, begun_stands_whole, IsPart, part_of, step_of, lock_of}
 
 -- ---- parameters in the added function
 
@@ -149,7 +149,7 @@ pub record IsPassed (change : Called) (mode : Mode) (doing : Doing) (kind : CTyp
   pub is : doing ≡ evaluates call
   pub typed : kind ≡ kind_of change.body
   pub kinds : List CType
-  pub stands : Stands change (given change.added.parameters kinds) (given change.added.parameters (run_list inner)) change.body other
+  pub stands : StandsWhole change (given change.added.parameters kinds) (given change.added.parameters (run_list inner)) change.body other
   pub each : length (run_list inner) ≡ length change.added.parameters
   pub once : (d : ℕ) → IsAmong d change.added.parameters → times_named d change.body ≡ 1
 
@@ -159,7 +159,7 @@ pub record IsPassedHole (change : Called) (mode : Mode) (doing : Doing) (kind : 
   pub is : doing ≡ evaluates call
   pub typed : kind ≡ kind_of change.body
   pub kinds : List CType
-  pub stands : (run : Run) → Stands change (given change.added.parameters kinds) (given change.added.parameters (run_list (all_filled_in inner run))) change.body (filled_in other run)
+  pub stands : (run : Run) → StandsWhole change (given change.added.parameters kinds) (given change.added.parameters (run_list (all_filled_in inner run))) change.body (filled_in other run)
   pub each : (run : Run) → length (run_list (all_filled_in inner run)) ≡ length change.added.parameters
   pub once : (d : ℕ) → IsAmong d change.added.parameters → times_named d change.body ≡ 1
 
@@ -168,7 +168,8 @@ abbrev mutual
   pub RunAgrees : Called → Mode → Run → Run → Type 0
   RunAgrees change mode (done kind result locks) (done other_kind other_result other_locks) = (kind ≡ other_kind) × (result ≡ other_result) × AreAmong locks other_locks
   RunAgrees change mode (done kind result locks) (to_do doing other_kind place parts) = ⊥
-  RunAgrees change mode (to_do doing kind place parts) (done other_kind result locks) = ⊥
+  RunAgrees change mode (to_do doing kind place parts) (done other_kind result locks) =
+      (inner : Runs) × (passed : IsPassed change mode doing kind (done other_kind result locks) inner) × PassesRun change mode passed.kinds parts inner
   RunAgrees change mode (to_do doing kind place parts) (to_do other other_kind other_place others) =
       ((doing ≡ redone change.rename other) × (kind ≡ other_kind) × (may_stand change.old (is_inside mode) other ≡ true) × RunsAgree change mode parts others)
       ⊎ ((inner : Runs) × (passed : IsPassed change mode doing kind (to_do other other_kind other_place others) inner) × PassesRun change mode passed.kinds parts inner)
@@ -196,7 +197,8 @@ abbrev mutual
       ((doing ≡ redone change.rename other) × (kind ≡ other_kind) × (may_stand change.old (is_inside mode) other ≡ true) × HolesAgree change mode filler holes others)
       ⊎ ((inner : Holes) × (passed : IsPassedHole change mode doing kind (within other other_kind other_place others) inner) × PassesHole change mode filler passed.kinds holes inner)
   HoleAgrees change mode filler here (within other other_kind other_place others) = ⊥
-  HoleAgrees change mode filler (within doing kind place holes) here = ⊥
+  HoleAgrees change mode filler (within doing kind place holes) here =
+      (inner : Holes) × (passed : IsPassedHole change mode doing kind here inner) × PassesHole change mode filler passed.kinds holes inner
 
   pub HolesAgree : Called → Mode → CType → Holes → Holes → Type 0
   HolesAgree change mode filler (in_first hole rest) (in_first other others) = HoleAgrees change mode filler hole other × RunsAgree change mode rest others
@@ -209,38 +211,70 @@ abbrev mutual
   PassesHole change mode filler kinds (in_others named holes) inner = IsNamedRun change named × HolesYield kinds filler holes × HolesAgree change mode filler holes inner
 
 -- a tree that stands for the expression with arguments agrees with it, whatever its form
-run_passes : (change : Called) (mode : Mode) (doing : Doing) (kind : CType) (place : Place) (parts : Runs) (other : Run) (inner : Runs) → IsToDo other
+run_passes : (change : Called) (mode : Mode) (doing : Doing) (kind : CType) (place : Place) (parts : Runs) (other : Run) (inner : Runs)
     → (passed : IsPassed change mode doing kind other inner) → PassesRun change mode passed.kinds parts inner → RunAgrees change mode (to_do doing kind place parts) other
-run_passes change mode doing kind place parts (done other_kind result locks) inner e h k = absurd e
-run_passes change mode doing kind place parts (to_do other other_kind other_place others) inner e h k = inr (inner, h, k)
+run_passes change mode doing kind place parts (done other_kind result locks) inner h k = (inner, h, k)
+run_passes change mode doing kind place parts (to_do other other_kind other_place others) inner h k = inr (inner, h, k)
 
-IsWithin : Hole → Type 0
-IsWithin here = ⊥
-IsWithin (within doing kind place holes) = Unit {0}
-
-hole_passes : (change : Called) (mode : Mode) (filler : CType) (doing : Doing) (kind : CType) (place : Place) (holes : Holes) (other : Hole) (inner : Holes) → IsWithin other
+hole_passes : (change : Called) (mode : Mode) (filler : CType) (doing : Doing) (kind : CType) (place : Place) (holes : Holes) (other : Hole) (inner : Holes)
     → (passed : IsPassedHole change mode doing kind other inner) → PassesHole change mode filler passed.kinds holes inner → HoleAgrees change mode filler (within doing kind place holes) other
-unfolding IsWithin
-hole_passes change mode filler doing kind place holes here inner e h k = absurd e
-hole_passes change mode filler doing kind place holes (within other other_kind other_place others) inner e h k = inr (inner, h, k)
+hole_passes change mode filler doing kind place holes here inner h k = (inner, h, k)
+hole_passes change mode filler doing kind place holes (within other other_kind other_place others) inner h k = inr (inner, h, k)
 
--- what stands for the expression isn't evaluated, has its type, and names no function
-stands_to_do : (change : Called) (kind_at : ℕ → Option CType) (run_at : ℕ → Option Run) (tree : Tree) (other : Run) → Stands change kind_at run_at tree other → IsToDo other
-stands_to_do change kind_at run_at tree (done kind result locks) h = absurd h
-stands_to_do change kind_at run_at tree (to_do doing kind place parts) h = tt
-
-stands_kind : (change : Called) (kind_at : ℕ → Option CType) (run_at : ℕ → Option Run) (tree : Tree) (other : Run) → Stands change kind_at run_at tree other → kind_of tree ≡ kind_of_run other
-stands_kind change kind_at run_at tree (done kind result locks) h = absurd h
-stands_kind change kind_at run_at (node label kind spans parts) (to_do doing other_kind place others) h = h.1
+-- what stands for the expression has its type, and names no function
+stands_kind_below : (change : Called) (kind_at : ℕ → Option CType) (run_at : ℕ → Option Run) (tree : Tree) (other : Run) → Stands change kind_at run_at tree other → kind_of tree ≡ kind_of_run other
+stands_kind_below change kind_at run_at tree (done kind result locks) h = absurd h
+stands_kind_below change kind_at run_at (node label kind spans parts) (to_do doing other_kind place others) h = h.1
 
 doing_function : (rename : ℕ → ℕ) (label : Label) (doing : Doing) → evaluates label ≡ redone rename doing → may_give label ≡ true → function_in doing ≡ None
 doing_function rename label (evaluates other) e g = not_function rename other (sym (ap may_give (ap label_in e)) ∙ g)
 doing_function rename label gives_truth e g = refl
 doing_function rename label gives_value e g = refl
 
-stands_function : (change : Called) (kind_at : ℕ → Option CType) (run_at : ℕ → Option Run) (tree : Tree) (other : Run) → Stands change kind_at run_at tree other → may_give (label_of tree) ≡ true → function_named other ≡ None
-stands_function change kind_at run_at tree (done kind result locks) h g = absurd h
-stands_function change kind_at run_at (node label kind spans parts) (to_do doing other_kind place others) h g = doing_function change.rename label doing h.0 g
+stands_function_below : (change : Called) (kind_at : ℕ → Option CType) (run_at : ℕ → Option Run) (tree : Tree) (other : Run) → Stands change kind_at run_at tree other → may_give (label_of tree) ≡ true → function_named other ≡ None
+stands_function_below change kind_at run_at tree (done kind result locks) h g = absurd h
+stands_function_below change kind_at run_at (node label kind spans parts) (to_do doing other_kind place others) h g = doing_function change.rename label doing h.0 g
+
+-- what arguments come to: values of these types
+abbrev pub AreGiving : List CType → Runs → Type 0
+AreGiving [] no_runs = Unit {0}
+AreGiving (kind ∷ kinds) (more_runs first rest) = (kind ≡ kind_of_run first) × (function_named first ≡ None) × AreGiving kinds rest
+AreGiving kinds runs = ⊥
+
+given_giving : (ps : List ℕ) (kinds : List CType) (inner : Runs) → AreGiving kinds inner → (d : ℕ) (kind : CType) (run : Run) → given ps kinds d ≡ Some kind → given ps (run_list inner) d ≡ Some run
+    → (kind ≡ kind_of_run run) × (function_named run ≡ None)
+given_giving [] kinds inner h d kind run e f = absurd (none_is_some kind e)
+given_giving (p ∷ ps) [] inner h d kind run e f = absurd (none_is_some kind e)
+given_giving (p ∷ ps) (own ∷ kinds) no_runs h d kind run e f = absurd (none_is_some run f)
+given_giving (p ∷ ps) (own ∷ kinds) (more_runs first rest) h d kind run e f = by_case (p == d) e f (given_giving ps kinds rest h.2 d kind run)
+  where
+    by_case : (b : Bool) → (if b then Some own else given ps kinds d) ≡ Some kind → (if b then Some first else given ps (run_list rest) d) ≡ Some run
+        → (given ps kinds d ≡ Some kind → given ps (run_list rest) d ≡ Some run → (kind ≡ kind_of_run run) × (function_named run ≡ None)) → (kind ≡ kind_of_run run) × (function_named run ≡ None)
+    by_case true g k later =
+        (sym (some_is_some own kind g) ∙ h.0 ∙ ap kind_of_run (some_is_some first run k), sym (ap function_named (some_is_some first run k)) ∙ h.1)
+    by_case false g k later = later g k
+
+stands_kind : (change : Called) (kinds : List CType) (inner : Runs) (tree : Tree) (other : Run) → AreGiving kinds inner
+    → StandsWhole change (given change.added.parameters kinds) (given change.added.parameters (run_list inner)) tree other → kind_of tree ≡ kind_of_run other
+stands_kind change kinds inner tree other g (inl s) = ap kind_of s.is ∙ (given_giving change.added.parameters kinds inner g s.parameter s.kind other s.typed s.stands).0
+stands_kind change kinds inner tree other g (inr s) = stands_kind_below change _ _ tree other s
+
+stands_function : (change : Called) (kinds : List CType) (inner : Runs) (tree : Tree) (other : Run) → AreGiving kinds inner
+    → StandsWhole change (given change.added.parameters kinds) (given change.added.parameters (run_list inner)) tree other → may_give (label_of tree) ≡ true → function_named other ≡ None
+stands_function change kinds inner tree other g (inl s) e = (given_giving change.added.parameters kinds inner g s.parameter s.kind other s.typed s.stands).1
+stands_function change kinds inner tree other g (inr s) e = stands_function_below change _ _ tree other s e
+
+-- what comes to a value names no function
+nameless : (kind : CType) (doing : Doing) (parts : Runs) → (doing_gives doing ≡ true) ⊎ PicksYield kind doing parts → function_in doing ≡ None
+nameless kind (evaluates (function d)) parts (inl e) = absurd (true≢false (sym e))
+nameless kind (evaluates (function d)) parts (inr h) = absurd h
+nameless kind (evaluates label) parts h = refl
+nameless kind gives_truth parts h = refl
+nameless kind gives_value parts h = refl
+
+yields_nameless : (kind : CType) (run : Run) → Yields kind run → (kind ≡ kind_of_run run) × (function_named run ≡ None)
+yields_nameless kind (done own result locks) h = (sym h.0, refl)
+yields_nameless kind (to_do doing own place parts) h = (sym h.0, nameless kind doing parts h.1)
 
 -- ---- definitions
 
@@ -297,6 +331,10 @@ agreeing_kind change (node label kind spans parts) other (inr h) = h.1.typed
 holding_kind : (change : Called) (arguments : Trees) (tree other : Tree) → Holds change arguments tree other → kind_of tree ≡ kind_of other
 holding_kind change arguments (node label kind spans parts) other h = h.1
 
+whole_kind : (change : Called) (arguments : Trees) (tree other : Tree) → HoldsWhole change arguments tree other → kind_of tree ≡ kind_of other
+whole_kind change arguments tree other (inl r) = ap kind_of r.is
+whole_kind change arguments tree other (inr h) = holding_kind change arguments tree other h
+
 -- the arguments come to values
 begun_yield_all : (change : Called) (parts arguments : Trees) → PassesAll change parts arguments → AllYield (map kind_of (listed arguments)) (all_begun parts)
 begun_yield_all change no_trees no_trees h = tt
@@ -319,9 +357,9 @@ mutual
         record {
           elsewhere = refl;
           is = ap evaluates h.1.is;
-          typed = h.1.typed ∙ sym (holding_kind change h.0 change.body (node other other_kind other_spans others) h.1.holds);
+          typed = h.1.typed ∙ sym (whole_kind change h.0 change.body (node other other_kind other_spans others) h.1.holds);
           kinds = map kind_of (listed h.0);
-          stands = begun_stands change h.0 change.body (node other other_kind other_spans others) h.1.holds;
+          stands = begun_stands_whole change h.0 change.body (node other other_kind other_spans others) h.1.holds;
           each = begun_count h.0 ∙ h.1.each;
           once = h.1.once;
         },
@@ -383,7 +421,7 @@ parameter_reads change kind_at run_at entries stored tree other s =
     }
 
 mutual
-  pub begun_reads : (change : Called) (kind_at : ℕ → Option CType) (run_at : ℕ → Option Run) (entries : List Entry) → AreStored kind_at run_at entries → (tree : Tree) (other : Run) → Stands change kind_at run_at tree other
+  begun_reads : (change : Called) (kind_at : ℕ → Option CType) (run_at : ℕ → Option Run) (entries : List Entry) → AreStored kind_at run_at entries → (tree : Tree) (other : Run) → Stands change kind_at run_at tree other
       → RunAgrees change (inside entries) (begun tree) other
   begun_reads change kind_at run_at entries stored tree (done kind result locks) h = absurd h
   begun_reads change kind_at run_at entries stored (node label kind spans parts) (to_do doing other_kind place others) h =
@@ -403,9 +441,15 @@ mutual
   all_begun_read change kind_at run_at entries stored opens (more_trees first rest) (more_runs other others) (inr (o, inr s), k) =
       (inl (begun_reads change kind_at run_at entries stored first other s), all_begun_read change kind_at run_at entries stored (others_open opens) rest others k)
 
+-- the whole expression may be such a parameter
+pub begun_reads_whole : (change : Called) (kind_at : ℕ → Option CType) (run_at : ℕ → Option Run) (entries : List Entry) → AreStored kind_at run_at entries → (tree : Tree) (other : Run)
+    → StandsWhole change kind_at run_at tree other → PartAgrees change (inside entries) (begun tree) other
+begun_reads_whole change kind_at run_at entries stored tree other (inl s) = inr (parameter_reads change kind_at run_at entries stored tree other s)
+begun_reads_whole change kind_at run_at entries stored tree other (inr s) = inl (begun_reads change kind_at run_at entries stored tree other s)
+
 -- ---- what agreeing trees have in common
 
-reading_to_do : (change : Called) (mode : Mode) (run other : Run) → IsReading change mode run other → IsToDo run
+pub reading_to_do : (change : Called) (mode : Mode) (run other : Run) → IsReading change mode run other → IsToDo run
 reading_to_do change mode run other h = subst IsToDo (sym h.is) tt
 
 -- a result before others
@@ -438,7 +482,7 @@ passed_locks change calling mode doing kind other inner passed lock l =
     let there = lock_of inner lock l in
     let part = part_of change (given change.added.parameters passed.kinds) calling.distinct calling.own change.body passed.once other there.holes there.run
     (sym (ap (λ rs. length (run_list rs)) there.is) ∙ passed.each)
-    (subst (λ rs. Stands change (given change.added.parameters passed.kinds) (given change.added.parameters (run_list rs)) change.body other) there.is passed.stands) in
+    (subst (λ rs. StandsWhole change (given change.added.parameters passed.kinds) (given change.added.parameters (run_list rs)) change.body other) there.is passed.stands) in
     subst (λ run. IsAmong lock (locks_in run)) (sym part.is) (locks_lift part.hole there.run lock there.among)
 
 reading_locks : (change : Called) (mode : Mode) (run other : Run) → IsReading change mode run other → AreAmong (locks_in run) (locks_in other)
@@ -458,7 +502,8 @@ module _ (change : Called) (calling : IsCallingWithAll change) (mode : Mode) whe
     pub fewer_locks : (run other : Run) → RunAgrees change mode run other → AreAmong (locks_in run) (locks_in other)
     fewer_locks (done kind result locks) (done other_kind other_result other_locks) h = h.2
     fewer_locks (done kind result locks) (to_do doing other_kind place parts) h = absurd h
-    fewer_locks (to_do doing kind place parts) (done other_kind result locks) h = absurd h
+    fewer_locks (to_do doing kind place parts) (done other_kind result locks) h =
+        λ lock l. passed_locks change calling mode doing kind (done other_kind result locks) h.0 h.1 lock (fewer_passed h.1.kinds parts h.0 h.2 lock l)
     fewer_locks (to_do doing kind place parts) (to_do other other_kind other_place others) (inl h) = fewer_locks_all parts others h.3
     fewer_locks (to_do doing kind place parts) (to_do other other_kind other_place others) (inr h) =
         λ lock l. passed_locks change calling mode doing kind (to_do other other_kind other_place others) h.0 h.1 lock (fewer_passed h.1.kinds parts h.0 h.2 lock l)
@@ -475,18 +520,74 @@ module _ (change : Called) (calling : IsCallingWithAll change) (mode : Mode) whe
     fewer_passed kinds (more_runs named rest) inner h =
         among_both (locks_in named) (locks_in_all rest) (locks_in_all inner) (among_nothing (locks_in named) (locks_in_all inner) (ap locks_in h.0.is)) (fewer_locks_all rest inner h.2)
 
-pub same_kind : (change : Called) (mode : Mode) (run other : Run) → RunAgrees change mode run other → kind_of_run run ≡ kind_of_run other
-same_kind change mode (done kind result locks) (done other_kind other_result other_locks) h = h.0
-same_kind change mode (done kind result locks) (to_do doing other_kind place parts) h = absurd h
-same_kind change mode (to_do doing kind place parts) (done other_kind result locks) h = absurd h
-same_kind change mode (to_do doing kind place parts) (to_do other other_kind other_place others) (inl h) = h.1
-same_kind change mode (to_do doing kind place parts) (to_do other other_kind other_place others) (inr h) =
-    h.1.typed
-    ∙ stands_kind change (given change.added.parameters h.1.kinds) (given change.added.parameters (run_list h.0)) change.body (to_do other other_kind other_place others) h.1.stands
+pub part_fewer_locks : (change : Called) → IsCallingWithAll change → (mode : Mode) (run other : Run) → PartAgrees change mode run other → AreAmong (locks_in run) (locks_in other)
+part_fewer_locks change calling mode run other h = part_locks change calling mode run other h (fewer_locks change calling mode run other)
 
-part_kind : (change : Called) (mode : Mode) (run other : Run) → PartAgrees change mode run other → kind_of_run run ≡ kind_of_run other
-part_kind change mode run other (inl h) = same_kind change mode run other h
-part_kind change mode run other (inr h) = ap kind_of_run h.is ∙ sym (ap kind_of_run h.stands)
+-- two trees have one type, and name one function if any
+abbrev SameFacts : Called → Run → Run → Type 0
+SameFacts change run other = (kind_of_run run ≡ kind_of_run other) × (function_named run ≡ option_map change.rename (function_named other))
+
+abbrev AllSameFacts : Called → Runs → Runs → Type 0
+AllSameFacts change no_runs no_runs = Unit {0}
+AllSameFacts change (more_runs first rest) (more_runs other others) = SameFacts change first other × AllSameFacts change rest others
+AllSameFacts change parts others = ⊥
+
+reading_facts : (change : Called) (mode : Mode) (run other : Run) → IsReading change mode run other → SameFacts change run other
+reading_facts change mode run other h =
+    (ap kind_of_run h.is ∙ sym (ap kind_of_run h.stands), ap function_named h.is ∙ sym (ap (λ r. option_map change.rename (function_named r)) h.stands))
+
+part_facts : (change : Called) (mode : Mode) (run other : Run) → PartAgrees change mode run other → (RunAgrees change mode run other → SameFacts change run other) → SameFacts change run other
+part_facts change mode run other (inl h) later = later h
+part_facts change mode run other (inr h) later = reading_facts change mode run other h
+
+-- what arguments come to in the new program, they do in the old one
+all_giving : (change : Called) (kinds : List CType) (parts inner : Runs) → AllYield kinds parts → AllSameFacts change parts inner → AreGiving kinds inner
+all_giving change [] no_runs no_runs y h = tt
+all_giving change [] no_runs (more_runs other others) y h = absurd h
+all_giving change [] (more_runs first rest) inner y h = absurd y
+all_giving change (kind ∷ kinds) no_runs inner y h = absurd y
+all_giving change (kind ∷ kinds) (more_runs first rest) no_runs y h = absurd h
+all_giving change (kind ∷ kinds) (more_runs first rest) (more_runs other others) y h =
+    let gives_here = yields_nameless kind first y.0 in (
+      gives_here.0 ∙ h.0.0,
+      unnamed (function_named other) (sym gives_here.1 ∙ h.0.1),
+      all_giving change kinds rest others y.2 h.1,
+    )
+  where
+    unnamed : (named : Option ℕ) → None ≡ option_map change.rename named → named ≡ None
+    unnamed None e = refl
+    unnamed (Some d) e = absurd (none_is_some (change.rename d) e)
+
+passed_facts : (change : Called) (calling : IsCallingWithAll change) (mode : Mode) (doing : Doing) (kind : CType) (place : Place) (parts : Runs) (other : Run) (inner : Runs)
+    → (passed : IsPassed change mode doing kind other inner) → AreGiving passed.kinds inner → SameFacts change (to_do doing kind place parts) other
+passed_facts change calling mode doing kind place parts other inner passed giving = (
+  passed.typed ∙ stands_kind change passed.kinds inner change.body other giving passed.stands,
+  ap function_in passed.is ∙ sym (ap (option_map change.rename) (stands_function change passed.kinds inner change.body other giving passed.stands (given_may change.body calling.value))),
+)
+
+module _ (change : Called) (calling : IsCallingWithAll change) (mode : Mode) where
+  mutual
+    pub same_facts : (run other : Run) → RunAgrees change mode run other → SameFacts change run other
+    same_facts (done kind result locks) (done other_kind other_result other_locks) h = (h.0, refl)
+    same_facts (done kind result locks) (to_do doing other_kind place parts) h = absurd h
+    same_facts (to_do doing kind place parts) (done other_kind result locks) h =
+        passed_facts change calling mode doing kind place parts (done other_kind result locks) h.0 h.1 (passes_giving h.1.kinds parts h.0 h.2)
+    same_facts (to_do doing kind place parts) (to_do other other_kind other_place others) (inl h) = (h.1, ap function_in h.0 ∙ function_in_redone change.rename other)
+    same_facts (to_do doing kind place parts) (to_do other other_kind other_place others) (inr h) =
+        passed_facts change calling mode doing kind place parts (to_do other other_kind other_place others) h.0 h.1 (passes_giving h.1.kinds parts h.0 h.2)
+
+    all_same_facts : (parts others : Runs) → RunsAgree change mode parts others → AllSameFacts change parts others
+    all_same_facts no_runs no_runs h = tt
+    all_same_facts no_runs (more_runs other others) h = absurd h
+    all_same_facts (more_runs first rest) no_runs h = absurd h
+    all_same_facts (more_runs first rest) (more_runs other others) h = (part_facts change mode first other h.0 (same_facts first other), all_same_facts rest others h.1)
+
+    passes_giving : (kinds : List CType) (parts inner : Runs) → PassesRun change mode kinds parts inner → AreGiving kinds inner
+    passes_giving kinds no_runs inner h = absurd h
+    passes_giving kinds (more_runs named rest) inner h = all_giving change kinds rest inner h.1 (all_same_facts rest inner h.2)
+
+  same_part : (run other : Run) → PartAgrees change mode run other → SameFacts change run other
+  same_part run other h = part_facts change mode run other h (same_facts run other)
 
 nth_agrees : (change : Called) (mode : Mode) (n : ℕ) (parts others : Runs) → RunsAgree change mode parts others → PartAgrees change mode (nth_run n parts) (nth_run n others)
 nth_agrees change mode n no_runs no_runs h = inl (refl, refl, λ lock k. k)
@@ -495,27 +596,51 @@ nth_agrees change mode n (more_runs first rest) no_runs h = absurd h
 nth_agrees change mode zero (more_runs first rest) (more_runs other others) h = h.0
 nth_agrees change mode (suc n) (more_runs first rest) (more_runs other others) h = nth_agrees change mode n rest others h.1
 
-same_function : (change : Called) (calling : IsCallingWithAll change) (mode : Mode) (run other : Run) → RunAgrees change mode run other → function_named run ≡ option_map change.rename (function_named other)
-same_function change calling mode (done kind result locks) (done other_kind other_result other_locks) h = refl
-same_function change calling mode (done kind result locks) (to_do doing other_kind place parts) h = absurd h
-same_function change calling mode (to_do doing kind place parts) (done other_kind result locks) h = absurd h
-same_function change calling mode (to_do doing kind place parts) (to_do other other_kind other_place others) (inl h) = ap function_in h.0 ∙ function_in_redone change.rename other
-same_function change calling mode (to_do doing kind place parts) (to_do other other_kind other_place others) (inr h) =
-    ap function_in h.1.is
-    ∙ sym (ap (option_map change.rename)
-    (stands_function change (given change.added.parameters h.1.kinds) (given change.added.parameters (run_list h.0)) change.body (to_do other other_kind other_place others) h.1.stands (given_may change.body calling.value)))
+-- what arguments give values in the old program
+abbrev AllMayGive : Trees → Type 0
+AllMayGive no_trees = Unit {0}
+AllMayGive (more_trees first rest) = (may_give (label_of first) ≡ true) × AllMayGive rest
 
-part_function : (change : Called) (calling : IsCallingWithAll change) (mode : Mode) (run other : Run) → PartAgrees change mode run other → function_named run ≡ option_map change.rename (function_named other)
-part_function change calling mode run other (inl h) = same_function change calling mode run other h
-part_function change calling mode run other (inr h) = ap function_named h.is ∙ sym (ap (λ r. option_map change.rename (function_named r)) h.stands)
+given_gives : (ps : List ℕ) (trees : Trees) → AllMayGive trees → (d : ℕ) (tree : Tree) → given ps (listed trees) d ≡ Some tree → may_give (label_of tree) ≡ true
+given_gives [] trees h d tree e = absurd (none_is_some tree e)
+given_gives (p ∷ ps) no_trees h d tree e = absurd (none_is_some tree e)
+given_gives (p ∷ ps) (more_trees first rest) h d tree e = by_case (p == d) e (given_gives ps rest h.1 d tree)
+  where
+    by_case : (b : Bool) → (if b then Some first else given ps (listed rest) d) ≡ Some tree → (given ps (listed rest) d ≡ Some tree → may_give (label_of tree) ≡ true) → may_give (label_of tree) ≡ true
+    by_case true f later = sym (ap (λ t. may_give (label_of t)) (some_is_some first tree f)) ∙ h.0
+    by_case false f later = later f
 
 -- the expression gives a value in the old program too
-pub old_gives : (change : Called) → IsCallingWithAll change → (arguments : Trees) (other : Tree) → Holds change arguments change.body other → may_give (label_of other) ≡ true
+old_gives : (change : Called) → IsCallingWithAll change → (arguments : Trees) (other : Tree) → Holds change arguments change.body other → may_give (label_of other) ≡ true
 old_gives change calling arguments other h =
     sym (relabelled_gives change.rename (label_of other)) ∙ sym (ap may_give (label_same change.body other h)) ∙ given_may change.body calling.value
   where
     label_same : (tree other : Tree) → Holds change arguments tree other → label_of tree ≡ relabelled change.rename (label_of other)
     label_same (node label kind spans parts) other h = h.0
+
+whole_gives : (change : Called) → IsCallingWithAll change → (arguments : Trees) → AllMayGive arguments → (other : Tree) → HoldsWhole change arguments change.body other → may_give (label_of other) ≡ true
+whole_gives change calling arguments all other (inl r) = given_gives change.added.parameters arguments all r.parameter other r.stands
+whole_gives change calling arguments all other (inr h) = old_gives change calling arguments other h
+
+module _ (change : Called) (calling : IsCallingWithAll change) where
+  mutual
+    agreeing_gives : (tree other : Tree) → Agrees change tree other → may_give (label_of tree) ≡ true → may_give (label_of other) ≡ true
+    agreeing_gives (node label kind spans parts) other (inl h) e = sym (relabelled_gives change.rename (label_of other)) ∙ sym (ap may_give h.0) ∙ e
+    agreeing_gives (node label kind spans parts) other (inr h) e = whole_gives change calling h.0 (passes_give parts h.0 h.2) other h.1.holds
+
+    passes_give : (parts arguments : Trees) → Passes change parts arguments → AllMayGive arguments
+    passes_give no_trees arguments h = absurd h
+    passes_give (more_trees named rest) arguments h = all_pass_give rest arguments h.1
+
+    all_pass_give : (parts arguments : Trees) → PassesAll change parts arguments → AllMayGive arguments
+    all_pass_give no_trees no_trees h = tt
+    all_pass_give no_trees (more_trees other others) h = absurd h
+    all_pass_give (more_trees first rest) no_trees h = absurd h
+    all_pass_give (more_trees first rest) (more_trees other others) h = (agreeing_gives first other h.2 (given_may first h.0), all_pass_give rest others h.3)
+
+  -- what stands for a call gives a value in the old program too
+  pub called_gives : (parts arguments : Trees) → Passes change parts arguments → (other : Tree) → HoldsWhole change arguments change.body other → may_give (label_of other) ≡ true
+  called_gives parts arguments h other k = whole_gives change calling arguments (passes_give parts arguments h) other k
 
 -- ---- a value in place of the part that is left out
 
@@ -524,7 +649,18 @@ mutual
       → RunAgrees change mode (filled_in hole run) (filled_in other other_run)
   filled_agrees change mode filler here here run other_run h y k = k
   filled_agrees change mode filler here (within other other_kind other_place others) run other_run h y k = absurd h
-  filled_agrees change mode filler (within doing kind place holes) here run other_run h y k = absurd h
+  filled_agrees change mode filler (within doing kind place holes) here run other_run h y k =
+      run_passes change mode doing kind place (all_filled_in holes run) other_run (all_filled_in h.0 other_run)
+      (record {
+        elsewhere = h.1.elsewhere;
+        is = h.1.is;
+        typed = h.1.typed;
+        kinds = h.1.kinds;
+        stands = h.1.stands other_run;
+        each = h.1.each other_run;
+        once = h.1.once;
+      })
+      (filled_passes change mode filler h.1.kinds holes h.0 run other_run h.2 y k)
   filled_agrees change mode filler (within doing kind place holes) (within other other_kind other_place others) run other_run (inl h) y k =
       inl (h.0, h.1, h.2, all_filled_agree change mode filler holes others run other_run h.3 y k)
   filled_agrees change mode filler (within doing kind place holes) (within other other_kind other_place others) run other_run (inr h) y k =
@@ -612,7 +748,7 @@ pub record Entered (change : Called) (values : List Value) (kind : CType) (run :
   pub kinds : List CType
   pub inner : Runs
   pub typed : kind ≡ kind_of change.body
-  pub stands : Stands change (given change.added.parameters kinds) (given change.added.parameters (run_list inner)) change.body run
+  pub stands : StandsWhole change (given change.added.parameters kinds) (given change.added.parameters (run_list inner)) change.body run
   pub come : HaveCome kinds values inner
   pub each : length values ≡ length change.added.parameters
 
@@ -658,7 +794,7 @@ all_come mode change (kind ∷ kinds) (more_runs first rest) (more_runs other ot
 -- the expression with other arguments, or with a part of one left out
 abbrev Fills : Called → List CType → Runs → Run → Type 0
 Fills change kinds inner other =
-    Stands change (given change.added.parameters kinds) (given change.added.parameters (run_list inner)) change.body other × (length (run_list inner) ≡ length change.added.parameters)
+    StandsWhole change (given change.added.parameters kinds) (given change.added.parameters (run_list inner)) change.body other × (length (run_list inner) ≡ length change.added.parameters)
 
 abbrev FillsHole : Called → List CType → CType → Holes → Hole → Type 0
 FillsHole change kinds filler inner other = (run : Run) → Fills change kinds (all_filled_in inner run) (filled_in other run)
@@ -668,7 +804,7 @@ same_count (in_first hole rest) run after = refl
 same_count (in_others first holes) run after = ap suc (same_count holes run after)
 
 fills_step : (change : Called) (kinds : List CType) (holes : Holes) (run : Run) (hole : Hole)
-    → ((after : Run) → Stands change (given change.added.parameters kinds) (given change.added.parameters (run_list (all_filled_in holes after))) change.body (filled_in hole after))
+    → ((after : Run) → StandsWhole change (given change.added.parameters kinds) (given change.added.parameters (run_list (all_filled_in holes after))) change.body (filled_in hole after))
     → length (run_list (all_filled_in holes run)) ≡ length change.added.parameters
     → (step : Move Run Hole) → MoveAgrees (λ d. d) (Fills change kinds) (FillsHole change kinds) (lifted (all_filled_in holes) (holes_in holes) step) (lifted (filled_in hole) (hole_in hole) step)
 fills_step change kinds holes run hole again count (goes after t) = (refl, (again t, same_count holes run t ∙ count))
@@ -677,18 +813,13 @@ fills_step change kinds holes run hole again count (calls f arguments kind inner
   refl,
   refl,
   λ r. (
-    subst (λ rs. Stands change (given change.added.parameters kinds) (given change.added.parameters (run_list rs)) change.body (filled_in (hole_in hole inner) r)) (sym (all_filled_twice holes inner r))
-        (subst (Stands change (given change.added.parameters kinds) (given change.added.parameters (run_list (all_filled_in holes (filled_in inner r)))) change.body) (sym (filled_twice hole inner r)) (again (filled_in inner r))),
+    subst (λ rs. StandsWhole change (given change.added.parameters kinds) (given change.added.parameters (run_list rs)) change.body (filled_in (hole_in hole inner) r)) (sym (all_filled_twice holes inner r))
+        (subst (StandsWhole change (given change.added.parameters kinds) (given change.added.parameters (run_list (all_filled_in holes (filled_in inner r)))) change.body) (sym (filled_twice hole inner r)) (again (filled_in inner r))),
     ap (λ rs. length (run_list rs)) (all_filled_twice holes inner r) ∙ same_count holes run (filled_in inner r) ∙ count,
   ),
 )
 fills_step change kinds holes run hole again count (fails cause place) = tt
 fills_step change kinds holes run hole again count (exits status) = refl
-
-fills_within : (change : Called) (kinds : List CType) (filler : CType) (inner : Holes) (other : Hole) → FillsHole change kinds filler inner other → IsWithin other
-unfolding IsWithin
-fills_within change kinds filler inner here h = absurd ((h (done void (of_value unset) [])).0)
-fills_within change kinds filler inner (within doing kind place holes) h = tt
 
 -- A step of the new program beside its own locks and objects, and one of the old program beside at least these locks; in the added function
 -- the objects may be others, and its parameters' have the values of the arguments.
@@ -771,10 +902,10 @@ module _ (change : Called) (calling : IsCallingWithAll change) (mode : Mode) (ob
   form_agrees comma kind place at parts other_parts operands h stands = (refl, inl (refl, refl, stands_always change.old (is_inside mode), (nth_agrees change mode 1 parts other_parts h, tt)))
   form_agrees call kind place at parts other_parts operands h stands =
       subst (λ named. RunMoveAgrees change mode (call_step new_scene world kind place (map (λ a. value_of a.result) operands) named) (call_step old_scene world kind at (map (λ a. value_of a.result) operands) (function_named (nth_run 0 other_parts))))
-      (sym (part_function change calling mode (nth_run 0 parts) (nth_run 0 other_parts) (nth_agrees change mode 0 parts other_parts h)))
+      (sym (same_part change calling mode (nth_run 0 parts) (nth_run 0 other_parts) (nth_agrees change mode 0 parts other_parts h)).1)
       (call_agrees kind place at (map (λ a. value_of a.result) operands) (function_named (nth_run 0 other_parts)))
   form_agrees sizeof_tree kind place at parts other_parts operands h stands =
-      (refl, (refl, ap (λ type. of_value (typed kind (pos ((layout change.old).size type)))) (part_kind change mode (nth_run 0 parts) (nth_run 0 other_parts) (nth_agrees change mode 0 parts other_parts h)), λ lock k. k))
+      (refl, (refl, ap (λ type. of_value (typed kind (pos ((layout change.old).size type)))) (same_part change calling mode (nth_run 0 parts) (nth_run 0 other_parts) (nth_agrees change mode 0 parts other_parts h)).0, λ lock k. k))
   form_agrees label kind place at parts other_parts operands h stands =
       subst (λ did. RunMoveAgrees change mode (as_move kind place (locks_in_all parts) did) (as_move kind at (locks_in_all other_parts) (operate old_scene world locks label kind operands)))
       (sym (operate_same label kind operands stands))
@@ -993,14 +1124,13 @@ module _ (change : Called) (calling : IsCallingWithAll change) (mode : Mode) (ob
     run_in_call : (parts t : Runs) (u : Run) → AllYield passed.kinds parts → RunsAgree change mode parts t → Fills change passed.kinds t u → RunAgrees change mode (calling_run parts) u
     run_in_call parts t u y r f =
         run_passes change mode (evaluates call) kind place (more_runs (named_run named_kind named_place) parts) u t
-        (stands_to_do change (given change.added.parameters passed.kinds) (given change.added.parameters (run_list t)) change.body u f.0)
         (record { elsewhere = passed.elsewhere; is = refl; typed = passed.typed; kinds = passed.kinds; stands = f.0; each = f.1; once = passed.once })
         (record { kind = named_kind; place = named_place; is = refl }, y, r)
 
     hole_in_call : (filler : CType) (holes t : Holes) (u : Hole) → HolesYield passed.kinds filler holes → HolesAgree change mode filler holes t → FillsHole change passed.kinds filler t u
         → HoleAgrees change mode filler (calling_hole holes) u
     hole_in_call filler holes t u y r f =
-        hole_passes change mode filler (evaluates call) kind place (in_others (named_run named_kind named_place) holes) u t (fills_within change passed.kinds filler t u f)
+        hole_passes change mode filler (evaluates call) kind place (in_others (named_run named_kind named_place) holes) u t
         (record { elsewhere = passed.elsewhere; is = refl; typed = passed.typed; kinds = passed.kinds; stands = λ run. (f run).0; each = λ run. (f run).1; once = passed.once })
         (record { kind = named_kind; place = named_place; is = refl }, y, r)
 
@@ -1053,7 +1183,7 @@ module _ (change : Called) (calling : IsCallingWithAll change) (mode : Mode) (ob
     part_in : (holes : Holes) (run : Run) → inner ≡ all_filled_in holes run → IsPart change (given change.added.parameters passed.kinds) change.body other holes run
     part_in holes run e =
         part_of change (given change.added.parameters passed.kinds) calling.distinct calling.own change.body passed.once other holes run (sym (ap (λ rs. length (run_list rs)) e) ∙ passed.each)
-        (subst (λ rs. Stands change (given change.added.parameters passed.kinds) (given change.added.parameters (run_list rs)) change.body other) e passed.stands)
+        (subst (λ rs. StandsWhole change (given change.added.parameters passed.kinds) (given change.added.parameters (run_list rs)) change.body other) e passed.stands)
 
     argument_step : (m : Move Run Hole) (x : Move Runs Holes) → m ≡ lifted calling_run calling_hole x → MoveYieldsAll passed.kinds x → MatchedIn every inner x → Matched other m
     argument_step m x e yields (inl (n, n_among, agrees)) =
@@ -1215,7 +1345,8 @@ module _ (change : Called) (calling : IsCallingWithAll change) (mode : Mode) (ob
     pub run_matched : (run other : Run) → RunAgrees change mode run other → (m : Move Run Hole) → IsAmong m (moves new_scene world fewer run) → Matched other m
     run_matched (done kind result own) (done other_kind other_result other_own) h m k = absurd k
     run_matched (done kind result own) (to_do doing other_kind place parts) h m k = absurd h
-    run_matched (to_do doing kind place parts) (done other_kind result own) h m k = absurd h
+    run_matched (to_do doing kind place parts) (done other_kind result own) h m k =
+        call_matched doing kind place parts (done other_kind result own) h.0 h.1 (passes_matched h.1.kinds parts h.0 h.2) m k
     run_matched (to_do doing kind place parts) (to_do other other_kind at other_parts) (inl h) m k =
         node_matched doing other kind other_kind place at parts other_parts h.0 h.1 h.2 h.3 (λ opens. runs_matched parts other_parts h.3 opens) m k
     run_matched (to_do doing kind place parts) (to_do other other_kind at other_parts) (inr h) m k =
@@ -1239,3 +1370,7 @@ module _ (change : Called) (calling : IsCallingWithAll change) (mode : Mode) (ob
       agrees = h.2;
       steps = runs_matched rest inner h.2 every;
     }
+
+  -- A step of a tree that may be a parameter's read as a whole is met likewise.
+  pub whole_matched : (run other : Run) → PartAgrees change mode run other → (m : Move Run Hole) → IsAmong m (moves new_scene world fewer run) → PartMatched other m
+  whole_matched run other h m k = part_matched run other h (run_matched run other) m k

@@ -7,7 +7,7 @@ use Rattle.dm_token.specs.declared.place.Place.{Place}
 use Rattle.dm_int.specs.declared.Kind.TheVariants.{Int}
 use Rattle.dm_type.specs.CTypes.{CType}
 use Rattle.dm_tree.specs.declared.unit.Sort.{Sort}
-use Rattle.dm_tree.specs.Trees.{return, Spans, Tree, node, no_trees, more_trees, kind_of, trees_of, parts_of, Declarator, Initialiser}
+use Rattle.dm_tree.specs.Trees.{return, Spans, Tree, node, no_trees, more_trees, kind_of, parts_of, Declarator, Initialiser}
 use Rattle.dm_tree.specs.Units.{Declaration}
 use Rattle.dm_meaning.specs.declared.cause.Cause.{Cause}
 use Rattle.dm_meaning.specs.declared.cause.Cause.TheVariants.{NoValue, External}
@@ -27,21 +27,21 @@ use Rattle.dm_meaning.specs.Steps.{given_from, opened_frame, opened_memory, open
 use Rattle.dm_meaning.specs.Units.{machine_of}
 use Rattle.dm_meaning.specs.Replaced.{renamed_declarator, Zipped, facts_of}
 use Rattle.dm_meaning.specs.Called.{Called, new_of}
-use Rattle.dm_meaning.specs.CalledWithAll.{given, Agrees, DefinitionAgrees, IsCallingWithAll}
+use Rattle.dm_meaning.specs.CalledWithAll.{given, IsCallingWithAll}
 use Rattle.dm_meaning.specs.Extending.{AreAmong}
 use Rattle.dm_meaning.specs.MoreObjects.{TasksSettled, with_memory}
 use Rattle.dm_meaning.proofs.AmongLemmas.{among-map, among-map_from}
-use Rattle.dm_meaning.proofs.MoveLemmas.{IsToDo, move_lifts, locks_lift}
+use Rattle.dm_meaning.proofs.MoveLemmas.{move_lifts, locks_lift}
 use Rattle.dm_meaning.proofs.RunLemmas.{OptionAgrees, renamed_objects, object_renamed}
 use Rattle.dm_meaning.proofs.MatchLemmas.{parameter_block, unlocked, filled_twice}
 use Rattle.dm_meaning.proofs.ShrinkLemmas.{left_in, hole_left, Leaves as LeavesLess, filled_left, move_leaves}
 use Rattle.dm_meaning.proofs.StandLemmas.{run_list}
-use Rattle.dm_meaning.proofs.PassRunLemmas.{Entry, outside, inside, inside_not_outside, RunAgrees, HoleAgrees, RunMoveAgrees, definition_agrees, added_found, filled_agrees, fewer_locks, Entered, IsReady, begun_reads, run_matched}
+use Rattle.dm_meaning.proofs.PassRunLemmas.{Entry, outside, inside, inside_not_outside, RunAgrees, PartAgrees, HoleAgrees, RunMoveAgrees, definition_agrees, added_found, filled_agrees, reading_to_do, fewer_locks, part_fewer_locks, Entered, IsReady, begun_reads_whole, run_matched, whole_matched}
 use Rattle.dm_meaning.proofs.EntryLemmas.{entries_from, objects_in, with_entries, named_entries, given_entries, entry_from, AreNamed, entries_named, own_named, come_set, all_stored, AreFresh, entries_fresh, AllSpare, spare_entry}
 use Rattle.dm_meaning.proofs.YieldLemmas.{begun_yields, Yields, HoleYields, MoveYields, filled_yields, move_yields_on}
 use Rattle.dm_meaning.proofs.StatementLemmas.{map_append, numbers_renamed, named_from_renamed, length_renamed}
-use Rattle.dm_meaning.proofs.LikenessLemmas.{listed_agrees, same_type, declared_in_agrees, made_from_agrees, items_agree, statement_begins, declarator_begins, initialiser_begins, conclusion_agrees, unfolded_agree, ended_agrees, break_agrees, continue_agrees}
-use Rattle.dm_meaning.proofs.PassStatementLemmas.{UseAgrees, TasksAgree, TurnedAgrees, likeness, alike_agreeing}
+use Rattle.dm_meaning.proofs.LikenessLemmas.{same_type, declared_in_agrees, made_from_agrees, items_agree, statement_begins, declarator_begins, initialiser_begins, conclusion_agrees, unfolded_agree, ended_agrees, break_agrees, continue_agrees}
+use Rattle.dm_meaning.proofs.PassStatementLemmas.{limit, definition_small, TreeFits, RunFits, DefinitionFits, UseAgrees, TasksAgree, TurnedAgrees, option_fits, body_fits, likeness, share, tasks_left, most, most_enough, most_inside, share_called}
 use Rattle.dm_meaning.proofs.OptionLemmas.{none_is_some, some_is_some}
 use Rattle.dm_meaning.proofs.KnownLemmas.{AreKnown, same_static}
 
@@ -53,6 +53,7 @@ pub record CallerAgrees (change : Called) (caller other : Caller) : Type 0 where
   pub tasks : TasksAgree change caller.frame.tasks other.frame.tasks
   pub kind : caller.kind ≡ other.kind
   pub hole : HoleAgrees change outside caller.kind caller.hole other.hole
+  pub few : hole_left caller.hole ≤ limit change
   pub use_of : UseAgrees change caller.use_of other.use_of
 
 -- the parameters of the added function's frames, from the last
@@ -88,6 +89,7 @@ pub record NestedAgrees (change : Called) (entries : List Entry) (added caller o
   pub few : hole_left added.hole ≤ size change
   pub held : AreHeld change entries
   pub beyond : HoleAgrees change outside caller.kind caller.hole outer
+  pub few_beyond : hole_left caller.hole ≤ limit change
   pub yields : HoleYields caller.kind added.kind added.hole
   pub caller_function : caller.frame.function ≡ change.rename other.frame.function
   pub caller_objects : caller.frame.objects ≡ renamed_objects change.rename other.frame.objects
@@ -114,40 +116,36 @@ pub record StateAgrees (change : Called) (spare : Spare) (state other : State) :
 -- ---- states in which the added function runs
 
 -- its body begins
-pub record Beginning (change : Called) (w : ℕ) (entries : List Entry) (tasks : List Task) (kind : CType) (run : Run) : Type 0 where
+pub record Beginning (change : Called) (v : ℕ) (entries : List Entry) (tasks : List Task) (kind : CType) (run : Run) : Type 0 where
   pub return_kind : CType
   pub return_spans : Spans
   pub is : tasks ≡ begins (node return return_kind return_spans (more_trees change.body no_trees)) ∷ []
-  pub agrees : RunAgrees change (inside entries) (begun change.body) run
+  pub agrees : PartAgrees change (inside entries) (begun change.body) run
   pub typed : kind ≡ kind_of change.body
-  pub left : size change + 1 ≤ w
-
--- how many steps the new program may take before the old one has to move
-abbrev pub Left : Called → ℕ → Run → Type 0
-Left change w (done kind result locks) = size change + 4 ≤ w
-Left change w (to_do doing kind place parts) = left_in (to_do doing kind place parts) ≤ w
+  pub left : size change + 4 ≤ v
 
 -- its expression is under evaluation
-pub record Evaluating (change : Called) (w : ℕ) (entries : List Entry) (tasks : List Task) (kind : CType) (run : Run) : Type 0 where
+pub record Evaluating (change : Called) (v : ℕ) (entries : List Entry) (tasks : List Task) (kind : CType) (run : Run) : Type 0 where
   pub place : Place
   pub now : Run
   pub is : tasks ≡ evaluates place now returns ∷ []
-  pub agrees : RunAgrees change (inside entries) now run
+  pub agrees : PartAgrees change (inside entries) now run
   pub few : left_in now ≤ size change
-  pub left : Left change w now
+  pub left : left_in now + 2 ≤ v
   pub yields : Yields kind now
 
 -- it returns the value
-pub record Returning (change : Called) (w : ℕ) (tasks : List Task) (kind : CType) (run : Run) : Type 0 where
+pub record Returning (change : Called) (v : ℕ) (tasks : List Task) (kind : CType) (run : Run) : Type 0 where
   pub value : Value
   pub locks : List At
   pub is : tasks ≡ hands_back value ∷ []
   pub result : run ≡ done kind (of_value value) locks
   pub given_value : lacks_value kind value ≡ false
-  pub left : size change + 3 ≤ w
+  pub left : 1 ≤ v
 
+-- how far it is, and how many steps the new program may take in it before the old one has to move
 abbrev pub Phase : Called → ℕ → List Entry → List Task → CType → Run → Type 0
-Phase change w entries tasks kind run = Beginning change w entries tasks kind run ⊎ (Evaluating change w entries tasks kind run ⊎ Returning change w tasks kind run)
+Phase change v entries tasks kind run = Beginning change v entries tasks kind run ⊎ (Evaluating change v entries tasks kind run ⊎ Returning change v tasks kind run)
 
 -- the caller waits for the added function, and the old program has this tree in place of the call
 pub record Waits (change : Called) (spare : Spare) (caller : Caller) (behind : List Caller) (other : State) (run : Run) : Type 0 where
@@ -161,6 +159,7 @@ pub record Waits (change : Called) (spare : Spare) (caller : Caller) (behind : L
   pub objects : caller.frame.objects ≡ renamed_objects change.rename other.frame.objects
   pub tasks : TasksAgree change caller.frame.tasks rest
   pub holes : HoleAgrees change outside caller.kind caller.hole hole
+  pub few : hole_left caller.hole ≤ limit change
   pub uses : UseAgrees change caller.use_of use_of
   pub callers : CallersAgree change spare behind other.callers
 
@@ -172,7 +171,9 @@ pub record InsideAgrees (change : Called) (w : ℕ) (entries : List Entry) (spar
   pub callers : state.callers ≡ caller ∷ others
   pub run : Run
   pub waits : Waits change spare caller others other run
-  pub phase : Phase change w entries state.frame.tasks caller.kind run
+  pub left : ℕ
+  pub phase : Phase change left entries state.frame.tasks caller.kind run
+  pub enough : share change (hole_left caller.hole) + left ≤ w
   pub held : AreHeld change entries
   pub statics : state.statics ≡ renamed_objects change.rename other.statics
   pub world : state.world ≡ other.world
@@ -180,7 +181,7 @@ pub record InsideAgrees (change : Called) (w : ℕ) (entries : List Entry) (spar
 -- states correspond, where the new program may take w steps more before the old one has to move
 abbrev pub Related : Called → ℕ → Spare → State → State → Type 0
 Related change w spare state other =
-    ((size change + 2 ≤ w) × StateAgrees change spare state other)
+    ((share change (tasks_left (unfolded state.frame.tasks)) ≤ w) × StateAgrees change spare state other)
     ⊎ ((first : List Entry) × (rest : Spare) × (spare ≡ first ∷ rest) × InsideAgrees change w first rest state other)
 
 -- the objects of the parameters are made, or die
@@ -203,7 +204,7 @@ pub record Leaves (change : Called) (w : ℕ) (spare : Spare) (other state : Sta
 abbrev pub Met : Called → ℕ → Spare → State → State → Type 0
 Met change w spare other state =
     GoesWrong (machine_of change.old) other
-    ⊎ (((last : State) × Step change.old other last × Related change (size change + 4) spare state last)
+    ⊎ (((last : State) × Step change.old other last × Related change (most change) spare state last)
     ⊎ (((v : ℕ) × (v + 1 ≤ w) × Related change v spare state other) ⊎ (Enters change w spare other state ⊎ Leaves change w spare other state)))
 
 -- the state of the new program by that of the old one, but for what is left to do
@@ -234,18 +235,23 @@ goes_one program s t step = (t, step, refl)
 at_least : (n : ℕ) → n ≤ n
 at_least n = omega arith
 
-left_of_real : (change : Called) (run : Run) → left_in run ≤ size change → Left change (size change + 4) run
-left_of_real change (done kind result locks) h = omega arith
-left_of_real change (to_do doing kind place parts) h = omega (arith, h)
-
-begun_left : (change : Called) (tree : Tree) → Left change (left_in (begun tree)) (begun tree)
-begun_left change (node label kind spans parts) = at_least (left_in (begun (node label kind spans parts)))
-
 less_still : (a b c : ℕ) → a + 1 ≤ b → b ≤ c → a ≤ c
 less_still a b c h k = omega (arith, h, k)
 
-fits : (a b c : ℕ) → a + 1 ≤ b → b ≤ c → a + 1 ≤ c
-fits a b c h k = omega (arith, h, k)
+step_fits : (a b c : ℕ) → a + 1 ≤ b → b + 2 ≤ c → (a + 2) + 1 ≤ c
+step_fits a b c h k = omega (arith, h, k)
+
+some_left : (a b c w : ℕ) → b + 1 ≤ c → a + c ≤ w → (a + b) + 1 ≤ w
+some_left a b c w h k = omega (arith, h, k)
+
+none_left : (a c w : ℕ) → 1 ≤ c → a + c ≤ w → a + 1 ≤ w
+none_left a c w h k = omega (arith, h, k)
+
+begins_left : (a n w : ℕ) → a + (n + 5) ≤ w → (a + (n + 4)) + 1 ≤ w
+begins_left a n w h = omega (arith, h)
+
+real_left : (a n : ℕ) → a ≤ n → a + 2 ≤ n + 5
+real_left a n h = omega (arith, h)
 
 -- a step of an expression is one of its state
 pub step_of_expression : (program : Program) (names : ℕ → ℕ) (state : State) (rest : List Task) (place : Place) (use_of : Use) (run : Run) (m : Move Run Hole)
@@ -284,29 +290,35 @@ module _ (change : Called) (calling : IsCallingWithAll change) where
       ap (λ kind. given_from (new_of change) names (suc i) (map change.rename ds) values ((names i, record (new_block (layout change.old) kind) { contents = value }) ∷ memory)) (same_type change (likeness change calling) d)
       ∙ given_agrees names (suc i) ds values ((names i, record (new_block (layout change.old) (type_declared change.old d)) { contents = value }) ∷ memory)
 
-  pub frame_objects : (names : ℕ → ℕ) (definition other : Definition) → DefinitionAgrees change definition other
+  pub frame_objects : (names : ℕ → ℕ) (definition other : Definition) → DefinitionFits change definition other
       → (opened_frame (new_of change) names definition).objects ≡ renamed_objects change.rename (opened_frame change.old names other).objects
   frame_objects names definition other h =
-      ap (λ ps. named_from names (length ps) (declared_in (new_of change) (parts_of definition.body)) (named_from names 0 ps [])) h.1
+      ap (λ ps. named_from names (length ps) (declared_in (new_of change) (parts_of definition.body)) (named_from names 0 ps [])) h.0.1
       ∙ ap (λ n. named_from names n (declared_in (new_of change) (parts_of definition.body)) (named_from names 0 (map change.rename other.parameters) [])) (length_renamed change.rename other.parameters)
       ∙ ap (λ ds. named_from names (length other.parameters) ds (named_from names 0 (map change.rename other.parameters) []))
-      (declared_in_agrees change (likeness change calling) (parts_of definition.body) (parts_of other.body) (listed_agrees (Agrees change) (trees_of definition.body) (trees_of other.body) (alike_agreeing change (trees_of definition.body) (trees_of other.body) h.2)))
+      (declared_in_agrees change (likeness change calling) (parts_of definition.body) (parts_of other.body) (body_fits change definition other h))
       ∙ ap (named_from names (length other.parameters) (map change.rename (declared_in change.old (parts_of other.body)))) (named_from_renamed change.rename names 0 other.parameters [])
       ∙ named_from_renamed change.rename names (length other.parameters) (declared_in change.old (parts_of other.body)) (named_from names 0 other.parameters [])
 
-  pub frame_tasks : (names : ℕ → ℕ) (definition other : Definition) → DefinitionAgrees change definition other
+  pub frame_tasks : (names : ℕ → ℕ) (definition other : Definition) → DefinitionFits change definition other
       → TasksAgree change (opened_frame (new_of change) names definition).tasks (opened_frame change.old names other).tasks
-  frame_tasks names definition other h = items_agree change (likeness change calling) (parts_of definition.body) (parts_of other.body) (listed_agrees (Agrees change) (trees_of definition.body) (trees_of other.body) (alike_agreeing change (trees_of definition.body) (trees_of other.body) h.2))
+  frame_tasks names definition other h = items_agree change (likeness change calling) (parts_of definition.body) (parts_of other.body) (body_fits change definition other h)
 
-  pub frame_memory : (names : ℕ → ℕ) (definition other : Definition) (arguments : List Value) (memory : Memory) → DefinitionAgrees change definition other
+  pub frame_memory : (names : ℕ → ℕ) (definition other : Definition) (arguments : List Value) (memory : Memory) → DefinitionFits change definition other
       → opened_memory (new_of change) names definition arguments memory ≡ opened_memory change.old names other arguments memory
   frame_memory names definition other arguments memory h =
-      ap (λ ps. made_from (new_of change) names (length ps) (declared_in (new_of change) (parts_of definition.body)) (given_from (new_of change) names 0 ps arguments memory)) h.1
+      ap (λ ps. made_from (new_of change) names (length ps) (declared_in (new_of change) (parts_of definition.body)) (given_from (new_of change) names 0 ps arguments memory)) h.0.1
       ∙ ap (λ n. made_from (new_of change) names n (declared_in (new_of change) (parts_of definition.body)) (given_from (new_of change) names 0 (map change.rename other.parameters) arguments memory)) (length_renamed change.rename other.parameters)
       ∙ ap (λ ds. made_from (new_of change) names (length other.parameters) ds (given_from (new_of change) names 0 (map change.rename other.parameters) arguments memory))
-      (declared_in_agrees change (likeness change calling) (parts_of definition.body) (parts_of other.body) (listed_agrees (Agrees change) (trees_of definition.body) (trees_of other.body) (alike_agreeing change (trees_of definition.body) (trees_of other.body) h.2)))
+      (declared_in_agrees change (likeness change calling) (parts_of definition.body) (parts_of other.body) (body_fits change definition other h))
       ∙ ap (made_from (new_of change) names (length other.parameters) (map change.rename (declared_in change.old (parts_of other.body)))) (given_agrees names 0 other.parameters arguments memory)
       ∙ made_from_agrees change (likeness change calling) names (length other.parameters) (declared_in change.old (parts_of other.body)) (given_from change.old names 0 other.parameters arguments memory)
+
+  -- functions that agree, with bodies that aren't larger
+  definition_fits : (g : ℕ) → OptionAgrees (DefinitionFits change) (definition_of (new_of change) (change.rename g)) (definition_of change.old g)
+  definition_fits g =
+      option_fits change (definition_of (new_of change) (change.rename g)) (definition_of change.old g)
+      (definition_agrees change calling change.functions change.old.functions calling.functions g) (definition_small change.functions (change.rename g))
 
   -- ---- the frame of the added function
 
@@ -348,15 +360,15 @@ module _ (change : Called) (calling : IsCallingWithAll change) where
   -- ---- one step
 
   module _ (names : ℕ → ℕ) (other : State) (fresh : IsFresh names other.world.memory) (stands : other.standing ≡ going)
-      (spare : Spare) (tasks : List Task) (tasks_agree : TasksAgree change (unfolded tasks) (unfolded other.frame.tasks)) (callers : List Caller) (callers_agree : CallersAgree change spare callers other.callers) (w : ℕ) (enough : size change + 2 ≤ w) where
+      (spare : Spare) (tasks : List Task) (tasks_agree : TasksAgree change (unfolded tasks) (unfolded other.frame.tasks)) (callers : List Caller) (callers_agree : CallersAgree change spare callers other.callers) (w : ℕ) where
     abbrev now : State
     now = built change other tasks callers
 
-    one_step : (y : State) → IsAmong y (next names change.old other) → (state : State) → Related change (size change + 4) spare state y → Met change w spare other state
+    one_step : (y : State) → IsAmong y (next names change.old other) → (state : State) → Related change (most change) spare state y → Met change w spare other state
     one_step y among state related = inr (inl (y, (names, fresh, among), related))
 
-    enough_after : size change + 2 ≤ size change + 4
-    enough_after = omega arith
+    outside_step : (y : State) → IsAmong y (next names change.old other) → (state : State) → StateAgrees change spare state y → Met change w spare other state
+    outside_step y among state h = one_step y among state (inl (most_enough change (unfolded state.frame.tasks) (unfolded y.frame.tasks) h.tasks, h))
 
     wrong_step : (y : State) → IsAmong y (next names change.old other) → (cause : Cause) (place : Place) → y.standing ≡ undefined cause place → GoesWrong (machine_of change.old) other
     wrong_step y among cause place e = (1, y, goes_one change.old other y (names, fresh, among), cause, place, e)
@@ -368,18 +380,16 @@ module _ (change : Called) (calling : IsCallingWithAll change) where
 
     turned_met : (t u : Turned) → TurnedAgrees change t u → IsAmong (turned other u) (next names change.old other) → Met change w spare other (turned now t)
     turned_met (onward objects ts memory) (onward others us other_memory) h among =
-        one_step (turned other (onward others us other_memory)) among (turned now (onward objects ts memory)) (inl (
-          enough_after,
-          record {
-            standing = refl;
-            function = refl;
-            objects = h.0;
-            tasks = unfolded_agree change (likeness change calling) ts us h.1;
-            callers = callers_agree;
-            statics = refl;
-            world = ap (λ m. record { memory = m; input = other.world.input; output = other.world.output }) h.2;
-          },
-        ))
+        outside_step (turned other (onward others us other_memory)) among (turned now (onward objects ts memory))
+        (record {
+          standing = refl;
+          function = refl;
+          objects = h.0;
+          tasks = unfolded_agree change (likeness change calling) ts us h.1;
+          callers = callers_agree;
+          statics = refl;
+          world = ap (λ m. record { memory = m; input = other.world.input; output = other.world.output }) h.2;
+        })
     turned_met (onward objects ts memory) (refused cause place) h among = absurd h
     turned_met (refused cause place) (onward others us other_memory) h among = absurd h
     turned_met (refused cause place) (refused other_cause at) h among = inl (wrong_step (turned other (refused other_cause at)) among other_cause at refl)
@@ -394,11 +404,11 @@ module _ (change : Called) (calling : IsCallingWithAll change) where
 
     closed_bools : (place at : Place) (main empty : Bool) → IsAmong (closed_by other at main empty) (next names change.old other) → Met change w spare other (closed_by now place main empty)
     closed_bools place at true empty among =
-        one_step (closed_by other at true empty) among (closed_by now place true empty)
-        (inl (enough_after, record { standing = refl; function = refl; objects = refl; tasks = (refl, tt); callers = callers_agree; statics = refl; world = refl }))
+        outside_step (closed_by other at true empty) among (closed_by now place true empty)
+        (record { standing = refl; function = refl; objects = refl; tasks = (refl, tt); callers = callers_agree; statics = refl; world = refl })
     closed_bools place at false true among =
-        one_step (closed_by other at false true) among (closed_by now place false true)
-        (inl (enough_after, record { standing = refl; function = refl; objects = refl; tasks = (refl, tt); callers = callers_agree; statics = refl; world = refl }))
+        outside_step (closed_by other at false true) among (closed_by now place false true)
+        (record { standing = refl; function = refl; objects = refl; tasks = (refl, tt); callers = callers_agree; statics = refl; world = refl })
     closed_bools place at false false among = inl (wrong_step (closed_by other at false false) among NoValue at refl)
 
     closed_met : IsAmong (closed change.old other) (next names change.old other) → Met change w spare other (closed (new_of change) now)
@@ -414,19 +424,25 @@ module _ (change : Called) (calling : IsCallingWithAll change) where
     caller_resumed : (value : Value) (c : Caller) (cs : List Caller) (d : Caller) (ds : List Caller) → CallerAgrees change c d → CallersAgree change spare cs ds → lacks_value c.kind value ≡ false
         → IsAmong (gone_back other value d ds) (next names change.old other) → Met change w spare other (gone_back now value c cs)
     caller_resumed value c cs d ds h k given_value among =
-        one_step (gone_back other value d ds) among (gone_back now value c cs) (inl (
-          enough_after,
-          record {
-            standing = refl;
-            function = h.function;
-            objects = h.objects;
-            tasks =
-                ((filled_agrees change outside c.kind c.hole d.hole (done c.kind (of_value value) []) (done d.kind (of_value value) []) h.hole (refl, value, refl, given_value) (h.kind, refl, λ lock l. l), h.use_of), h.tasks);
-            callers = k;
-            statics = refl;
-            world = ap (λ ns. record { memory = killed ns other.world.memory; input = other.world.input; output = other.world.output }) (numbers_renamed change.rename other.frame.objects);
-          },
-        ))
+        outside_step (gone_back other value d ds) among (gone_back now value c cs)
+        (record {
+          standing = refl;
+          function = h.function;
+          objects = h.objects;
+          tasks = (
+            (
+              (
+                filled_agrees change outside c.kind c.hole d.hole (done c.kind (of_value value) []) (done d.kind (of_value value) []) h.hole (refl, value, refl, given_value) (h.kind, refl, λ lock l. l),
+                subst (λ n. n ≤ limit change) (sym (filled_left c.hole (done c.kind (of_value value) []) refl)) h.few,
+              ),
+              h.use_of,
+            ),
+            h.tasks,
+          );
+          callers = k;
+          statics = refl;
+          world = ap (λ ns. record { memory = killed ns other.world.memory; input = other.world.input; output = other.world.output }) (numbers_renamed change.rename other.frame.objects);
+        })
 
     -- a value that isn't given is undefined in both programs
     back_by : (value : Value) (c : Caller) (cs : List Caller) (d : Caller) (ds : List Caller) → c.kind ≡ d.kind
@@ -475,16 +491,19 @@ module _ (change : Called) (calling : IsCallingWithAll change) where
               objects = h.caller_objects;
               tasks = h.caller_tasks;
               holes = h.beyond;
+              few = h.few_beyond;
               uses = h.caller_use;
               callers = k;
             };
+            left = size change + 5;
+            enough = most_inside change (hole_left c'.hole) (size change + 5) h.few_beyond (at_least (size change + 5));
             phase = inr (inl (record {
               place = c.place;
               now = now_run;
               is = ap (λ u. evaluates c.place now_run u ∷ c.frame.tasks) h.use_of ∙ ap (λ ts. evaluates c.place now_run returns ∷ ts) h.tasks;
-              agrees = filled_agrees change (inside first) c.kind c.hole h.inner (done c.kind (of_value value) []) (done d.kind (of_value value) []) h.agrees (refl, value, refl, given_value) (h.kind, refl, λ lock l. l);
+              agrees = inl (filled_agrees change (inside first) c.kind c.hole h.inner (done c.kind (of_value value) []) (done d.kind (of_value value) []) h.agrees (refl, value, refl, given_value) (h.kind, refl, λ lock l. l));
               few = few;
-              left = left_of_real change now_run few;
+              left = real_left (left_in now_run) (size change) few;
               yields = filled_yields c'.kind c.kind c.hole (done c.kind (of_value value) []) h.yields (refl, value, refl, given_value);
             }));
             held = h.held;
@@ -500,8 +519,8 @@ module _ (change : Called) (calling : IsCallingWithAll change) where
 
     back_met : (value : Value) (cs ds : List Caller) → CallersAgree change spare cs ds → IsAmong (handed_back other value ds) (next names change.old other) → Met change w spare other (handed_back now value cs)
     back_met value [] [] h among =
-        one_step (handed_back other value []) among (handed_back now value [])
-        (inl (enough_after, record { standing = refl; function = refl; objects = refl; tasks = tasks_agree; callers = callers_agree; statics = refl; world = refl }))
+        outside_step (handed_back other value []) among (handed_back now value [])
+        (record { standing = refl; function = refl; objects = refl; tasks = tasks_agree; callers = callers_agree; statics = refl; world = refl })
     back_met value [] (d ∷ ds) h among = absurd h
     back_met value (c ∷ []) [] h among = absurd h
     back_met value (c ∷ c' ∷ cs) [] h among = absurd h
@@ -512,72 +531,70 @@ module _ (change : Called) (calling : IsCallingWithAll change) where
     -- ---- expressions
 
     module _ (rest other_rest : List Task) (rest_agrees : TasksAgree change rest other_rest) (place at : Place) (use_of other_use : Use) (use_agrees : UseAgrees change use_of other_use) where
-      opened_met : (kind : CType) (hole other_hole : Hole) (arguments : List Value) → HoleAgrees change outside kind hole other_hole → (definition other_definition : Option Definition)
-          → OptionAgrees (DefinitionAgrees change) definition other_definition
+      opened_met : (kind : CType) (hole other_hole : Hole) (arguments : List Value) → HoleAgrees change outside kind hole other_hole → hole_left hole ≤ limit change → (definition other_definition : Option Definition)
+          → OptionAgrees (DefinitionFits change) definition other_definition
           → IsAmong (opened change.old names other other_rest at other_use kind other_hole arguments other_definition) (next names change.old other)
           → Met change w spare other (opened (new_of change) names now rest place use_of kind hole arguments definition)
-      opened_met kind hole other_hole arguments h None None k among = inl (wrong_step _ among External at refl)
-      opened_met kind hole other_hole arguments h None (Some definition) k among = absurd k
-      opened_met kind hole other_hole arguments h (Some definition) None k among = absurd k
-      opened_met kind hole other_hole arguments h (Some definition) (Some other_definition) k among =
-          one_step (opened change.old names other other_rest at other_use kind other_hole arguments (Some other_definition)) among
-          (opened (new_of change) names now rest place use_of kind hole arguments (Some definition)) (inl (
-            enough_after,
-            record {
-              standing = refl;
-              function = k.0;
-              objects = frame_objects names definition other_definition k;
-              tasks = unfolded_agree change (likeness change calling) _ _ (frame_tasks names definition other_definition k);
-              callers = with_caller spare (record { frame = record { function = change.rename other.frame.function; objects = renamed_objects change.rename other.frame.objects; tasks = rest }; place = place; kind = kind; hole = hole; use_of = use_of }) (record { frame = record { function = other.frame.function; objects = other.frame.objects; tasks = other_rest }; place = at; kind = kind; hole = other_hole; use_of = other_use }) callers other.callers (record { function = refl; objects = refl; tasks = rest_agrees; kind = refl; hole = h; use_of = use_agrees }) callers_agree;
-              statics = refl;
-              world = ap (λ m. record { memory = m; input = other.world.input; output = other.world.output }) (frame_memory names definition other_definition arguments other.world.memory k);
-            },
-          ))
+      opened_met kind hole other_hole arguments h few None None k among = inl (wrong_step _ among External at refl)
+      opened_met kind hole other_hole arguments h few None (Some definition) k among = absurd k
+      opened_met kind hole other_hole arguments h few (Some definition) None k among = absurd k
+      opened_met kind hole other_hole arguments h few (Some definition) (Some other_definition) k among =
+          outside_step (opened change.old names other other_rest at other_use kind other_hole arguments (Some other_definition)) among (opened (new_of change) names now rest place use_of kind hole arguments (Some definition))
+          (record {
+            standing = refl;
+            function = k.0.0;
+            objects = frame_objects names definition other_definition k;
+            tasks = unfolded_agree change (likeness change calling) _ _ (frame_tasks names definition other_definition k);
+            callers = with_caller spare (record { frame = record { function = change.rename other.frame.function; objects = renamed_objects change.rename other.frame.objects; tasks = rest }; place = place; kind = kind; hole = hole; use_of = use_of }) (record { frame = record { function = other.frame.function; objects = other.frame.objects; tasks = other_rest }; place = at; kind = kind; hole = other_hole; use_of = other_use }) callers other.callers (record { function = refl; objects = refl; tasks = rest_agrees; kind = refl; hole = h; few = few; use_of = use_agrees }) callers_agree;
+            statics = refl;
+            world = ap (λ m. record { memory = m; input = other.world.input; output = other.world.output }) (frame_memory names definition other_definition arguments other.world.memory k);
+          })
 
-      called_met : (f g : ℕ) (arguments others : List Value) (kind other_kind : CType) (hole other_hole : Hole) → f ≡ change.rename g → arguments ≡ others → kind ≡ other_kind → HoleAgrees change outside kind hole other_hole
+      called_met : (f g : ℕ) (arguments others : List Value) (kind other_kind : CType) (hole other_hole : Hole) → f ≡ change.rename g → arguments ≡ others → kind ≡ other_kind → HoleAgrees change outside kind hole other_hole → hole_left hole ≤ limit change
           → IsAmong (opened change.old names other other_rest at other_use other_kind other_hole others (definition_of change.old g)) (next names change.old other)
           → Met change w spare other (opened (new_of change) names now rest place use_of kind hole arguments (definition_of (new_of change) f))
-      called_met f g arguments others kind other_kind hole other_hole e a k h among =
+      called_met f g arguments others kind other_kind hole other_hole e a k h few among =
           subst (λ d. Met change w spare other (opened (new_of change) names now rest place use_of kind hole arguments (definition_of (new_of change) d))) (sym e)
           (subst (λ l. Met change w spare other (opened (new_of change) names now rest place use_of kind hole l (definition_of (new_of change) (change.rename g)))) (sym a)
           (subst (λ t. Met change w spare other (opened (new_of change) names now rest place use_of t hole others (definition_of (new_of change) (change.rename g)))) (sym k)
-          (opened_met other_kind hole other_hole others (subst (λ t. HoleAgrees change outside t hole other_hole) k h) (definition_of (new_of change) (change.rename g)) (definition_of change.old g)
-          (definition_agrees change calling change.functions change.old.functions calling.functions g) among)))
+          (opened_met other_kind hole other_hole others (subst (λ t. HoleAgrees change outside t hole other_hole) k h) few (definition_of (new_of change) (change.rename g)) (definition_of change.old g)
+          (definition_fits g) among)))
 
-      moved_met : (m n : Move Run Hole) → RunMoveAgrees change outside m n → IsAmong (moved change.old names other other_rest at other_use n) (next names change.old other)
+      moved_met : (left : ℕ) → left ≤ limit change → (m n : Move Run Hole) → RunMoveAgrees change outside m n → LeavesLess left m → IsAmong (moved change.old names other other_rest at other_use n) (next names change.old other)
           → Met change w spare other (moved (new_of change) names now rest place use_of m)
-      moved_met m (fails other_cause there) h among = inl (wrong_step _ among other_cause there refl)
-      moved_met (goes world run) (goes other_world other_run) h among =
-          one_step (moved change.old names other other_rest at other_use (goes other_world other_run)) among (moved (new_of change) names now rest place use_of (goes world run))
-          (inl (enough_after, record { standing = refl; function = refl; objects = refl; tasks = ((h.1, use_agrees), rest_agrees); callers = callers_agree; statics = refl; world = h.0 }))
-      moved_met (goes world run) (calls f others kind hole) h among = absurd h
-      moved_met (goes world run) (exits status) h among = absurd h
-      moved_met (calls f arguments kind hole) (calls g others other_kind other_hole) h among = called_met f g arguments others kind other_kind hole other_hole h.0 h.1 h.2 h.3 among
-      moved_met (calls f arguments kind hole) (goes other_world other_run) h among = absurd h
-      moved_met (calls f arguments kind hole) (exits status) h among = absurd h
-      moved_met (fails cause at_place) (goes other_world other_run) h among = absurd h
-      moved_met (fails cause at_place) (calls g others other_kind other_hole) h among = absurd h
-      moved_met (fails cause at_place) (exits status) h among = absurd h
-      moved_met (exits status) (exits other_status) h among =
-          one_step (moved change.old names other other_rest at other_use (exits other_status)) among (moved (new_of change) names now rest place use_of (exits status))
-          (inl (enough_after, record { standing = ap exited h; function = refl; objects = refl; tasks = tasks_agree; callers = callers_agree; statics = refl; world = refl }))
-      moved_met (exits status) (goes other_world other_run) h among = absurd h
-      moved_met (exits status) (calls g others other_kind other_hole) h among = absurd h
+      moved_met left few m (fails other_cause there) h l among = inl (wrong_step _ among other_cause there refl)
+      moved_met left few (goes world run) (goes other_world other_run) h l among =
+          outside_step (moved change.old names other other_rest at other_use (goes other_world other_run)) among (moved (new_of change) names now rest place use_of (goes world run))
+          (record { standing = refl; function = refl; objects = refl; tasks = (((h.1, less_still (left_in run) left (limit change) l few), use_agrees), rest_agrees); callers = callers_agree; statics = refl; world = h.0 })
+      moved_met left few (goes world run) (calls f others kind hole) h l among = absurd h
+      moved_met left few (goes world run) (exits status) h l among = absurd h
+      moved_met left few (calls f arguments kind hole) (calls g others other_kind other_hole) h l among = called_met f g arguments others kind other_kind hole other_hole h.0 h.1 h.2 h.3 (less_still (hole_left hole) left (limit change) l few) among
+      moved_met left few (calls f arguments kind hole) (goes other_world other_run) h l among = absurd h
+      moved_met left few (calls f arguments kind hole) (exits status) h l among = absurd h
+      moved_met left few (fails cause at_place) (goes other_world other_run) h l among = absurd h
+      moved_met left few (fails cause at_place) (calls g others other_kind other_hole) h l among = absurd h
+      moved_met left few (fails cause at_place) (exits status) h l among = absurd h
+      moved_met left few (exits status) (exits other_status) h l among =
+          outside_step (moved change.old names other other_rest at other_use (exits other_status)) among (moved (new_of change) names now rest place use_of (exits status))
+          (record { standing = ap exited h; function = refl; objects = refl; tasks = tasks_agree; callers = callers_agree; statics = refl; world = refl })
+      moved_met left few (exits status) (goes other_world other_run) h l among = absurd h
+      moved_met left few (exits status) (calls g others other_kind other_hole) h l among = absurd h
 
       -- the added function is called: the old program stays where it is
-      added_met : (values : List Value) (kind : CType) (run : Run) (hole other_hole : Hole) → HoleAgrees change outside kind hole other_hole → IsOpen other_hole → Entered change values kind run
+      added_met : (values : List Value) (kind : CType) (run : Run) (hole other_hole : Hole) → HoleAgrees change outside kind hole other_hole → (left : ℕ) → left ≤ limit change → share change left ≤ w → hole_left hole + 1 ≤ left
+          → IsOpen other_hole → Entered change values kind run
           → unfolded other.frame.tasks ≡ evaluates at (filled_in other_hole run) other_use ∷ other_rest
           → (definition : Option Definition) → definition ≡ Some change.added
           → Met change w spare other (opened (new_of change) names now rest place use_of kind hole values definition)
-      added_met values kind run hole other_hole h is_open entered e None found = absurd (none_is_some _ found)
-      added_met values kind run hole other_hole h is_open entered e (Some definition) found =
+      added_met values kind run hole other_hole h left few enough l is_open entered e None found = absurd (none_is_some _ found)
+      added_met values kind run hole other_hole h left few enough l is_open entered e (Some definition) found =
           let entries = entries_from names 0 change.added.parameters values [] in
           subst (λ d. Met change w spare other (opened (new_of change) names now rest place use_of kind hole values (Some d))) (sym (some_is_some definition change.added found))
           (inr (inr (inr (inl (record {
             entries = entries;
             fresh = entries_fresh names other.world.memory fresh 0 change.added.parameters values [] (λ k later. tt) tt;
-            left = size change + 1;
-            less = omega (arith, enough);
+            left = share change (hole_left hole) + (size change + 4);
+            less = begins_left (share change (hole_left hole)) (size change) w (share_called change (hole_left hole) left w l enough);
             related = inr (
               entries,
               spare,
@@ -589,15 +606,17 @@ module _ (change : Called) (calling : IsCallingWithAll change) where
                 others = callers;
                 callers = refl;
                 run = run;
-                waits = record { place = at; hole = other_hole; use_of = other_use; rest = other_rest; evaluating = e; opened = is_open; function = refl; objects = refl; tasks = rest_agrees; holes = h; uses = use_agrees; callers = callers_agree };
+                waits = record { place = at; hole = other_hole; use_of = other_use; rest = other_rest; evaluating = e; opened = is_open; function = refl; objects = refl; tasks = rest_agrees; holes = h; few = less_still (hole_left hole) left (limit change) l few; uses = use_agrees; callers = callers_agree };
+                left = size change + 4;
+                enough = at_least (share change (hole_left hole) + (size change + 4));
                 phase = inl (record {
                   return_kind = calling.return_kind;
                   return_spans = calling.return_spans;
                   is = added_tasks;
-                  agrees = begun_reads change (given change.added.parameters entered.kinds) (given change.added.parameters (run_list entered.inner)) entries
+                  agrees = begun_reads_whole change (given change.added.parameters entered.kinds) (given change.added.parameters (run_list entered.inner)) entries
                       (all_stored names change.added.parameters entered.kinds values entered.inner entered.come) change.body run entered.stands;
                   typed = entered.typed;
-                  left = omega arith;
+                  left = at_least (size change + 4);
                 });
                 held = added_held names values (come_set entered.kinds values entered.inner entered.come);
                 statics = refl;
@@ -606,24 +625,23 @@ module _ (change : Called) (calling : IsCallingWithAll change) where
             );
           })))))
 
-      expression_met : (run other_run : Run) → RunAgrees change outside run other_run → unfolded other.frame.tasks ≡ evaluates at other_run other_use ∷ other_rest
+      expression_met : (run other_run : Run) → RunFits change run other_run → share change (left_in run) ≤ w → unfolded other.frame.tasks ≡ evaluates at other_run other_use ∷ other_rest
           → (state : State) → IsAmong state (expression_steps (new_of change) names now rest place use_of run) → Met change w spare other state
-      expression_met (done kind result locks) (done other_kind other_result other_locks) h e state (inl k) =
+      expression_met (done kind result locks) (done other_kind other_result other_locks) (h, few) enough e state (inl k) =
           subst (Met change w spare other) (sym k)
           (subst (λ r. Met change w spare other (turned now (concluded (new_of change) now.frame.objects rest other.world.memory place use_of r))) (sym h.1)
           (turned_met (concluded (new_of change) now.frame.objects rest other.world.memory place use_of other_result) (concluded change.old other.frame.objects other_rest other.world.memory at other_use other_result)
           (conclusion_agrees change (likeness change calling) other.frame.objects rest other_rest other.world.memory rest_agrees place at use_of other_use use_agrees other_result)
           (old_among _ e _ (inl refl))))
-      expression_met (done kind result locks) (done other_kind other_result other_locks) h e state (inr k) = absurd k
-      expression_met (done kind result locks) (to_do doing other_kind spot parts) h e state k = absurd h
-      expression_met (to_do doing kind spot parts) (done other_kind result locks) h e state k = absurd h
-      expression_met (to_do doing kind spot parts) (to_do other_doing other_kind there others) h e state k =
+      expression_met (done kind result locks) (done other_kind other_result other_locks) (h, few) enough e state (inr k) = absurd k
+      expression_met (done kind result locks) (to_do doing other_kind spot parts) (h, few) enough e state k = absurd h
+      expression_met (to_do doing kind spot parts) other_run (h, few) enough e state k =
           let run = to_do doing kind spot parts in
-          let other_run = to_do other_doing other_kind there others in
           let from = among-map_from (moved (new_of change) names now rest place use_of) state _ k in
           let objects = renamed_objects change.rename other.statics ++ renamed_objects change.rename other.frame.objects in
+          let new_scene : Scene = record { program = new_of change; objects = objects } in
           subst (Met change w spare other) (sym from.2)
-          (by_match from.0
+          (by_match from.0 (move_leaves new_scene other.world (locks_in run) run from.0 from.1)
           (run_matched change calling outside objects (other.statics ++ other.frame.objects) (λ d stands'. same_objects d) other.world (locks_in run) (locks_in other_run) (fewer_locks change calling outside run other_run h) (λ entry l. absurd l) run other_run h from.0 from.1))
         where
           same_objects : (d : ℕ) → object_named (renamed_objects change.rename other.statics ++ renamed_objects change.rename other.frame.objects) (change.rename d) ≡ object_named (other.statics ++ other.frame.objects) d
@@ -631,20 +649,21 @@ module _ (change : Called) (calling : IsCallingWithAll change) where
               ap (λ os. object_named os (change.rename d)) (sym (map_append (λ (entry : ℕ × ℕ). (change.rename entry.0, entry.1)) other.statics other.frame.objects))
               ∙ object_renamed change.rename calling.injective (other.statics ++ other.frame.objects) d
 
-          by_match : (m : Move Run Hole)
-              → ((n : Move Run Hole) × IsAmong n (moves (scene_of change.old other) other.world (locks_in (to_do other_doing other_kind there others)) (to_do other_doing other_kind there others)) × RunMoveAgrees change outside m n)
-              ⊎ (((next_run : Run) × (false ≡ true) × (m ≡ goes other.world next_run) × RunAgrees change outside next_run (to_do other_doing other_kind there others))
+          by_match : (m : Move Run Hole) → LeavesLess (left_in (to_do doing kind spot parts)) m
+              → ((n : Move Run Hole) × IsAmong n (moves (scene_of change.old other) other.world (locks_in other_run) other_run) × RunMoveAgrees change outside m n)
+              ⊎ (((next_run : Run) × (false ≡ true) × (m ≡ goes other.world next_run) × RunAgrees change outside next_run other_run)
               ⊎ ((outside ≡ outside)
               × ((values : List Value) × (kind : CType) × (run : Run) × (hole other_hole : Hole) × (m ≡ calls change.added.function values kind hole) × HoleAgrees change outside kind hole other_hole × IsOpen other_hole
-              × (to_do other_doing other_kind there others ≡ filled_in other_hole run) × Entered change values kind run)))
+              × (other_run ≡ filled_in other_hole run) × Entered change values kind run)))
               → Met change w spare other (moved (new_of change) names now rest place use_of m)
-          by_match m (inl (n, among, agrees)) =
-              moved_met m n agrees
-              (old_among _ e _ (among-map (moved change.old names other other_rest at other_use) n _ among))
-          by_match m (inr (inl (next_run, impossible, is, agrees))) = absurd (true≢false (sym impossible))
-          by_match m (inr (inr (elsewhere, (values, own, run, hole, other_hole, is, agrees, is_open, in_place, entered)))) =
+          by_match m l (inl (n, among, agrees)) =
+              moved_met (left_in (to_do doing kind spot parts)) few m n agrees l
+              (old_among _ e _ (step_of_expression change.old names other other_rest at other_use other_run n among))
+          by_match m l (inr (inl (next_run, impossible, is, agrees))) = absurd (true≢false (sym impossible))
+          by_match m l (inr (inr (elsewhere, (values, own, run, hole, other_hole, is, agrees, is_open, in_place, entered)))) =
               subst (λ x. Met change w spare other (moved (new_of change) names now rest place use_of x)) (sym is)
-              (added_met values own run hole other_hole agrees is_open entered (e ∙ ap (λ r. evaluates at r other_use ∷ other_rest) in_place)
+              (added_met values own run hole other_hole agrees (left_in (to_do doing kind spot parts)) few enough (subst (LeavesLess (left_in (to_do doing kind spot parts))) is l) is_open entered
+              (e ∙ ap (λ r. evaluates at r other_use ∷ other_rest) in_place)
               (definition_of (new_of change) change.added.function) (added_found change calling change.functions change.old.functions calling.functions))
 
     -- ---- all tasks
@@ -655,7 +674,7 @@ module _ (change : Called) (calling : IsCallingWithAll change) where
     single_met us e t u h among state (inl k) = subst (Met change w spare other) (sym k) (turned_met t u h (old_among us e _ among))
     single_met us e t u h among state (inr k) = absurd k
 
-    declares_met : (declarator other_declarator : Declarator) (trees others : List Tree) (ts us : List Task) → declarator ≡ renamed_declarator change.rename other_declarator → Zipped (Agrees change) trees others → TasksAgree change ts us
+    declares_met : (declarator other_declarator : Declarator) (trees others : List Tree) (ts us : List Task) → declarator ≡ renamed_declarator change.rename other_declarator → Zipped (TreeFits change) trees others → TasksAgree change ts us
         → unfolded other.frame.tasks ≡ declares other_declarator others ∷ us → (state : State) → IsAmong state (task_steps (new_of change) names now (declares declarator trees ∷ ts)) → Met change w spare other state
     declares_met declarator other_declarator trees others ts us d h r e state k =
         single_met (declares other_declarator others ∷ us) e (begin_declarator (new_of change) now.frame.objects ts other.world.memory (renamed_declarator change.rename other_declarator) trees)
@@ -663,51 +682,52 @@ module _ (change : Called) (calling : IsCallingWithAll change) where
         (declarator_begins change (likeness change calling) other.frame.objects ts us other.world.memory r other_declarator trees others h) (inl refl) state
         (subst (λ x. IsAmong state (task_steps (new_of change) names now (declares x trees ∷ ts))) d k)
 
-    initials_met : (at : At) (kind : CType) (initialiser : Initialiser) (trees others : List Tree) (ts us : List Task) → Zipped (Agrees change) trees others → TasksAgree change ts us
+    initials_met : (at : At) (kind : CType) (initialiser : Initialiser) (trees others : List Tree) (ts us : List Task) → Zipped (TreeFits change) trees others → TasksAgree change ts us
         → unfolded other.frame.tasks ≡ initials at kind initialiser others ∷ us → (state : State) → IsAmong state (task_steps (new_of change) names now (initials at kind initialiser trees ∷ ts)) → Met change w spare other state
     initials_met at kind initialiser trees others ts us h r e state k =
         single_met (initials at kind initialiser others ∷ us) e (begin_initialiser (new_of change) now.frame.objects ts other.world.memory at kind initialiser trees)
         (begin_initialiser change.old other.frame.objects us other.world.memory at kind initialiser others)
         (initialiser_begins change (likeness change calling) other.frame.objects ts us other.world.memory r at kind initialiser trees others h) (inl refl) state k
 
-    task_met : (t u : Task) (ts us : List Task) → TasksAgree change (t ∷ ts) (u ∷ us) → unfolded other.frame.tasks ≡ u ∷ us → (state : State) → IsAmong state (task_steps (new_of change) names now (t ∷ ts)) → Met change w spare other state
-    task_met (begins tree) (begins other_tree) ts us h e state k =
+    task_met : (t u : Task) (ts us : List Task) → TasksAgree change (t ∷ ts) (u ∷ us) → share change (tasks_left (t ∷ ts)) ≤ w → unfolded other.frame.tasks ≡ u ∷ us → (state : State) → IsAmong state (task_steps (new_of change) names now (t ∷ ts)) → Met change w spare other state
+    task_met (begins tree) (begins other_tree) ts us h enough e state k =
         single_met (begins other_tree ∷ us) e (begin_statement (new_of change) names now.frame.objects ts other.world.memory tree)
         (begin_statement change.old names other.frame.objects us other.world.memory other_tree)
         (statement_begins change (likeness change calling) names other.frame.objects ts us other.world.memory h.1 tree other_tree h.0) (inl refl) state k
-    task_met (declares declarator trees) (declares other_declarator others) ts us h e state k = declares_met declarator other_declarator trees others ts us h.0.0 h.0.1 h.1 e state k
-    task_met (initials at kind initialiser trees) (initials other_at other_kind other_initialiser others) ts us h e state k =
+    task_met (declares declarator trees) (declares other_declarator others) ts us h enough e state k = declares_met declarator other_declarator trees others ts us h.0.0 h.0.1 h.1 e state k
+    task_met (initials at kind initialiser trees) (initials other_at other_kind other_initialiser others) ts us h enough e state k =
         initials_met other_at other_kind other_initialiser trees others ts us h.0.3 h.1 e state
         (subst (λ x. IsAmong state (task_steps (new_of change) names now (initials other_at other_kind x trees ∷ ts))) h.0.2
         (subst (λ x. IsAmong state (task_steps (new_of change) names now (initials other_at x initialiser trees ∷ ts))) h.0.1
         (subst (λ x. IsAmong state (task_steps (new_of change) names now (initials x kind initialiser trees ∷ ts))) h.0.0 k)))
-    task_met (evaluates place run use_of) (evaluates at other_run other_use) ts us h e state k = expression_met ts us h.1 place at use_of other_use h.0.1 run other_run h.0.0 e state k
-    task_met (again objects loop) (again others other_loop) ts us h e state k = absurd k
-    task_met (tests objects loop) (tests others other_loop) ts us h e state k = absurd k
-    task_met (ends saved) (ends others) ts us h e state k =
+    task_met (evaluates place run use_of) (evaluates at other_run other_use) ts us h enough e state k = expression_met ts us h.1 place at use_of other_use h.0.1 run other_run h.0.0 enough e state k
+    task_met (again objects loop) (again others other_loop) ts us h enough e state k = absurd k
+    task_met (tests objects loop) (tests others other_loop) ts us h enough e state k = absurd k
+    task_met (ends saved) (ends others) ts us h enough e state k =
         single_met (ends others ∷ us) e (ended saved now.frame.objects ts other.world.memory) (ended others other.frame.objects us other.world.memory) (ended_agrees change (likeness change calling) saved others other.frame.objects ts us other.world.memory h.0 h.1) (inl refl) state k
-    task_met (ends_switch saved) (ends_switch others) ts us h e state k =
+    task_met (ends_switch saved) (ends_switch others) ts us h enough e state k =
         single_met (ends_switch others ∷ us) e (ended saved now.frame.objects ts other.world.memory) (ended others other.frame.objects us other.world.memory) (ended_agrees change (likeness change calling) saved others other.frame.objects ts us other.world.memory h.0 h.1) (inl refl) state k
-    task_met leaves leaves ts us h e state k =
+    task_met leaves leaves ts us h enough e state k =
         single_met (leaves ∷ us) e (after_break now.frame.objects other.world.memory ts) (after_break other.frame.objects other.world.memory us) (break_agrees change (likeness change calling) other.frame.objects other.world.memory ts us h.1) (inl refl) state k
-    task_met skips skips ts us h e state k =
+    task_met skips skips ts us h enough e state k =
         single_met (skips ∷ us) e (after_continue now.frame.objects other.world.memory ts) (after_continue other.frame.objects other.world.memory us) (continue_agrees change (likeness change calling) other.frame.objects other.world.memory ts us h.1) (inl refl) state k
-    task_met (hands_back value) (hands_back other_value) ts us h e state (inl k) =
+    task_met (hands_back value) (hands_back other_value) ts us h enough e state (inl k) =
         subst (Met change w spare other) (sym k) (subst (λ v. Met change w spare other (handed_back now v callers)) (sym h.0) (back_met other_value callers other.callers callers_agree (old_among _ e _ (inl refl))))
-    task_met (hands_back value) (hands_back other_value) ts us h e state (inr k) = absurd k
-    task_met t u ts us h e state k = absurd h.0
+    task_met (hands_back value) (hands_back other_value) ts us h enough e state (inr k) = absurd k
+    task_met t u ts us h enough e state k = absurd h.0
 
-    tasks_met : (ts us : List Task) → TasksAgree change ts us → unfolded other.frame.tasks ≡ us → (state : State) → IsAmong state (task_steps (new_of change) names now ts) → Met change w spare other state
-    tasks_met [] [] h e state (inl k) = subst (Met change w spare other) (sym k) (closed_met (old_among [] e _ (inl refl)))
-    tasks_met [] [] h e state (inr k) = absurd k
-    tasks_met [] (u ∷ us) h e state k = absurd h
-    tasks_met (t ∷ ts) [] h e state k = absurd h
-    tasks_met (t ∷ ts) (u ∷ us) h e state k = task_met t u ts us h e state k
+    tasks_met : (ts us : List Task) → TasksAgree change ts us → share change (tasks_left ts) ≤ w → unfolded other.frame.tasks ≡ us → (state : State) → IsAmong state (task_steps (new_of change) names now ts) → Met change w spare other state
+    tasks_met [] [] h enough e state (inl k) = subst (Met change w spare other) (sym k) (closed_met (old_among [] e _ (inl refl)))
+    tasks_met [] [] h enough e state (inr k) = absurd k
+    tasks_met [] (u ∷ us) h enough e state k = absurd h
+    tasks_met (t ∷ ts) [] h enough e state k = absurd h
+    tasks_met (t ∷ ts) (u ∷ us) h enough e state k = task_met t u ts us h enough e state k
 
   -- ---- one step in the added function
 
   module _ (names : ℕ → ℕ) (other : State) (fresh : IsFresh names other.world.memory) (stands : other.standing ≡ going) (function : ℕ) (entries : List Entry) (spare : Spare)
-      (caller : Caller) (others : List Caller) (run : Run) (waits : Waits change spare caller others other run) (held : AreHeld change entries) (w : ℕ) (known : AreKnown change.old other.statics)
+      (caller : Caller) (others : List Caller) (run : Run) (waits : Waits change spare caller others other run) (held : AreHeld change entries)
+      (v w : ℕ) (enough : share change (hole_left caller.hole) + v ≤ w) (known : AreKnown change.old other.statics)
       (found : (entry : Entry) → IsAmong entry entries → look_up other.world.memory entry.stored ≡ Some (parameter_block change entry.parameter entry.value))
       (free : (entry : Entry) → IsAmong entry entries → (locks : List At) → AreAmong locks (locks_in (filled_in waits.hole run)) → overlaps_any (whole (numbered entry.stored)) locks ≡ false) where
     abbrev in_added : List Task → State
@@ -751,16 +771,21 @@ module _ (change : Called) (calling : IsCallingWithAll change) where
       objects = waits.objects;
       tasks = waits.tasks;
       holes = waits.holes;
+      few = waits.few;
       uses = waits.uses;
       callers = waits.callers;
     }
 
+    -- what is left in it, after a step of the old program
+    real_enough : share change (hole_left caller.hole) + (size change + 5) ≤ most change
+    real_enough = most_inside change (hole_left caller.hole) (size change + 5) waits.few (at_least (size change + 5))
+
     -- the old program stays where it is
-    stays_inside : (v : ℕ) (tasks : List Task) → v + 1 ≤ w → Phase change v entries tasks caller.kind run → Met change w all_spare other (in_added tasks)
-    stays_inside v tasks less phase =
+    stays_inside : (u : ℕ) (tasks : List Task) → u + 1 ≤ v → Phase change u entries tasks caller.kind run → Met change w all_spare other (in_added tasks)
+    stays_inside u tasks less phase =
         inr (inr (inl (
-          v,
-          less,
+          share change (hole_left caller.hole) + u,
+          some_left (share change (hole_left caller.hole)) u v w less enough,
           inr (
             entries,
             spare,
@@ -773,7 +798,9 @@ module _ (change : Called) (calling : IsCallingWithAll change) where
               callers = refl;
               run = run;
               waits = waits;
+              left = u;
               phase = phase;
+              enough = at_least (share change (hole_left caller.hole) + u);
               held = held;
               statics = refl;
               world = refl;
@@ -782,7 +809,7 @@ module _ (change : Called) (calling : IsCallingWithAll change) where
         )))
 
     -- the body begins
-    beginning_met : (tasks : List Task) → Beginning change w entries tasks caller.kind run → (state : State) → IsAmong state (task_steps (new_of change) names (in_added tasks) (unfolded tasks)) → Met change w all_spare other state
+    beginning_met : (tasks : List Task) → Beginning change v entries tasks caller.kind run → (state : State) → IsAmong state (task_steps (new_of change) names (in_added tasks) (unfolded tasks)) → Met change w all_spare other state
     beginning_met tasks h state k =
         at_return (subst (λ ts. IsAmong state (task_steps (new_of change) names (in_added ts) (unfolded ts))) h.is k)
       where
@@ -790,19 +817,19 @@ module _ (change : Called) (calling : IsCallingWithAll change) where
             (begins (node return h.return_kind h.return_spans (more_trees change.body no_trees)) ∷ [])) → Met change w all_spare other state
         at_return (inl e) =
             subst (Met change w all_spare other) (sym e)
-            (stays_inside (size change) (evaluates (place_of change.body) (begun change.body) returns ∷ []) h.left (inr (inl (record {
+            (stays_inside (size change + 2) (evaluates (place_of change.body) (begun change.body) returns ∷ []) (omega (arith, h.left)) (inr (inl (record {
               place = place_of change.body;
               now = begun change.body;
               is = refl;
               agrees = h.agrees;
               few = at_least (size change);
-              left = begun_left change change.body;
+              left = at_least (size change + 2);
               yields = subst (λ t. Yields t (begun change.body)) (sym h.typed) (begun_yields change.body calling.value);
             }))))
         at_return (inr e) = absurd e
 
     -- the value is returned
-    returning_met : (tasks : List Task) → Returning change w tasks caller.kind run → (state : State) → IsAmong state (task_steps (new_of change) names (in_added tasks) (unfolded tasks)) → Met change w all_spare other state
+    returning_met : (tasks : List Task) → Returning change v tasks caller.kind run → (state : State) → IsAmong state (task_steps (new_of change) names (in_added tasks) (unfolded tasks)) → Met change w all_spare other state
     returning_met tasks h state k =
         at_end (subst (λ ts. IsAmong state (task_steps (new_of change) names (in_added ts) (unfolded ts))) h.is k)
       where
@@ -814,18 +841,26 @@ module _ (change : Called) (calling : IsCallingWithAll change) where
               first = entries;
               rest = spare;
               is = refl;
-              left = size change + 2;
-              less = omega (arith, h.left);
+              left = share change (hole_left caller.hole);
+              less = none_left (share change (hole_left caller.hole)) v w h.left enough;
               related = inl (
-                omega arith,
+                subst (λ n. share change n ≤ share change (hole_left caller.hole)) (sym (filled_left caller.hole (done caller.kind (of_value h.value) []) refl)) (at_least (share change (hole_left caller.hole))),
                 record {
                   standing = refl;
                   function = waits.function;
                   objects = waits.objects;
                   tasks =
                       subst (λ ts. TasksAgree change (evaluates caller.place (filled_in caller.hole (done caller.kind (of_value h.value) [])) caller.use_of ∷ caller.frame.tasks) ts)
-                      (sym (waits.evaluating ∙ ap (λ r. evaluates waits.place (filled_in waits.hole r) waits.use_of ∷ waits.rest) h.result))
-                      ((filled_agrees change outside caller.kind caller.hole waits.hole (done caller.kind (of_value h.value) []) (done caller.kind (of_value h.value) h.locks) waits.holes (refl, h.value, refl, h.given_value) (refl, refl, λ lock l. absurd l), waits.uses), waits.tasks);
+                      (sym (waits.evaluating ∙ ap (λ r. evaluates waits.place (filled_in waits.hole r) waits.use_of ∷ waits.rest) h.result)) (
+                        (
+                          (
+                            filled_agrees change outside caller.kind caller.hole waits.hole (done caller.kind (of_value h.value) []) (done caller.kind (of_value h.value) h.locks) waits.holes (refl, h.value, refl, h.given_value) (refl, refl, λ lock l. absurd l),
+                            subst (λ n. n ≤ limit change) (sym (filled_left caller.hole (done caller.kind (of_value h.value) []) refl)) waits.few,
+                          ),
+                          waits.uses,
+                        ),
+                        waits.tasks,
+                      );
                   callers = waits.callers;
                   statics = refl;
                   world = refl;
@@ -836,7 +871,7 @@ module _ (change : Called) (calling : IsCallingWithAll change) where
 
     -- a function is called
     called_inside : (kind : CType) (place : Place) (hole inner : Hole) (arguments : List Value) → HoleAgrees change (inside entries) kind hole inner → hole_left hole ≤ size change → HoleYields caller.kind kind hole
-        → (definition other_definition : Option Definition) → OptionAgrees (DefinitionAgrees change) definition other_definition
+        → (definition other_definition : Option Definition) → OptionAgrees (DefinitionFits change) definition other_definition
         → IsAmong (opened change.old names other waits.rest waits.place waits.use_of kind (hole_in waits.hole inner) arguments other_definition) (next names change.old other)
         → (tasks : List Task) → Met change w all_spare other (opened (new_of change) names (in_added tasks) [] place returns kind hole arguments definition)
     called_inside kind place hole inner arguments h few y None None k among tasks = inl (goes_wrong _ among External waits.place refl)
@@ -847,10 +882,10 @@ module _ (change : Called) (calling : IsCallingWithAll change) where
           opened change.old names other waits.rest waits.place waits.use_of kind (hole_in waits.hole inner) arguments (Some other_definition),
           (names, fresh, among),
           inl (
-            omega arith,
+            most_enough change _ _ (unfolded_agree change (likeness change calling) _ _ (frame_tasks names definition other_definition k)),
             record {
               standing = refl;
-              function = k.0;
+              function = k.0.0;
               objects = frame_objects names definition other_definition k;
               tasks = unfolded_agree change (likeness change calling) _ _ (frame_tasks names definition other_definition k);
               callers = inr (
@@ -870,6 +905,7 @@ module _ (change : Called) (calling : IsCallingWithAll change) where
                   few = few;
                   held = held;
                   beyond = waits.holes;
+                  few_beyond = waits.few;
                   yields = y;
                   caller_function = waits.function;
                   caller_objects = waits.objects;
@@ -892,11 +928,11 @@ module _ (change : Called) (calling : IsCallingWithAll change) where
         subst (λ d. Met change w all_spare other (opened (new_of change) names (in_added tasks) [] place returns kind hole arguments (definition_of (new_of change) d))) (sym e)
         (subst (λ l. Met change w all_spare other (opened (new_of change) names (in_added tasks) [] place returns kind hole l (definition_of (new_of change) (change.rename g)))) (sym a)
         (called_inside kind place hole inner values h few y (definition_of (new_of change) (change.rename g)) (definition_of change.old g)
-        (definition_agrees change calling change.functions change.old.functions calling.functions g)
+        (definition_fits g)
         (subst (λ t'. IsAmong (opened change.old names other waits.rest waits.place waits.use_of t' (hole_in waits.hole inner) values (definition_of change.old g)) (next names change.old other)) (sym t) among) tasks))
 
     -- a step of its expression
-    inside_moved : (place : Place) (present : Run) → RunAgrees change (inside entries) present run → left_in present ≤ size change → Yields caller.kind present → (m x : Move Run Hole) → RunMoveAgrees change (inside entries) m x
+    inside_moved : (place : Place) (present : Run) → PartAgrees change (inside entries) present run → left_in present ≤ size change → Yields caller.kind present → (m x : Move Run Hole) → RunMoveAgrees change (inside entries) m x
         → MoveYields caller.kind m → LeavesLess (left_in present) m
         → IsAmong (moved change.old names other waits.rest waits.place waits.use_of (lifted (filled_in waits.hole) (hole_in waits.hole) x)) (next names change.old other)
         → Met change w all_spare other (moved (new_of change) names (in_added (evaluates place present returns ∷ [])) [] place returns m)
@@ -918,7 +954,9 @@ module _ (change : Called) (calling : IsCallingWithAll change) where
               callers = refl;
               run = other_run;
               waits = waits_on other_run other_world;
-              phase = inr (inl (record { place = place; now = next_run; is = refl; agrees = h.1; few = still_few; left = left_of_real change next_run still_few; yields = y }));
+              left = size change + 5;
+              phase = inr (inl (record { place = place; now = next_run; is = refl; agrees = inl h.1; few = still_few; left = real_left (left_in next_run) (size change) still_few; yields = y }));
+              enough = real_enough;
               held = held;
               statics = refl;
               world = h.0;
@@ -960,10 +998,13 @@ module _ (change : Called) (calling : IsCallingWithAll change) where
                 objects = waits.objects;
                 tasks = waits.tasks;
                 holes = waits.holes;
+                few = waits.few;
                 uses = waits.uses;
                 callers = waits.callers;
               };
-              phase = inr (inl (record { place = place; now = present; is = refl; agrees = agrees; few = few; left = left_of_real change present few; yields = yields }));
+              left = size change + 5;
+              phase = inr (inl (record { place = place; now = present; is = refl; agrees = agrees; few = few; left = real_left (left_in present) (size change) few; yields = yields }));
+              enough = real_enough;
               held = held;
               statics = refl;
               world = refl;
@@ -990,46 +1031,38 @@ module _ (change : Called) (calling : IsCallingWithAll change) where
     }
 
     -- the expression, or the end of its evaluation
-    evaluated_met : (place : Place) (now : Run) → RunAgrees change (inside entries) now run → left_in now ≤ size change → Yields caller.kind now → Left change w now
+    evaluated_met : (place : Place) (now : Run) → PartAgrees change (inside entries) now run → left_in now ≤ size change → Yields caller.kind now → left_in now + 2 ≤ v
         → (state : State) → IsAmong state (expression_steps (new_of change) names (in_added (evaluates place now returns ∷ [])) [] place returns now) → Met change w all_spare other state
     evaluated_met place (done kind result locks) agrees few yields left state (inl e) =
         subst (Met change w all_spare other) (sym e)
-        (stays_inside (size change + 3) (hands_back (value_of result) ∷ []) (omega (arith, left)) (inr (inr (by_result run agrees))))
+        (stays_inside 1 (hands_back (value_of result) ∷ []) left (inr (inr (by_result run agrees))))
       where
-        by_result : (other_run : Run) → RunAgrees change (inside entries) (done kind result locks) other_run → Returning change (size change + 3) (hands_back (value_of result) ∷ []) caller.kind other_run
-        by_result (done other_kind other_result other_locks) h = record {
+        by_result : (other_run : Run) → PartAgrees change (inside entries) (done kind result locks) other_run → Returning change 1 (hands_back (value_of result) ∷ []) caller.kind other_run
+        by_result other_run (inr h) = absurd (reading_to_do change (inside entries) (done kind result locks) other_run h)
+        by_result (done other_kind other_result other_locks) (inl h) = record {
           value = yields.1;
           locks = other_locks;
           is = ap (λ r. hands_back (value_of r) ∷ []) yields.2;
           result = ap (λ k. done k other_result other_locks) (sym h.0 ∙ yields.0) ∙ ap (λ r. done caller.kind r other_locks) (sym h.1 ∙ yields.2);
           given_value = ap (λ k. lacks_value k yields.1) (sym yields.0) ∙ yields.3;
-          left = omega arith;
+          left = at_least 1;
         }
-        by_result (to_do doing other_kind at parts) h = absurd h
+        by_result (to_do doing other_kind at parts) (inl h) = absurd h
     evaluated_met place (done kind result locks) agrees few yields left state (inr e) = absurd e
     evaluated_met place (to_do doing kind here_at parts) agrees few yields left state k =
         let now = to_do doing kind here_at parts in
         let new_scene : Scene = record { program = new_of change; objects = inner_objects } in
         let from = among-map_from (moved (new_of change) names (in_added (evaluates place now returns ∷ [])) [] place returns) state _ k in
-        let fewer : AreAmong (locks_in now) (locks_in whole_run) = λ lock l. locks_lift waits.hole run lock (fewer_locks change calling (inside entries) now run agrees lock l) in
+        let fewer : AreAmong (locks_in now) (locks_in whole_run) = λ lock l. locks_lift waits.hole run lock (part_fewer_locks change calling (inside entries) now run agrees lock l) in
         subst (Met change w all_spare other) (sym from.2)
         (by_match from.0 (move_yields_on new_scene other.world (locks_in now) caller.kind now yields from.0 from.1) (move_leaves new_scene other.world (locks_in now) now from.0 from.1)
-        (run_matched change calling (inside entries) inner_objects (other.statics ++ other.frame.objects)
+        (whole_matched change calling (inside entries) inner_objects (other.statics ++ other.frame.objects)
         (λ d stands'. same_static change.rename calling.injective other.statics (objects_in entries) other.frame.objects d (known d stands')) other.world (locks_in now) (locks_in whole_run) fewer
         (all_ready (locks_in now) fewer) now run agrees from.0 from.1))
       where
-        left_open : (a b : Run) → RunAgrees change (inside entries) a b → IsToDo b → (v : ℕ) → left_in a ≤ v → Left change v a
-        left_open (done own_kind result locks) (done other_kind other_result other_locks) r still v l = absurd still
-        left_open (done own_kind result locks) (to_do other_doing other_kind there others') r still v l = absurd r
-        left_open (to_do own_doing own_kind here_now members) b r still v l = l
-
-        old_open : (b : Run) → RunAgrees change (inside entries) (to_do doing kind here_at parts) b → IsToDo b
-        old_open (done other_kind other_result other_locks) r = absurd r
-        old_open (to_do other_doing other_kind there others') r = tt
-
         by_match : (m : Move Run Hole) → MoveYields caller.kind m → LeavesLess (left_in (to_do doing kind here_at parts)) m
             → ((x : Move Run Hole) × IsAmong x (moves (scene_of change.old other) other.world (locks_in whole_run) run) × RunMoveAgrees change (inside entries) m x)
-            ⊎ (((next_run : Run) × (true ≡ true) × (m ≡ goes other.world next_run) × RunAgrees change (inside entries) next_run run)
+            ⊎ (((next_run : Run) × (true ≡ true) × (m ≡ goes other.world next_run) × PartAgrees change (inside entries) next_run run)
             ⊎ ((inside entries ≡ outside)
             × ((values : List Value) × (own : CType) × (stood : Run) × (hole other_hole : Hole) × (m ≡ calls change.added.function values own hole) × HoleAgrees change (inside entries) own hole other_hole × IsOpen other_hole
             × (run ≡ filled_in other_hole stood) × Entered change values own stood)))
@@ -1038,22 +1071,22 @@ module _ (change : Called) (calling : IsCallingWithAll change) where
         by_match m y l (inr (inl (next_run, i, e, still))) =
             let less = subst (LeavesLess (left_in (to_do doing kind here_at parts))) e l in
             subst (λ z. Met change w all_spare other (moved (new_of change) names (in_added (evaluates place (to_do doing kind here_at parts) returns ∷ [])) [] place returns z)) (sym e)
-            (stays_inside (left_in next_run) (evaluates place next_run returns ∷ []) (fits (left_in next_run) (left_in (to_do doing kind here_at parts)) w less left) (inr (inl (record {
+            (stays_inside (left_in next_run + 2) (evaluates place next_run returns ∷ []) (step_fits (left_in next_run) (left_in (to_do doing kind here_at parts)) v less left) (inr (inl (record {
               place = place;
               now = next_run;
               is = refl;
               agrees = still;
               few = less_still (left_in next_run) (left_in (to_do doing kind here_at parts)) (size change) less few;
-              left = left_open next_run run still (old_open run agrees) (left_in next_run) (at_least (left_in next_run));
+              left = at_least (left_in next_run + 2);
               yields = subst (MoveYields caller.kind) e y;
             }))))
         by_match m y l (inr (inr (elsewhere, entering))) = absurd (inside_not_outside entries elsewhere)
 
-    evaluating_met : (tasks : List Task) → Evaluating change w entries tasks caller.kind run → (state : State) → IsAmong state (task_steps (new_of change) names (in_added tasks) (unfolded tasks)) → Met change w all_spare other state
+    evaluating_met : (tasks : List Task) → Evaluating change v entries tasks caller.kind run → (state : State) → IsAmong state (task_steps (new_of change) names (in_added tasks) (unfolded tasks)) → Met change w all_spare other state
     evaluating_met tasks h state k =
         evaluated_met h.place h.now h.agrees h.few h.yields h.left state (subst (λ ts. IsAmong state (task_steps (new_of change) names (in_added ts) (unfolded ts))) h.is k)
 
-    phase_met : (tasks : List Task) → Phase change w entries tasks caller.kind run → (state : State) → IsAmong state (task_steps (new_of change) names (in_added tasks) (unfolded tasks)) → Met change w all_spare other state
+    phase_met : (tasks : List Task) → Phase change v entries tasks caller.kind run → (state : State) → IsAmong state (task_steps (new_of change) names (in_added tasks) (unfolded tasks)) → Met change w all_spare other state
     phase_met tasks (inl h) state k = beginning_met tasks h state k
     phase_met tasks (inr (inl h)) state k = evaluating_met tasks h state k
     phase_met tasks (inr (inr h)) state k = returning_met tasks h state k
@@ -1076,7 +1109,7 @@ module _ (change : Called) (calling : IsCallingWithAll change) where
       let from = from_steps other.standing _ next_state moved_step.2 in
       let made = (subst (TasksSettled memory) h.waits.evaluating settled).0.0 in
       let spare_of = spare_entry change other.world.memory memory first (flat rest) spares in
-      phase_met moved_step.0 other moved_step.1 from.0 state.frame.function first rest h.caller h.others h.run h.waits h.held w known (λ entry k. (spare_of entry k).0)
+      phase_met moved_step.0 other moved_step.1 from.0 state.frame.function first rest h.caller h.others h.run h.waits h.held h.left w h.enough known (λ entry k. (spare_of entry k).0)
       (λ entry k locks among. unlocked memory entry.stored (spare_of entry k).1 locks (λ lock l. made lock (among lock l))) state.frame.tasks h.phase next_state from.1
 
   -- each step is met
@@ -1086,6 +1119,6 @@ module _ (change : Called) (calling : IsCallingWithAll change) where
       let moved_step : Step (new_of change) (built change other state.frame.tasks state.callers) next_state =
       subst (λ s. Step (new_of change) s next_state) (is_built change spare state other h) step in
       let from = from_steps other.standing _ next_state moved_step.2 in
-      tasks_met moved_step.0 other moved_step.1 from.0 spare state.frame.tasks h.tasks state.callers h.callers w enough (unfolded state.frame.tasks) (unfolded other.frame.tasks) h.tasks refl next_state from.1
+      tasks_met moved_step.0 other moved_step.1 from.0 spare state.frame.tasks h.tasks state.callers h.callers w (unfolded state.frame.tasks) (unfolded other.frame.tasks) h.tasks enough refl next_state from.1
   step_met w spare state next_state other (inr (first, rest, is, h)) memory spares settled known step =
       subst (λ s. Met change w s other next_state) (sym is) (inside_met w first rest state next_state other h memory (subst (λ s. AllSpare change other.world.memory memory (flat s)) is spares) settled known step)

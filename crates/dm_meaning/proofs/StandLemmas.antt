@@ -14,7 +14,7 @@ use Rattle.dm_meaning.specs.Expressions.{Move, lifted, moves, moves_in}
 use Rattle.dm_meaning.specs.Statements.{type_declared}
 use Rattle.dm_meaning.specs.Replaced.{relabelled}
 use Rattle.dm_meaning.specs.Called.{Called, new_of, IsSame, AreSame}
-use Rattle.dm_meaning.specs.CalledWithAll.{given, AreDistinct, times_here, times_named, times_named_in, Holds, HoldsBelow}
+use Rattle.dm_meaning.specs.CalledWithAll.{given, AreDistinct, times_here, times_named, times_named_in, IsParameter, Holds, HoldsBelow, HoldsWhole}
 use Rattle.dm_meaning.proofs.AmongLemmas.{among_either, among-map_from}
 use Rattle.dm_meaning.proofs.MoveLemmas.{lifted_again}
 use Rattle.dm_meaning.proofs.OptionLemmas.{some_is_some}
@@ -57,6 +57,10 @@ abbrev mutual
       (IsUntouched change first other ⊎ (IsTrue (first_open opens) × (IsStanding change kind_at run_at first other ⊎ Stands change kind_at run_at first other)))
       × StandBelow change kind_at run_at (others_open opens) rest others
 
+-- an argument stands for the whole tree, or they stand below
+abbrev pub StandsWhole : Called → (ℕ → Option CType) → (ℕ → Option Run) → Tree → Run → Type 0
+StandsWhole change kind_at run_at tree other = IsStanding change kind_at run_at tree other ⊎ Stands change kind_at run_at tree other
+
 -- runs as a list
 abbrev pub run_list : Runs → List Run
 run_list no_runs = []
@@ -86,8 +90,26 @@ given_later p ps x xs d differ = ap (λ b. if b then Some x else given ps xs d) 
 
 -- ---- when a call begins
 
+-- an argument in place of a parameter
+begun_standing : (change : Called) (arguments : Trees) (tree other : Tree) → IsParameter change arguments tree other
+    → IsStanding change (given change.added.parameters (map kind_of (listed arguments))) (given change.added.parameters (run_list (all_begun arguments))) tree (begun other)
+begun_standing change arguments tree other r = record {
+  parameter = r.parameter;
+  kind = kind_of other;
+  spans = r.spans;
+  named_kind = r.named_kind;
+  named_spans = r.named_spans;
+  is = r.is;
+  own = r.own;
+  typed = given_mapped kind_of change.added.parameters (listed arguments) r.parameter ∙ ap (option_map kind_of) r.stands;
+  stands =
+      ap (λ rs. given change.added.parameters rs r.parameter) (begun_list arguments)
+      ∙ given_mapped begun change.added.parameters (listed arguments) r.parameter
+      ∙ ap (option_map begun) r.stands;
+}
+
 mutual
-  pub begun_stands : (change : Called) (arguments : Trees) (tree other : Tree) → Holds change arguments tree other
+  begun_stands : (change : Called) (arguments : Trees) (tree other : Tree) → Holds change arguments tree other
       → Stands change (given change.added.parameters (map kind_of (listed arguments))) (given change.added.parameters (run_list (all_begun arguments))) tree (begun other)
   begun_stands change arguments (node label kind spans parts) (node other other_kind other_spans others) h =
       (ap evaluates h.0, h.1, stands_inside change.old other h.2, all_begun_stand change arguments (open_of other) parts others h.3)
@@ -99,28 +121,15 @@ mutual
   all_begun_stand change arguments opens (more_trees first rest) no_trees h = absurd h
   all_begun_stand change arguments opens (more_trees first rest) (more_trees other others) (inl s, k) =
       (inl (record { was = other; same = s; is = refl }), all_begun_stand change arguments (others_open opens) rest others k)
-  all_begun_stand change arguments opens (more_trees first rest) (more_trees other others) (inr (o, inl r), k) = (
-    inr (
-      o,
-      inl (record {
-        parameter = r.parameter;
-        kind = kind_of other;
-        spans = r.spans;
-        named_kind = r.named_kind;
-        named_spans = r.named_spans;
-        is = r.is;
-        own = r.own;
-        typed = given_mapped kind_of change.added.parameters (listed arguments) r.parameter ∙ ap (option_map kind_of) r.stands;
-        stands =
-            ap (λ rs. given change.added.parameters rs r.parameter) (begun_list arguments)
-            ∙ given_mapped begun change.added.parameters (listed arguments) r.parameter
-            ∙ ap (option_map begun) r.stands;
-      }),
-    ),
-    all_begun_stand change arguments (others_open opens) rest others k,
-  )
+  all_begun_stand change arguments opens (more_trees first rest) (more_trees other others) (inr (o, inl r), k) =
+      (inr (o, inl (begun_standing change arguments first other r)), all_begun_stand change arguments (others_open opens) rest others k)
   all_begun_stand change arguments opens (more_trees first rest) (more_trees other others) (inr (o, inr s), k) =
       (inr (o, inr (begun_stands change arguments first other s)), all_begun_stand change arguments (others_open opens) rest others k)
+
+pub begun_stands_whole : (change : Called) (arguments : Trees) (tree other : Tree) → HoldsWhole change arguments tree other
+    → StandsWhole change (given change.added.parameters (map kind_of (listed arguments))) (given change.added.parameters (run_list (all_begun arguments))) tree (begun other)
+begun_stands_whole change arguments tree other (inl r) = inl (begun_standing change arguments tree other r)
+begun_stands_whole change arguments tree other (inr h) = inr (begun_stands change arguments tree other h)
 
 -- ---- how often a parameter is named
 
@@ -247,35 +256,37 @@ module _ (change : Called) (kind_at : ℕ → Option CType) (d : ℕ) (own : (c 
   abbrev PartStands : Open → Tree → Run → Type 0
   PartStands opens first other = IsUntouched change first other ⊎ (IsTrue (first_open opens) × (IsStanding change kind_at run_at first other ⊎ Stands change kind_at run_at first other))
 
+  -- it stands there itself, and so may another one
+  standing_is : (run : Run) → run_at d ≡ Some run → (tree : Tree) (other : Run) → times_named d tree ≡ 1 → IsStanding change kind_at run_at tree other
+      → (other ≡ run) × ((later_at : ℕ → Option Run) (after : Run) → later_at d ≡ Some after → IsStanding change kind_at later_at tree after)
+  standing_is run found tree other e s =
+      let same : s.parameter ≡ d = equal_of s.parameter d (one_of_if (s.parameter == d) (sym (ap (times_named d) s.is) ∙ e)) in (
+        some_is_some other run (sym s.stands ∙ ap run_at same ∙ found),
+        λ later_at after g. record {
+          parameter = s.parameter;
+          kind = s.kind;
+          spans = s.spans;
+          named_kind = s.named_kind;
+          named_spans = s.named_spans;
+          is = s.is;
+          own = s.own;
+          typed = s.typed;
+          stands = ap later_at same ∙ g;
+        },
+      )
+
   -- it stands in the first part
   at_first : (run : Run) → run_at d ≡ Some run → (opens : Open) (first : Tree) (rest : Trees) (other : Run) (others : Runs) → times_named d first ≡ 1 → times_named_in d rest ≡ 0
       → PartStands opens first other → StandBelow change kind_at run_at (others_open opens) rest others
       → (Stands change kind_at run_at first other → IsAt run first other) → AreAt run opens (more_trees first rest) (more_runs other others)
   at_first run found opens first rest other others e f (inl s) k later = absurd (zero_one (sym (same_elsewhere change d own first s.was s.same) ∙ e))
   at_first run found opens first rest other others e f (inr (o, inl s)) k later =
-      let same : s.parameter ≡ d = equal_of s.parameter d (one_of_if (s.parameter == d) (sym (ap (times_named d) s.is) ∙ e)) in
-      let stood : other ≡ run = some_is_some other run (sym s.stands ∙ ap run_at same ∙ found) in
+      let stood = standing_is run found first other e s in
       record {
         holes = in_first here others;
         opened = (o, tt);
-        is = ap (λ r. more_runs r others) stood;
-        again = λ later_at after g b. (
-          inr (
-            o,
-            inl (record {
-              parameter = s.parameter;
-              kind = s.kind;
-              spans = s.spans;
-              named_kind = s.named_kind;
-              named_spans = s.named_spans;
-              is = s.is;
-              own = s.own;
-              typed = s.typed;
-              stands = ap later_at same ∙ g;
-            }),
-          ),
-          all_beside_stand later_at b (others_open opens) rest others f k,
-        );
+        is = ap (λ r. more_runs r others) stood.0;
+        again = λ later_at after g b. (inr (o, inl (stood.1 later_at after g)), all_beside_stand later_at b (others_open opens) rest others f k);
       }
   at_first run found opens first rest other others e f (inr (o, inr s)) k later =
       let there = later s in
@@ -310,7 +321,7 @@ module _ (change : Called) (kind_at : ℕ → Option CType) (d : ℕ) (own : (c 
   by_sum run found opens first rest other others (inr (e, f)) h k one more = at_rest run opens first rest other others e h (more f k)
 
   mutual
-    pub place_of : (run : Run) → run_at d ≡ Some run → (tree : Tree) (other : Run) → times_named d tree ≡ 1 → Stands change kind_at run_at tree other → IsAt run tree other
+    place_of : (run : Run) → run_at d ≡ Some run → (tree : Tree) (other : Run) → times_named d tree ≡ 1 → Stands change kind_at run_at tree other → IsAt run tree other
     place_of run found tree (done kind result locks) e h = absurd h
     place_of run found (node label kind spans parts) (to_do doing other_kind place others) e h =
         let below = places_of run found (open_parts doing) parts others (rest_one (times_here d label) (times_named_in d parts) (doing_elsewhere change d own label doing h.0) e) h.3 in
@@ -327,6 +338,21 @@ module _ (change : Called) (kind_at : ℕ → Option CType) (d : ℕ) (own : (c 
     places_of run found opens (more_trees first rest) no_runs e h = absurd h
     places_of run found opens (more_trees first rest) (more_runs other others) e h =
         by_sum run found opens first rest other others (sum_one (times_named d first) (times_named_in d rest) e) h.0 h.1 (place_of run found first other) (places_of run found (others_open opens) rest others)
+
+  -- likewise where it may stand for the whole tree
+  pub record IsAtWhole (run : Run) (tree : Tree) (other : Run) : Type 0 where
+    pub hole : Hole
+    pub opened : IsOpen hole
+    pub is : other ≡ filled_in hole run
+    pub again : (later_at : ℕ → Option Run) (after : Run) → later_at d ≡ Some after → IsBeside later_at → StandsWhole change kind_at later_at tree (filled_in hole after)
+
+  pub place_whole : (run : Run) → run_at d ≡ Some run → (tree : Tree) (other : Run) → times_named d tree ≡ 1 → StandsWhole change kind_at run_at tree other → IsAtWhole run tree other
+  place_whole run found tree other e (inl s) =
+      let stood = standing_is run found tree other e s in
+      record { hole = here; opened = tt; is = stood.0; again = λ later_at after g b. inl (stood.1 later_at after g) }
+  place_whole run found tree other e (inr s) =
+      let there = place_of run found tree other e s in
+      record { hole = there.hole; opened = there.opened; is = there.is; again = λ later_at after g b. inr (there.again later_at after g b) }
 
 -- ---- the place of a part of an argument
 
@@ -378,22 +404,22 @@ pub record IsPart (change : Called) (kind_at : ℕ → Option CType) (tree : Tre
   pub hole : Hole
   pub opened : AreOpen every holes → IsOpen hole
   pub is : other ≡ filled_in hole run
-  pub again : (after : Run) → Stands change kind_at (given change.added.parameters (run_list (all_filled_in holes after))) tree (filled_in hole after)
+  pub again : (after : Run) → StandsWhole change kind_at (given change.added.parameters (run_list (all_filled_in holes after))) tree (filled_in hole after)
 
 pub part_of : (change : Called) (kind_at : ℕ → Option CType) → AreDistinct change.added.parameters → ((p : ℕ) → IsAmong p change.added.parameters → (c : ℕ) → change.rename c ≡ p → ⊥)
     → (tree : Tree) → ((p : ℕ) → IsAmong p change.added.parameters → times_named p tree ≡ 1) → (other : Run) (holes : Holes) (run : Run)
     → length (run_list (all_filled_in holes run)) ≡ length change.added.parameters
-    → Stands change kind_at (given change.added.parameters (run_list (all_filled_in holes run))) tree other → IsPart change kind_at tree other holes run
+    → StandsWhole change kind_at (given change.added.parameters (run_list (all_filled_in holes run))) tree other → IsPart change kind_at tree other holes run
 part_of change kind_at apart own tree once other holes run e h =
     let place = listed_at change.added.parameters apart holes run e in
-    let there = place_of change kind_at place.number (own place.number place.among) (given change.added.parameters (run_list (all_filled_in holes run))) (filled_in place.hole run) (place.there run) tree other
+    let there = place_whole change kind_at place.number (own place.number place.among) (given change.added.parameters (run_list (all_filled_in holes run))) (filled_in place.hole run) (place.there run) tree other
     (once place.number place.among) h in
     record {
       hole = hole_in there.hole place.hole;
       opened = λ o. opened_twice there.hole place.hole there.opened (place.opened o);
       is = there.is ∙ sym (filled_twice there.hole place.hole run);
       again = λ after.
-          subst (Stands change kind_at (given change.added.parameters (run_list (all_filled_in holes after))) tree) (sym (filled_twice there.hole place.hole after))
+          subst (StandsWhole change kind_at (given change.added.parameters (run_list (all_filled_in holes after))) tree) (sym (filled_twice there.hole place.hole after))
           (there.again (given change.added.parameters (run_list (all_filled_in holes after))) (filled_in place.hole after) (place.there after) (place.others run after));
     }
 

@@ -4,6 +4,7 @@
 --     times_named d tree      how often a tree names an object
 --     Holds change arguments tree other      a tree of the added function and one of the old program are the same, but that the first reads
 --                                            parameters, each of them first, where the second has the arguments
+--     HoldsWhole change arguments tree other      likewise, where the whole tree may be such a parameter
 --     Agrees change tree other      a tree of the new program and one of the old are the same but for such calls
 --     IsCallingWithAll change      the programs are the same but for such calls and the added function
 use Rattle.std.specs.Prelude.{◌≡◌, ◌⊎◌, ℕ, ◌+◌, ◌==◌, true, false, List, [], ◌∷◌, length, map, Option, Some, None, option_map, IsTrue, if◌then◌else◌}
@@ -74,6 +75,10 @@ abbrev mutual
       × HoldsBelow change arguments (others_open opens) rest others
   HoldsBelow change arguments opens parts others = ⊥
 
+-- the whole expression is a parameter, or reads them below its outermost operator
+abbrev pub HoldsWhole : Called → Trees → Tree → Tree → Type 0
+HoldsWhole change arguments tree other = IsParameter change arguments tree other ⊎ Holds change arguments tree other
+
 -- ---- trees
 
 -- a call of the added function stands where its expression was, of the same type, with these arguments in it, one for each parameter, each
@@ -81,7 +86,7 @@ abbrev mutual
 pub record IsCall (change : Called) (label : Label) (kind : CType) (other : Tree) (arguments : Trees) : Type 0 where
   pub is : label ≡ call
   pub typed : kind ≡ kind_of other
-  pub holds : Holds change arguments change.body other
+  pub holds : HoldsWhole change arguments change.body other
   pub each : length (listed arguments) ≡ length change.added.parameters
   pub once : (d : ℕ) → IsAmong d change.added.parameters → times_named d change.body ≡ 1
 

@@ -500,6 +500,29 @@ calling_double = record {
   body = doubled (reading 2);
 }
 
+-- int main(void) { int k = 4; k++; return k++; }
+abbrev pub counted_twice : Program
+counted_twice = alone (local (codes "k") int ∷ []) (declared_as 1 (constant 4) ∷ statement (counted 1) ∷ returned (counted 1) ∷ [])
+
+-- int same(int x) { return x; } int main(void) { int k = 4; same(k++); return same(same(k++)); }
+abbrev pub called_same_twice : Program
+called_same_twice =
+    program (of_function (codes "same") int_of_int ∷ local (codes "x") int ∷ local (codes "k") int ∷ [])
+    (defined 1 (2 ∷ []) (returned (reading 2) ∷ []) ∷
+    defined 0 [] (declared_as 3 (constant 4) ∷ statement (called_one (counted 3)) ∷ returned (called_one (called_one (counted 3))) ∷ []) ∷ [])
+
+-- the change between the two
+abbrev pub calling_same : Called
+calling_same = record {
+  old = counted_twice;
+  declared = called_same_twice.declared;
+  functions = called_same_twice.functions;
+  statics = called_same_twice.statics;
+  rename = beyond_main;
+  added = record { function = 1; parameters = 2 ∷ []; body = tree 9 block void (returned (reading 2) ∷ []) };
+  body = reading 2;
+}
+
 -- int main(void) { int j = 4, k = 9; return k++ - (j++ - 1); }
 abbrev pub taken : Tree → Tree → Tree
 taken less more = operated 0 Sub more less

@@ -162,9 +162,9 @@ pub fn called_with_units_refine()
 /// A program in which calls of an added function, whose body is one `return` of an expression, stand in place of the expression
 /// with the arguments in place of the parameters, at any places in any functions, refines the program with the expression. The
 /// function has any number of parameters, none among them. The expression gives a value, reads each parameter once, and first,
-/// below its outermost operator, and names no other objects but those of static storage duration. The arguments give values of
-/// other types than void; they may have effects, and calls of the added function in them, and are evaluated in any order. The
-/// values of `case` labels stay the same.
+/// and names no other objects but those of static storage duration; it may be a parameter and nothing else. The arguments give
+/// values of other types than void; they may have effects, and calls of the added function in them, and are evaluated in any
+/// order. The values of `case` labels stay the same.
 pub fn called_with_all_refines()
     ensures { (change : Called) → IsCallingWithAll change → Refines (machine_of (called.new_of change)) (machine_of change.old) }
 {}

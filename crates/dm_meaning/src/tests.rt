@@ -147,6 +147,14 @@ fn calls_with_two_parameters_refine()
     ensures units_refine { Refines (machine_of (program_of examples.types examples.called_take_unit)) (machine_of (program_of examples.types examples.taken_unit)) }
 {}
 
+fn calls_that_return_their_argument_refine()
+    ensures counted { by_choice 0 60 [] examples.counted_twice ≡ Some (exited 5, []) }
+    ensures called { by_choice 0 90 [] examples.called_same_twice ≡ Some (exited 5, []) }
+    ensures new { new_of examples.calling_same ≡ examples.called_same_twice }
+    ensures premises { IsCallingWithAll examples.calling_same }
+    ensures refines { Refines (machine_of examples.called_same_twice) (machine_of examples.counted_twice) }
+{}
+
 fn units_with_calls_without_arguments_refine()
     ensures written { by_choice 0 60 [] (program_of examples.types examples.six_unit) ≡ Some (exited 6, []) }
     ensures called { by_choice 0 60 [] (program_of examples.types examples.calling_six_unit) ≡ Some (exited 6, []) }
@@ -171,5 +179,6 @@ fn examples_come_to_what_c_says() {
     nested_calls_with_a_parameter_refine();
     units_with_calls_refine();
     calls_with_two_parameters_refine();
+    calls_that_return_their_argument_refine();
     units_with_calls_without_arguments_refine();
 }
