@@ -1,11 +1,5 @@
-//! Tests of the reading of C syntax: the calls of `dm_pexpr` and `dm_pstmt`, called as the layers above call them.
+//! Tests of the reading of C syntax: the calls of `dm_pexpr`, called as the layers above call them.
 #![tactic(auto)]
 
 #[cfg(test)]
-mod externals;
-#[cfg(test)]
-mod sizes;
-#[cfg(test)]
 mod tests;
-#[cfg(test)]
-mod words;
