@@ -8,9 +8,9 @@ use Rattle.dm_tree.specs.Initialisers.{is_function_sort}
 use Rattle.dm_tree.specs.Scenes.{is_function}
 use Rattle.dm_tree.specs.Typing.{FitsSort, IsEntry, has_linkage}
 use Rattle.dm_tree.specs.Units.{Declaration}
-use Rattle.dm_eexpr.specs.Known.{Known, Setting, meaning_of}
-use Rattle.dm_eexpr.specs.Typing.{is_file_scope}
-use Rattle.dm_eexpr.proofs.ConversionLemmas.{or-left}
+use Rattle.dm_typing.specs.Known.{Known, Setting, meaning_of}
+use Rattle.dm_typing.specs.Typing.{is_file_scope}
+use Rattle.dm_typing.proofs.ConversionLemmas.{or-left}
 use Rattle.dm_edecl.specs.Linkages.{Storage, unsaid, typedef, extern, static, is_static, linkage_before, linkage_of, sort_of, entry_of}
 use Rattle.dm_edecl.specs.Declaring.{is_misplaced_static}
 

@@ -14,19 +14,19 @@ use Rattle.dm_syn.specs.Trees.{Expr, Initialiser, Initialisers}
 use Rattle.dm_syn.specs.Trees as tree
 use Rattle.dm_tree.specs.Scenes.{is_scalar, member_type, part_type}
 use Rattle.dm_tree.specs.Trees.{Tree}
-use Rattle.dm_eexpr.specs.Known.{Known, Setting, Outcome, given, broken}
-use Rattle.dm_eexpr.specs.Conversions.{as_value, as_type, element}
-use Rattle.dm_eexpr.specs.Rules.{is_assignable}
-use Rattle.dm_eexpr.specs.Sound.{IsProper, AreComplete, AreSoundTokens, IsSound, IsSoundValue, IsSoundKnown, KnowsMore, GivesMore}
-use Rattle.dm_eexpr.specs.Typing.{typed}
-use Rattle.dm_eexpr.proofs.CallLemmas.{assigned-fits}
-use Rattle.dm_eexpr.proofs.GrowthLemmas.{sound-stays}
-use Rattle.dm_eexpr.proofs.KnownLemmas.{stays-so, after-more, obeys-more, if-more}
-use Rattle.dm_eexpr.proofs.MemberLemmas.{with-const-proper}
-use Rattle.dm_eexpr.proofs.RuleLemmas.{value-sound}
-use Rattle.dm_eexpr.proofs.TableLemmas.{table-proper}
-use Rattle.dm_eexpr.proofs.WholeLemmas.{expr-more}
-use Rattle.dm_eexpr.proofs.WriteLemmas.{as-value-sound}
+use Rattle.dm_typing.specs.Known.{Known, Setting, Outcome, given, broken}
+use Rattle.dm_typing.specs.Conversions.{as_value, as_type, element}
+use Rattle.dm_typing.specs.Rules.{is_assignable}
+use Rattle.dm_typing.specs.Sound.{IsProper, AreComplete, AreSoundTokens, IsSound, IsSoundValue, IsSoundKnown, KnowsMore, GivesMore}
+use Rattle.dm_typing.specs.Typing.{typed}
+use Rattle.dm_typing.proofs.CallLemmas.{assigned-fits}
+use Rattle.dm_typing.proofs.GrowthLemmas.{sound-stays}
+use Rattle.dm_typing.proofs.KnownLemmas.{stays-so, after-more, obeys-more, if-more}
+use Rattle.dm_typing.proofs.MemberLemmas.{with-const-proper}
+use Rattle.dm_typing.proofs.RuleLemmas.{value-sound}
+use Rattle.dm_typing.proofs.TableLemmas.{table-proper}
+use Rattle.dm_typing.proofs.WholeLemmas.{expr-more}
+use Rattle.dm_typing.proofs.WriteLemmas.{as-value-sound}
 use Rattle.dm_edecl.specs.Initialising.{Initial, Initials, no_initials, with_first, enclosed, single, is_static_value, has_value, scalar_initialised, is_string_for, initialised_by, First, dimensions, within, first_if_scalar, first_within, first_scalar, braced, expressions_alone, all_expressions_alone, misplaced, scalar_in_braces, is_zero_list, all_zero, zero_initialised, if_part, typed_initialiser, typed_initialisers}
 use Rattle.dm_edecl.specs.Sound.{AllSound, IsSoundInitial}
 

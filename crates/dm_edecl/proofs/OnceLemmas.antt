@@ -14,8 +14,8 @@ use Rattle.dm_tree.specs.Typing.{defined_by, defined_functions}
 use Rattle.dm_tree.specs.Units.{declares, defines_function, TypedUnit}
 use Rattle.dm_tree.specs.Trees as label
 use Rattle.dm_tree.specs.Units as unit
-use Rattle.dm_eexpr.specs.Known.{Known, Setting, Outcome, given, broken}
-use Rattle.dm_eexpr.specs.Specifiers.{of_definition}
+use Rattle.dm_typing.specs.Known.{Known, Setting, Outcome, given, broken}
+use Rattle.dm_typing.specs.Specifiers.{of_definition}
 use Rattle.dm_edecl.specs.Standing.{Linked, Standing, Progress, goes_on, stops, further, typing, keeps, with_constants}
 use Rattle.dm_edecl.specs.Linkages.{is_defined, with_link, function_here, number_here, entry_of, may_be_declared, kind_seen}
 use Rattle.dm_edecl.specs.Declaring.{Specified, specified, declarable, is_misplaced_static, may_be_object, may_be_main, name_at, declarators_of, expressions_of, typed_declaration}

@@ -14,15 +14,15 @@ use Rattle.dm_tree.specs.Initialisers.{is_fixed}
 use Rattle.dm_tree.specs.Trees.{Tree}
 use Rattle.dm_tree.specs.Scenes.{is_scalar, part_type}
 use Rattle.dm_tree.specs.Units.{Declaration}
-use Rattle.dm_eexpr.specs.Known.{Known, Setting, Outcome, given, broken, after, with_it, obeys}
-use Rattle.dm_eexpr.specs.Conversions.{as_value, as_type, is_complete}
-use Rattle.dm_eexpr.specs.Rules.{is_assignable}
-use Rattle.dm_eexpr.specs.Specifiers.{Said, nothing_said, Where, of_declaration}
-use Rattle.dm_eexpr.specs.Sound.{StepsWithin}
-use Rattle.dm_eexpr.specs.Typing.{words_said, typed_said, typed_specifiers, steps_of, derived, typed}
-use Rattle.dm_eexpr.proofs.GrowthLemmas.{some-of}
-use Rattle.dm_eexpr.proofs.PlaceLemmas.{Places, Plain, wider, after-places, obeys-places, if-places, derived-places}
-use Rattle.dm_eexpr.proofs.WholePlaceLemmas.{PlacedDeclarator, trailing-on, expr-placed, specifiers-placed, declarator-placed}
+use Rattle.dm_typing.specs.Known.{Known, Setting, Outcome, given, broken, after, with_it, obeys}
+use Rattle.dm_typing.specs.Conversions.{as_value, as_type, is_complete}
+use Rattle.dm_typing.specs.Rules.{is_assignable}
+use Rattle.dm_typing.specs.Specifiers.{Said, nothing_said, Where, of_declaration}
+use Rattle.dm_typing.specs.Sound.{StepsWithin}
+use Rattle.dm_typing.specs.Typing.{words_said, typed_said, typed_specifiers, steps_of, derived, typed}
+use Rattle.dm_typing.proofs.GrowthLemmas.{some-of}
+use Rattle.dm_typing.proofs.PlaceLemmas.{Places, Plain, wider, after-places, obeys-places, if-places, derived-places}
+use Rattle.dm_typing.proofs.WholePlaceLemmas.{PlacedDeclarator, trailing-on, expr-placed, specifiers-placed, declarator-placed}
 use Rattle.dm_edecl.specs.Standing.{Standing, Progress, goes_on, stops, further, typing, keeps, closed}
 use Rattle.dm_edecl.specs.Linkages.{entry_of, may_be_declared, declared_here, number_here, kind_seen, is_defined, object_here}
 use Rattle.dm_edecl.specs.Initialising.{Initial, single, is_static_value, has_value, scalar_initialised, is_string_for, initialised_by, First, first_scalar, zero_initialised, braced, completed, expressions_alone, all_expressions_alone, misplaced, scalar_in_braces, is_zero_list, all_zero, if_part, typed_initialiser, typed_initialisers, enclosed}

@@ -10,7 +10,7 @@ use Rattle.dm_syn.specs.Spans.{declarator_span}
 use Rattle.dm_syn.specs.Trees.{Declarator, Expr, ForStart, Initialiser, Item, Stmt, BlockItems, BlockItem, SwitchItems, SwitchItem}
 use Rattle.dm_syn.specs.Trees as tree
 use Rattle.dm_tree.specs.Units.{Declaration}
-use Rattle.dm_eexpr.specs.Known.{Known, Setting, Outcome, given, broken}
+use Rattle.dm_typing.specs.Known.{Known, Setting, Outcome, given, broken}
 use Rattle.dm_edecl.specs.Standing.{Linked, Standing, Progress, goes_on, stops, further, typing, keeps, closed, in_scope, opened, with_constants}
 use Rattle.dm_edecl.specs.Linkages.{is_defined, with_link_if, declared_here, object_here, number_here, entry_of, kind_seen}
 use Rattle.dm_edecl.specs.Initialising.{Initial, completed, expressions_alone, typed_initialiser}

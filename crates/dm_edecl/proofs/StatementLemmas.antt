@@ -14,19 +14,19 @@ use Rattle.dm_tree.specs.Constants.{integer_kind, is_constant_part, constant_for
 use Rattle.dm_tree.specs.Scenes.{is_integer, is_scalar, is_void}
 use Rattle.dm_tree.specs.Trees.{Tree, node, kind_of}
 use Rattle.dm_tree.specs.Trees as label
-use Rattle.dm_eexpr.specs.Known.{Known, Setting, given, obeys}
-use Rattle.dm_eexpr.specs.Conversions.{over, is_same, as_value, as_type, as_kind, constant_of}
-use Rattle.dm_eexpr.specs.Rules.{is_assignable}
-use Rattle.dm_eexpr.specs.Sound.{IsProper, AreSoundTokens, IsSound, IsSoundValue, AreSound, IsSoundKnown, GivesMore}
-use Rattle.dm_eexpr.specs.Typing.{typed}
-use Rattle.dm_eexpr.proofs.CallLemmas.{assigned-fits}
-use Rattle.dm_eexpr.proofs.ConversionLemmas.{as-kind-fits}
-use Rattle.dm_eexpr.proofs.KindLemmas.{promoted-again}
-use Rattle.dm_eexpr.proofs.KnownLemmas.{stays-so, after-more, with-more, obeys-more, if-more}
-use Rattle.dm_eexpr.proofs.RuleLemmas.{value-sound}
-use Rattle.dm_eexpr.proofs.TypeLemmas.{both-hold, same-types}
-use Rattle.dm_eexpr.proofs.WholeLemmas.{expr-more}
-use Rattle.dm_eexpr.proofs.WriteLemmas.{as-value-sound}
+use Rattle.dm_typing.specs.Known.{Known, Setting, given, obeys}
+use Rattle.dm_typing.specs.Conversions.{over, is_same, as_value, as_type, as_kind, constant_of}
+use Rattle.dm_typing.specs.Rules.{is_assignable}
+use Rattle.dm_typing.specs.Sound.{IsProper, AreSoundTokens, IsSound, IsSoundValue, AreSound, IsSoundKnown, GivesMore}
+use Rattle.dm_typing.specs.Typing.{typed}
+use Rattle.dm_typing.proofs.CallLemmas.{assigned-fits}
+use Rattle.dm_typing.proofs.ConversionLemmas.{as-kind-fits}
+use Rattle.dm_typing.proofs.KindLemmas.{promoted-again}
+use Rattle.dm_typing.proofs.KnownLemmas.{stays-so, after-more, with-more, obeys-more, if-more}
+use Rattle.dm_typing.proofs.RuleLemmas.{value-sound}
+use Rattle.dm_typing.proofs.TypeLemmas.{both-hold, same-types}
+use Rattle.dm_typing.proofs.WholeLemmas.{expr-more}
+use Rattle.dm_typing.proofs.WriteLemmas.{as-value-sound}
 use Rattle.dm_edecl.specs.Statements.{statement, subject, CaseValue, is_label_among, typed_value, typed_optional, typed_condition, typed_subject, typed_case, returned, typed_return}
 use Rattle.dm_edecl.specs.Sound.{IsSoundCondition, IsSoundSubject, IsSoundCase, IsSoundReturn}
 

@@ -15,12 +15,12 @@ use Rattle.dm_tree.specs.Constants.{integer_kind}
 use Rattle.dm_tree.specs.Scenes.{is_scalar, is_void}
 use Rattle.dm_tree.specs.Trees.{Tree, kind_of}
 use Rattle.dm_tree.specs.Trees as label
-use Rattle.dm_eexpr.specs.Known.{Known, Setting, Outcome, given, obeys}
-use Rattle.dm_eexpr.specs.Conversions.{as_value, as_type, as_kind, constant_of}
-use Rattle.dm_eexpr.specs.Rules.{is_assignable}
-use Rattle.dm_eexpr.specs.Typing.{typed}
-use Rattle.dm_eexpr.proofs.PlaceLemmas.{Places, Plain, wider, after-places, obeys-places, if-places}
-use Rattle.dm_eexpr.proofs.WholePlaceLemmas.{expr-placed}
+use Rattle.dm_typing.specs.Known.{Known, Setting, Outcome, given, obeys}
+use Rattle.dm_typing.specs.Conversions.{as_value, as_type, as_kind, constant_of}
+use Rattle.dm_typing.specs.Rules.{is_assignable}
+use Rattle.dm_typing.specs.Typing.{typed}
+use Rattle.dm_typing.proofs.PlaceLemmas.{Places, Plain, wider, after-places, obeys-places, if-places}
+use Rattle.dm_typing.proofs.WholePlaceLemmas.{expr-placed}
 use Rattle.dm_edecl.specs.Standing.{Standing, Progress, goes_on, further, typing, in_scope, opened}
 use Rattle.dm_edecl.specs.Statements.{Within, in_loop, in_switch, statement, for_statement, Subject, subject, Labelled, AllLabelled, is_label_among, CaseValue, typed_value, typed_optional, typed_condition, typed_optional_condition, typed_subject, typed_case, returned, typed_return, declaration_tree, declared_in, typed_start, typed_stmt, typed_items_in, typed_item_in, typed_switch_items, typed_switch_item}
 use Rattle.dm_edecl.specs.Placing.{StopsWithin}

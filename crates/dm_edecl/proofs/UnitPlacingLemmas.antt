@@ -18,13 +18,13 @@ use Rattle.dm_syn.specs.Trees as tree
 use Rattle.dm_tree.specs.Trees as label
 use Rattle.dm_tree.specs.Units.{Declaration, defines_function, declares}
 use Rattle.dm_tree.specs.Units as unit
-use Rattle.dm_eexpr.specs.Known.{Known, Setting, Outcome, given, with_it, obeys}
-use Rattle.dm_eexpr.specs.Conversions.{is_complete}
-use Rattle.dm_eexpr.specs.Specifiers.{elsewhere, of_definition}
-use Rattle.dm_eexpr.specs.Sound.{BreaksWithin}
-use Rattle.dm_eexpr.specs.Typing.{TypedParameter, parameter_of, parameter_at, entered, is_no_parameters, without_void}
-use Rattle.dm_eexpr.proofs.PlaceLemmas.{Places, Plain, wider, after-places, with-places, obeys-places}
-use Rattle.dm_eexpr.proofs.WholePlaceLemmas.{PlacedDeclarator, pointers-on, parameter-here, expr-placed, specifiers-placed, declarator-placed, direct-placed, parameters-placed, more-parameters-placed, parameter-placed}
+use Rattle.dm_typing.specs.Known.{Known, Setting, Outcome, given, with_it, obeys}
+use Rattle.dm_typing.specs.Conversions.{is_complete}
+use Rattle.dm_typing.specs.Specifiers.{elsewhere, of_definition}
+use Rattle.dm_typing.specs.Sound.{BreaksWithin}
+use Rattle.dm_typing.specs.Typing.{TypedParameter, parameter_of, parameter_at, entered, is_no_parameters, without_void}
+use Rattle.dm_typing.proofs.PlaceLemmas.{Places, Plain, wider, after-places, with-places, obeys-places}
+use Rattle.dm_typing.proofs.WholePlaceLemmas.{PlacedDeclarator, pointers-on, parameter-here, expr-placed, specifiers-placed, declarator-placed, direct-placed, parameters-placed, more-parameters-placed, parameter-placed}
 use Rattle.dm_edecl.specs.Standing.{Standing, Progress, goes_on, stops, further, opened, with_constants}
 use Rattle.dm_edecl.specs.Linkages.{entry_of, function_here, number_here, is_defined}
 use Rattle.dm_edecl.specs.Declaring.{Specified, specified, typed_declarator, name_at, declarable, typed_declaration}

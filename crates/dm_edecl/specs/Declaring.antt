@@ -18,10 +18,10 @@ use Rattle.dm_tree.specs.Trees as label
 use Rattle.dm_tree.specs.Scenes.{is_array}
 use Rattle.dm_tree.specs.Typing.{has_linkage, is_main_type}
 use Rattle.dm_tree.specs.Units.{Declaration}
-use Rattle.dm_eexpr.specs.Known.{Known, Setting, Outcome, after, with_it}
-use Rattle.dm_eexpr.specs.Conversions.{is_complete}
-use Rattle.dm_eexpr.specs.Specifiers.{Said, nothing_said, Where, of_declaration}
-use Rattle.dm_eexpr.specs.Typing.{is_file_scope, words_said, typed_said, steps_of, derived}
+use Rattle.dm_typing.specs.Known.{Known, Setting, Outcome, after, with_it}
+use Rattle.dm_typing.specs.Conversions.{is_complete}
+use Rattle.dm_typing.specs.Specifiers.{Said, nothing_said, Where, of_declaration}
+use Rattle.dm_typing.specs.Typing.{is_file_scope, words_said, typed_said, steps_of, derived}
 use Rattle.dm_edecl.specs.Standing.{Standing, Progress, goes_on, stops, further, typing, keeps, with_constants}
 use Rattle.dm_edecl.specs.Linkages.{Storage, storage_of, is_extern, is_static, is_same_linkage, entry_of, may_be_declared, declared_here, number_here, kind_seen, object_here, is_defined}
 use Rattle.dm_edecl.specs.Initialising.{Initial, completed, expressions_alone, typed_initialiser}

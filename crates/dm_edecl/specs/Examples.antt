@@ -10,7 +10,7 @@ use Rattle.dm_type.specs.CTypes.{CType}
 use Rattle.dm_syn.specs.Trees.{Expr, Specifiers, Declarator, Direct, Initialiser, Stmt, External}
 use Rattle.dm_syn.specs.Trees as tree
 use Rattle.dm_tree.specs.Units as unit
-use Rattle.dm_eexpr.specs.Known.{Outcome, given, broken}
+use Rattle.dm_typing.specs.Known.{Outcome, given, broken}
 use Rattle.dm_edecl.specs.Units.{typed_unit}
 
 -- ---- tokens

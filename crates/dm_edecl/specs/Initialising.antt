@@ -16,11 +16,11 @@ use Rattle.dm_tree.specs.Initialisers.{is_character, Reach, place, start, reach}
 use Rattle.dm_tree.specs.Trees.{Label, Tree, Trees, node, no_trees, more_trees, kind_of, one_expression, in_braces, no_items, more_items}
 use Rattle.dm_tree.specs.Trees as label
 use Rattle.dm_tree.specs.Scenes.{is_scalar, part_type}
-use Rattle.dm_eexpr.specs.Known.{Known, Setting, Outcome, given, broken, after, obeys, if_given}
-use Rattle.dm_eexpr.specs.Conversions.{as_value, as_type, constant_of, is_null, element}
-use Rattle.dm_eexpr.specs.Rules.{is_assignable}
-use Rattle.dm_eexpr.specs.Sound.{scene_of}
-use Rattle.dm_eexpr.specs.Typing.{typed}
+use Rattle.dm_typing.specs.Known.{Known, Setting, Outcome, given, broken, after, obeys, if_given}
+use Rattle.dm_typing.specs.Conversions.{as_value, as_type, constant_of, is_null, element}
+use Rattle.dm_typing.specs.Rules.{is_assignable}
+use Rattle.dm_typing.specs.Sound.{scene_of}
+use Rattle.dm_typing.specs.Typing.{typed}
 
 -- an initialiser that is typed: how it is written, and its expressions in order
 pub record Initial : Type 0 where

@@ -16,9 +16,9 @@ use Rattle.dm_tree.specs.Initialisers.{is_object, is_function_sort}
 use Rattle.dm_tree.specs.Scenes.{is_function}
 use Rattle.dm_tree.specs.Typing.{has_linkage}
 use Rattle.dm_tree.specs.Units.{Declaration}
-use Rattle.dm_eexpr.specs.Known.{Known, Setting, place_at, meaning_of, declaring}
-use Rattle.dm_eexpr.specs.Conversions.{is_same}
-use Rattle.dm_eexpr.specs.Typing.{is_file_scope}
+use Rattle.dm_typing.specs.Known.{Known, Setting, place_at, meaning_of, declaring}
+use Rattle.dm_typing.specs.Conversions.{is_same}
+use Rattle.dm_typing.specs.Typing.{is_file_scope}
 use Rattle.dm_edecl.specs.Standing.{Linked, Standing}
 
 -- ---- storage-class specifiers (6.7.1)

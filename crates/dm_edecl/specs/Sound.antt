@@ -9,9 +9,9 @@ use Rattle.dm_tree.specs.Operands.{IsPromoted}
 use Rattle.dm_tree.specs.Scenes.{is_scalar}
 use Rattle.dm_tree.specs.Trees.{Tree, node, return, kind_of, listed}
 use Rattle.dm_tree.specs.Typing.{FitsReturn}
-use Rattle.dm_eexpr.specs.Known.{Known}
-use Rattle.dm_eexpr.specs.Conversions.{constant_of}
-use Rattle.dm_eexpr.specs.Sound.{IsSound, IsSoundValue}
+use Rattle.dm_typing.specs.Known.{Known}
+use Rattle.dm_typing.specs.Conversions.{constant_of}
+use Rattle.dm_typing.specs.Sound.{IsSound, IsSoundValue}
 use Rattle.dm_edecl.specs.Initialising.{Initial}
 use Rattle.dm_edecl.specs.Statements.{Subject, CaseValue}
 

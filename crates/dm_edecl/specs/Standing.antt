@@ -9,7 +9,7 @@ use Rattle.std.specs.FinMap as map
 use Rattle.dm_type.specs.CTypes.{CType}
 use Rattle.dm_scope.specs.Scopes.{Numbers}
 use Rattle.dm_tree.specs.Trees.{Tree}
-use Rattle.dm_eexpr.specs.Known.{Known, Outcome, given, broken}
+use Rattle.dm_typing.specs.Known.{Known, Outcome, given, broken}
 
 -- a declaration of an object or a function with linkage: the number of its entry, the type that it says, and whether it is a definition,
 -- a tentative one apart (6.9.1, 6.9.2)

@@ -14,10 +14,10 @@ use Rattle.dm_tree.specs.Trees.{Label, Tree, kind_of}
 use Rattle.dm_tree.specs.Trees as label
 use Rattle.dm_tree.specs.Scenes.{is_scalar, is_void}
 use Rattle.dm_tree.specs.Typing.{is_same_label}
-use Rattle.dm_eexpr.specs.Known.{Known, Setting, Outcome, given, after, with_it, obeys, if_given}
-use Rattle.dm_eexpr.specs.Conversions.{made, as_value, as_type, as_kind, promoted, constant_of}
-use Rattle.dm_eexpr.specs.Rules.{is_assignable}
-use Rattle.dm_eexpr.specs.Typing.{extent, typed}
+use Rattle.dm_typing.specs.Known.{Known, Setting, Outcome, given, after, with_it, obeys, if_given}
+use Rattle.dm_typing.specs.Conversions.{made, as_value, as_type, as_kind, promoted, constant_of}
+use Rattle.dm_typing.specs.Rules.{is_assignable}
+use Rattle.dm_typing.specs.Typing.{extent, typed}
 use Rattle.dm_edecl.specs.Standing.{Standing, Progress, goes_on, further, typing, keeps, in_scope}
 use Rattle.dm_edecl.specs.Declaring.{Declared, declarators_of, expressions_of, typed_declaration}
 

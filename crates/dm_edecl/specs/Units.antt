@@ -18,10 +18,10 @@ use Rattle.dm_tree.specs.Trees.{Tree}
 use Rattle.dm_tree.specs.Trees as label
 use Rattle.dm_tree.specs.Units.{declares, defines_function, TypedUnit}
 use Rattle.dm_tree.specs.Units as unit
-use Rattle.dm_eexpr.specs.Known.{Known, Setting, Outcome, given, broken, after, with_it, obeys}
-use Rattle.dm_eexpr.specs.Conversions.{is_complete}
-use Rattle.dm_eexpr.specs.Specifiers.{of_definition}
-use Rattle.dm_eexpr.specs.Typing.{TypedParameter, parameter_of, parameter_at, entered, is_no_parameters, without_void}
+use Rattle.dm_typing.specs.Known.{Known, Setting, Outcome, given, broken, after, with_it, obeys}
+use Rattle.dm_typing.specs.Conversions.{is_complete}
+use Rattle.dm_typing.specs.Specifiers.{of_definition}
+use Rattle.dm_typing.specs.Typing.{TypedParameter, parameter_of, parameter_at, entered, is_no_parameters, without_void}
 use Rattle.dm_edecl.specs.Standing.{Standing, Progress, goes_on, stops, further, typing, keeps, opened, closed, with_constants}
 use Rattle.dm_edecl.specs.Linkages.{entry_of, function_here, number_here, is_defined, with_whole_kinds}
 use Rattle.dm_edecl.specs.Declaring.{Specified, specified, typed_declarator, name_at, declarable, declarators_of, expressions_of, typed_declaration}

@@ -14,8 +14,8 @@ ghost use Rattle.dm_syn.specs.Statements.{IsOptional, IsInitialiser, IsDeclarati
 ghost use Rattle.dm_syn.specs.Trees.{Expr, Initialiser, Declaration, Stmt, External};
 ghost use Rattle.dm_tree.specs.Typing.{IsEntry, defined_functions};
 ghost use Rattle.dm_tree.specs.Units.{TypedUnit};
-ghost use Rattle.dm_eexpr.specs.Known.{Known, Setting, given};
-ghost use Rattle.dm_eexpr.specs.Sound.{IsProper, AreSoundTokens, IsSoundKnown, GivesMore, BreaksWithin};
+ghost use Rattle.dm_typing.specs.Known.{Known, Setting, given};
+ghost use Rattle.dm_typing.specs.Sound.{IsProper, AreSoundTokens, IsSoundKnown, GivesMore, BreaksWithin};
 ghost use Rattle.dm_edecl.specs.Standing.{Standing};
 ghost use Rattle.dm_edecl.specs.Linkages.{Storage, entry_of};
 ghost use Rattle.dm_edecl.specs.Initialising.{expressions_alone, typed_initialiser};

@@ -6,7 +6,7 @@ ghost use Rattle.dm_type.specs.CTypes.{integer, array};
 ghost use Rattle.dm_edecl.specs.Examples as examples;
 ghost use Rattle.dm_edecl.specs.Examples.{rule_of, kinds_of};
 
-#[tactic(auto, unfolding(crate::specs::Statements::typed_stmt, crate::specs::Initialising::typed_initialiser, crate::specs::Initialising::expressions_alone, dm_eexpr::specs::Typing::typed_within, dm_syn::specs::Sources::symbol_at, dm_syn::specs::Sources::spelling_at, dm_syn::specs::Symbols::symbol_of))]
+#[tactic(auto, unfolding(crate::specs::Statements::typed_stmt, crate::specs::Initialising::typed_initialiser, crate::specs::Initialising::expressions_alone, dm_typing::specs::Typing::typed_within, dm_syn::specs::Sources::symbol_at, dm_syn::specs::Sources::spelling_at, dm_syn::specs::Symbols::symbol_of))]
 fn the_first_broken_rule_has_a_place()
     // two types of one object (6.7p4)
     ensures twice { rule_of examples.twice_tokens examples.twice ≡ Some (2, 4) }
@@ -16,7 +16,7 @@ fn the_first_broken_rule_has_a_place()
     ensures surplus { rule_of examples.surplus_tokens examples.surplus ≡ Some (8, 6) }
 {}
 
-#[tactic(auto, unfolding(crate::specs::Statements::typed_stmt, crate::specs::Initialising::typed_initialiser, crate::specs::Initialising::expressions_alone, dm_eexpr::specs::Typing::typed_within, dm_syn::specs::Sources::symbol_at, dm_syn::specs::Sources::spelling_at, dm_syn::specs::Symbols::symbol_of))]
+#[tactic(auto, unfolding(crate::specs::Statements::typed_stmt, crate::specs::Initialising::typed_initialiser, crate::specs::Initialising::expressions_alone, dm_typing::specs::Typing::typed_within, dm_syn::specs::Sources::symbol_at, dm_syn::specs::Sources::spelling_at, dm_syn::specs::Symbols::symbol_of))]
 fn declarations_of_one_object_share_an_entry()
     // its type is the composite type (6.2.7p3)
     ensures completed { kinds_of examples.completed_tokens examples.completed ≡ Some (array (integer Int) (Some 2) ∷ []) }
