@@ -9,6 +9,7 @@ use Rattle.dm_type.specs.CTypes.{CType, void, pointer, array, bare}
 use Rattle.dm_type.specs.Tables.{Table}
 use Rattle.dm_tree.specs.declared.unit.Sort.{Sort}
 use Rattle.dm_tree.specs.declared.unit.Sort.TheVariants.{Object, Function, Enumerator}
+use Rattle.dm_tree.specs.Composites.{covers}
 use Rattle.dm_tree.specs.Constants.{integer_kind}
 use Rattle.dm_tree.specs.Trees.{Initialiser, Initialisers, one_expression, in_braces, no_items, more_items, Declarator, Label, literal, object, decay, convert as conversion, address, follow, member, binary, Spans, Tree, Trees, node, no_trees, more_trees, kind_of, spans_of, listed, expressions_in}
 use Rattle.dm_tree.specs.Units.{Declaration}
@@ -114,11 +115,12 @@ abbrev pub IsStaticValue : Scene → Tree → Type 0
 IsStaticValue scene tree =
     IsSome (constant_of scene tree) ⊎ (IsNullConstant scene (unconverted tree) ⊎ IsAddressConstant scene (unconverted tree))
 
--- the value of an expression initialises an object of a type, with static storage or without
+-- The value of an expression initialises an object of a type, with static storage or without. It was converted to the type that the object
+-- had then (6.7.9p11), which a later declaration may have completed.
 abbrev pub Initialises : Scene → Bool → CType → Tree → Type 0
 Initialises scene fixed (array type (Some many)) (node (literal bytes unit) kind spans parts) =
     IsTrue (is_character (integer_kind type)) × (length bytes ≤ many)
-Initialises scene fixed type tree = IsValue tree × IsTrue (is_scalar type) × (kind_of tree ≡ bare type) × (IsTrue fixed → IsStaticValue scene tree)
+Initialises scene fixed type tree = IsValue tree × IsTrue (is_scalar type) × IsTrue (covers (bare type) (kind_of tree)) × (IsTrue fixed → IsStaticValue scene tree)
 
 -- what a declaration's name stands for
 abbrev pub is_object : Sort → Bool

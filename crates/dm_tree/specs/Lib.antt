@@ -3,6 +3,7 @@ pub mod Paths
 pub mod Units
 pub mod Evaluation
 pub mod Constants
+pub mod Composites
 pub mod Scenes
 pub mod Operands
 pub mod Initialisers

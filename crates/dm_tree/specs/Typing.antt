@@ -17,6 +17,7 @@ use Rattle.dm_tree.specs.declared.unit.Linkage.{Linkage}
 use Rattle.dm_tree.specs.declared.unit.Linkage.TheVariants.{External as Outer, Absent}
 use Rattle.dm_tree.specs.declared.unit.Sort.{Sort}
 use Rattle.dm_tree.specs.declared.unit.Sort.TheVariants.{Object, Function, Typedef, Enumerator, Tag}
+use Rattle.dm_tree.specs.Composites.{covers}
 use Rattle.dm_tree.specs.Constants.{integer_kind}
 use Rattle.dm_tree.specs.Trees.{Label, number, enumerator, literal, object, function, read, decay, convert as conversion, address, follow, member, unary, binary, both, either, choose, comma, store, update, count, call, sizeof_tree, sizeof_kind, block, declare, full, empty, if_statement, switch, case, default, while_loop, do_loop, for_loop, break, continue, return, Tree, Trees, node, no_trees, more_trees, label_of, kind_of, listed, is_statement}
 use Rattle.dm_tree.specs.Units.{Declaration, External, ExternalForm, declares, defines_function, TypedUnit}
@@ -69,10 +70,10 @@ FitsSwitch scene operand items =
     IsValue operand × (kind_of operand ≡ bare (kind_of operand)) × IfSome (integer_kind (kind_of operand)) IsPromoted × IsTrue (is_integer (kind_of operand))
     × All IsStatement items × IsDistinct is_same_label (flat_map (labels_of scene) items)
 
--- a function gives back a value of its type, or none where that is void (6.8.6.4p1)
+-- a function gives back a value of its type, as its definition says it, or none where that is void (6.8.6.4p1, p3)
 abbrev pub FitsReturn : CType → List Tree → Type 0
 FitsReturn result [] = result ≡ void
-FitsReturn result (value ∷ []) = IsValue value × (kind_of value ≡ result) × IsTrue (not (is_void result))
+FitsReturn result (value ∷ []) = IsValue value × IsTrue (covers result (kind_of value)) × IsTrue (not (is_void result))
 FitsReturn result parts = ⊥
 
 -- ---- nodes
@@ -82,8 +83,8 @@ abbrev pub FitsExpression : Scene → Label → CType → List Tree → Type 0
 FitsExpression scene (number value) kind [] = IsNumber value kind
 FitsExpression scene (enumerator at) kind [] = Names scene at (λ entry. IsTrue (is_enumerator entry.sort)) × (kind ≡ integer k.Int)
 FitsExpression scene (literal bytes unit) kind [] = kind ≡ array (integer k.Char) (Some (length bytes + 1))
-FitsExpression scene (object at) kind [] = Names scene at (λ entry. IsTrue (is_object entry.sort && are_compatible entry.kind kind))
-FitsExpression scene (function at) kind [] = Names scene at (λ entry. IsTrue (is_function_sort entry.sort && are_compatible entry.kind kind))
+FitsExpression scene (object at) kind [] = Names scene at (λ entry. IsTrue (is_object entry.sort && covers entry.kind kind))
+FitsExpression scene (function at) kind [] = Names scene at (λ entry. IsTrue (is_function_sort entry.sort && covers entry.kind kind))
 FitsExpression scene read kind (a ∷ []) = IsLvalue a × IsTrue (not (is_array (kind_of a))) × (kind ≡ bare (kind_of a))
 FitsExpression scene decay kind (a ∷ []) = IsLvalue a × FitsDecay (kind_of a) kind
 FitsExpression scene conversion kind (a ∷ lengths) = IsValue a × Becomes scene a kind × All (IsConstant scene) lengths
