@@ -25,3 +25,4 @@ pub mod LaterLemmas
 pub mod ValueLemmas
 pub mod GivesLemmas
 pub mod RuleSteps
+pub mod BoundLemmas

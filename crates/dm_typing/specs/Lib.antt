@@ -8,4 +8,5 @@ pub mod Later
 pub mod Sound
 pub mod Examples
 pub mod Fitting
+pub mod Bounds
 pub mod Views
