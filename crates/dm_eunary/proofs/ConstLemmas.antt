@@ -13,11 +13,16 @@ use Rattle.dm_type.specs.CTypes.{CType, void, integer, pointer, array, struct, f
 use Rattle.dm_type.specs.TableLaws.{injected}
 use Rattle.dm_type.specs.Tables.{Table, type_of, as_is, members_of, IsId}
 use Rattle.dm_typing.specs.Conversions.{element, any_member, any_of, members_in, has_const_within, has_const}
-use Rattle.dm_eunary.specs.Parts.{has_const_elements, struct_inside, Stage, is_seen, noted, noted_inside, all_noted, HasKnownStruct}
+use Rattle.dm_eunary.specs.Parts.{has_const_elements, struct_inside, Stage, is_seen, noted, noted_inside, first_stage, all_noted, HasKnownStruct}
 use Rattle.dm_typing.specs.Typing.{number_if_struct}
 use Rattle.dm_typing.specs.Views.{Begins, type_over, table_over}
 use Rattle.dm_typing.proofs.CallLemmas.{one-of}
 use Rattle.dm_typing.proofs.LaterLemmas.{type-later}
+
+-- what is no Some is None
+pub none-from : {A : Type 0} (found : Option A) → ((it : A) → found ≡ Some it → ⊥) → found ≡ None
+none-from None never = refl
+none-from (Some it) never = absurd (never it refl)
 
 -- ---- types
 
@@ -342,7 +347,7 @@ Searching table start stage =
 
 -- the search begins
 pub begun : (table : Table) (start : CType) → IfSome (struct_inside start) (λ n. n < length table.structs)
-    → Searching table start (noted_inside (record { seen = replicate (length table.structs) false; left = [] }) (struct_inside start))
+    → Searching table start (first_stage table start)
 begun table start inside =
     let marks : List Bool = replicate (length table.structs) false in
     let stage : Stage = record { seen = marks; left = [] } in
@@ -418,6 +423,19 @@ members-on table start seen left all number members is some ids known none searc
     let count = next.0.1 in
     (steps, looked-on table start steps number last next.0.0 done, inside-keeps seen last.seen next.0.2 (struct_inside start) searching.2, omega (arith, bound, count))
 
+-- and there is one struct less to be looked at or seen
+pub fewer-on : (table : Table) (start : CType) (seen : List Bool) (left all : List ℕ) (number : ℕ) (members : List Member) → all ≡ left ++ number ∷ [] → members_of table number ≡ Some members
+    → All (λ (member : Member). IsId table member.kind) members → All (λ (member : Member). HasKnownStruct table member.kind) members
+    → Searching table start (record { seen = seen; left = all }) → (next : Stage) → next ≡ all_noted table (record { seen = seen; left = left }) members
+    → length next.left + unseen next.seen < length all + unseen seen
+fewer-on table start seen left all number members is some ids known searching next same =
+    let stage : Stage = record { seen = seen; left = left } in
+    let now = taken table start seen left all number is searching in
+    let count = (all-open table start (λ n. n ≡ number) (suc searching.0) stage members known (leads table start searching.0 number members some ids now.1) now.0).0.1 in
+    let l : length all ≡ length (left ++ number ∷ []) = ap length is in
+    let m = length-append left (number ∷ []) in
+    subst (λ (s : Stage). length s.left + unseen s.seen < length all + unseen seen) (sym same) (omega (arith, count, l, m))
+
 -- a const member is found
 pub found-on : (table : Table) (start : CType) (seen : List Bool) (left all : List ℕ) (number : ℕ) (members : List Member) → all ≡ left ++ number ∷ [] → members_of table number ≡ Some members
     → All (λ (member : Member). IsId table member.kind) members → any_member has_const_elements table members ≡ true
@@ -438,23 +456,26 @@ none-left table start seen plain searching = λ later begins.
 
 -- ---- one member after another
 
+one-more : (i : ℕ) → suc i ≡ i + 1
+one-more i = omega arith
+
 pub any-next : (test : CType → Bool) (table : Table) (members : List Member) (i : ℕ) (member : Member) → i < length members → member ≡ slice_index_or members i member
-    → any_member test table (drop i members) ≡ (test (type_of table member.kind) || any_member test table (drop (suc i) members))
+    → any_member test table (drop i members) ≡ (test (type_of table member.kind) || any_member test table (drop (i + 1) members))
 any-next test table members i member inside is =
     ap (any_member test table) (drop-cons members i member inside)
     ∙ ap (λ (one : Member). test (type_of table one.kind) || any_member test table (drop (suc i) members)) (sym is)
+    ∙ ap (λ n. test (type_of table member.kind) || any_member test table (drop n members)) (one-more i)
 
 pub noted-next : (table : Table) (stage next : Stage) (members : List Member) (i : ℕ) (member : Member) → i < length members → member ≡ slice_index_or members i member
-    → next ≡ noted_inside stage (struct_inside (type_of table member.kind)) → all_noted table next (drop (suc i) members) ≡ all_noted table stage (drop i members)
+    → next ≡ noted_inside stage (struct_inside (type_of table member.kind)) → all_noted table next (drop (i + 1) members) ≡ all_noted table stage (drop i members)
 noted-next table stage next members i member inside is noting =
-    ap (λ s. all_noted table s (drop (suc i) members)) noting
+    ap (λ n. all_noted table next (drop n members)) (sym (one-more i))
+    ∙ ap (λ s. all_noted table s (drop (suc i) members)) noting
     ∙ ap (λ (one : Member). all_noted table (noted_inside stage (struct_inside (type_of table one.kind))) (drop (suc i) members)) is
     ∙ sym (ap (all_noted table stage) (drop-cons members i member inside))
 
 pub known-next : (table : Table) (members : List Member) (i : ℕ) (member : Member) → i < length members → member ≡ slice_index_or members i member → HasKnownStruct table member.kind
-    → All (λ (one : Member). HasKnownStruct table one.kind) (take i members) → All (λ (one : Member). HasKnownStruct table one.kind) (take (suc i) members)
+    → All (λ (one : Member). HasKnownStruct table one.kind) (take i members) → All (λ (one : Member). HasKnownStruct table one.kind) (take (i + 1) members)
 known-next table members i member inside is known all =
     let P : Member → Type 0 = λ one. HasKnownStruct table one.kind in
-    let more : All P (take (i + 1) members) = All-more P members i member inside all (subst P is known) in
-    let next : i + 1 ≡ suc i = omega arith in
-    subst (λ n. All P (take n members)) next more
+    All-more P members i member inside all (subst P is known)

@@ -6,7 +6,7 @@ use Rattle.dm_int.specs.declared.Kind.TheVariants as k
 use Rattle.dm_int.specs.Kinds.{promote}
 use Rattle.dm_token.specs.declared.stop.Stop.{Stop}
 use Rattle.dm_type.specs.declared.shape.Shape.{Shape}
-use Rattle.dm_type.specs.CTypes.{CType, integer, bare}
+use Rattle.dm_type.specs.CTypes.{CType, integer}
 use Rattle.dm_type.specs.Tables.{type_of, IsId}
 use Rattle.dm_syn.specs.Sources.{Source}
 use Rattle.dm_syn.specs.declared.symbol.Symbol.{Symbol}
@@ -15,7 +15,8 @@ use Rattle.dm_tree.specs.declared.tree.Core.{Core, out-Core}
 use Rattle.dm_tree.specs.declared.tree.Sign.{Sign}
 use Rattle.dm_tree.specs.declared.tree.Sign.TheVariants as s
 use Rattle.dm_tree.specs.Constants.{integer_kind}
-use Rattle.dm_tree.specs.Scenes.{is_lvalue, is_array, is_integer, is_scalar, is_void, target, are_alike}
+use Rattle.dm_tree.specs.Operands.{are_convertible}
+use Rattle.dm_tree.specs.Scenes.{is_lvalue, is_array, is_integer, is_scalar, target}
 use Rattle.dm_tree.specs.Trees as label
 use Rattle.dm_tree.specs.Trees.{Tree, kind_of}
 use Rattle.dm_typing.specs.declared.extent.Extent.{Extent}
@@ -82,7 +83,7 @@ other-symbol setting known extent operator tree _ one two three = refl
 
 -- ---- C13
 
-and-four : (a b c d : Bool) → ((a && (b && c)) && d) ≡ (a && (b && (c && d)))
+and-four : (a b c d : Bool) → ((a && (b && c)) && d) ≡ (a && b && c && d)
 and-four true true c d = refl
 and-four true false c d = refl
 and-four false b c d = refl
@@ -101,10 +102,10 @@ whole-later held later core begins known =
     sym (ap (λ t. not (is_array t) && is_complete (known_over later held) t) (kind-later held.types.shapes later core begins known)
     ∙ ap (λ b. not (is_array (type_of held.types (out-Core core).kind)) && b) (complete-later later held (type_of held.types (out-Core core).kind) (type_of held.types (out-Core core).kind) refl))
 
-pub counts-later : (held : Held) (later : List Shape) (core : Core) → Begins held.types.shapes later → IsNumbered held.types core
+pub countable-later : (held : Held) (later : List Shape) (core : Core) → Begins held.types.shapes later → IsNumbered held.types core
     → (is_integer (type_of held.types (out-Core core).kind) || points_to_complete (seen held) (type_of held.types (out-Core core).kind))
     ≡ (is_integer (kind_of (view_over later core)) || points_to_complete (known_over later held) (kind_of (view_over later core)))
-counts-later held later core begins known =
+countable-later held later core begins known =
     sym (ap (λ t. is_integer t || points_to_complete (known_over later held) t) (kind-later held.types.shapes later core begins known)
     ∙ ap (λ o. is_integer (type_of held.types (out-Core core).kind) || is_some o) (complete-alone later held (type_of held.types (out-Core core).kind)))
 
@@ -114,15 +115,10 @@ pub cast-integer : (known : Known) (tree : Tree) (kind : Kind) → may_be_intege
 cast-integer known tree k.Bool = refl
 cast-integer known tree kind = refl
 
-or-four : (a b c d : Bool) → ((a || (b || c)) || d) ≡ (a || (b || (c || d)))
-or-four true b c d = refl
-or-four false true c d = refl
-or-four false false c d = refl
-
 -- a value becomes a pointer by what it points to itself
 pub becomes-some : (held : Held) (later : List Shape) (core : Core) (to from : ℕ) → Begins held.types.shapes later → IsNumbered held.types core → IsId held.types to → IsId held.types from
     → Some (type_of held.types from) ≡ target (type_of held.types (out-Core core).kind)
-    → ((are_alike (type_of held.types to) (type_of held.types from) || (is_void (bare (type_of held.types to)) || is_void (bare (type_of held.types from)))) || is_null (known_over later held) (view_over later core))
+    → (are_convertible (type_of held.types to) (type_of held.types from) || is_null (known_over later held) (view_over later core))
     ≡ may_become_pointer (known_over later held) (view_over later core) (type_over later to) (target (kind_of (view_over later core)))
 becomes-some held later core to from begins known within inside is =
     let over : Known = known_over later held in
@@ -130,8 +126,7 @@ becomes-some held later core to from begins known within inside is =
     let found : target (kind_of tree) ≡ Some (type_over later from) =
     ap target (kind-later held.types.shapes later core begins known) ∙ (sym is ∙ ap Some (sym (type-later held.types.shapes later from begins inside))) in
     sym (ap (may_become_pointer over tree (type_over later to)) found
-    ∙ ap₂ (λ t f. are_alike t f || (is_void (bare t) || (is_void (bare f) || is_null over tree))) (type-later held.types.shapes later to begins within) (type-later held.types.shapes later from begins inside)
-    ∙ sym (or-four (are_alike (type_of held.types to) (type_of held.types from)) (is_void (bare (type_of held.types to))) (is_void (bare (type_of held.types from))) (is_null over tree)))
+    ∙ ap₂ (λ t f. are_convertible t f || is_null over tree) (type-later held.types.shapes later to begins within) (type-later held.types.shapes later from begins inside))
 
 pub becomes-none : (held : Held) (later : List Shape) (core : Core) (to : CType) → Begins held.types.shapes later → IsNumbered held.types core
     → None ≡ target (type_of held.types (out-Core core).kind)

@@ -1,7 +1,7 @@
 -- The search for a const part of an object: which structs have been seen, and which of them are left to be looked at.
 --     struct_inside type      the struct of the elements of an array of arrays, or of an object
 --     noted stage number      a struct is seen, and is to be looked at unless it was seen before
-use Rattle.std.specs.Prelude.{ℕ, ◌<◌, length, IfSome, Bool, true, false, if◌then◌else◌, List, [], ◌∷◌, ◌++◌, Option, Some, None, slice_index_or, slice_set}
+use Rattle.std.specs.Prelude.{ℕ, ◌<◌, length, IfSome, Bool, true, false, if◌then◌else◌, List, [], ◌∷◌, ◌++◌, Option, Some, None, slice_index_or, slice_set, replicate}
 use Rattle.dm_type.specs.declared.shape.Member.{Member}
 use Rattle.dm_type.specs.CTypes.{CType, is_const}
 use Rattle.dm_type.specs.Tables.{Table, type_of}
@@ -33,6 +33,10 @@ noted stage number =
 abbrev pub noted_inside : Stage → Option ℕ → Stage
 noted_inside stage None = stage
 noted_inside stage (Some number) = noted stage number
+
+-- where the search for const parts of a type begins
+abbrev pub first_stage : Table → CType → Stage
+first_stage table type = noted_inside (record { seen = replicate (length table.structs) false; left = [] }) (struct_inside type)
 
 -- the structs inside the members of one
 abbrev pub all_noted : Table → Stage → List Member → Stage

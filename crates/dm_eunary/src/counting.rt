@@ -63,7 +63,7 @@ fn may_be_counted(typer: &Typer<'_>, known: &Known, operand: &Core) -> Result<bo
     ensures { IfOk result (λ may. (later : List OneShape) → Begins known.now.types.shapes later →
         may ≡ rules.may_be_counted (known_over later known.now) (view_over later operand.now)) }
 {
-    if !counts(known, operand.kind) {
+    if !is_countable(known, operand.kind) {
         return Ok(false);
     }
     let may = is_modifiable(typer, known, operand)?;
@@ -104,7 +104,7 @@ fn is_whole(known: &Known, id: TypeId) -> bool
 }
 
 /// Whether a type is an integer type or that of pointers to a complete object type.
-fn counts(known: &Known, id: TypeId) -> bool
+fn is_countable(known: &Known, id: TypeId) -> bool
     requires { IsId known.now.types id }
     ensures { result ≡ (scenes.is_integer (type_of known.now.types id) || rules.points_to_complete (seen known.now) (type_of known.now.types id)) }
 {

@@ -67,6 +67,20 @@ struct Search {
 }
 
 impl Search {
+    /// The struct inside a type is seen, if there is one, and no other.
+    fn new(alloc: Global, types: &Types, id: TypeId) -> Result<Search, Memory>
+        requires { IsId types.now id }
+        ensures begun { IfOk result (λ search. parts.stage_of search ≡ parts.first_stage types.now (type_of types.now id)) }
+        ensures known { OnOk result (parts.HasKnownStruct types.now id) }
+    {
+        let mut search = Search {
+            seen: Vec::from_elem(alloc, false, types.struct_count())?,
+            left: Vec::new(alloc),
+        };
+        search.note_inside(types, id)?;
+        Ok(search)
+    }
+
     /// A struct is seen, and is to be looked at unless it was seen before.
     fn note(&mut self, number: u32) -> Result<(), Memory>
         requires { number < length self.old.seen.items }
@@ -116,11 +130,7 @@ pub(crate) fn has_const(alloc: Global, types: &Types, id: TypeId) -> Result<bool
     if has_const_elements(types, id) {
         return Ok(true);
     }
-    let mut search = Search {
-        seen: Vec::from_elem(alloc, false, types.struct_count())?,
-        left: Vec::new(alloc),
-    };
-    search.note_inside(types, id)?;
+    let mut search = Search::new(alloc, types, id)?;
     while let Some(number) = search.left.pop() {
         let Some(members) = types.members(number) else {
             continue;

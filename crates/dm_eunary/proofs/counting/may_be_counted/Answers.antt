@@ -6,15 +6,15 @@ use Rattle.dm_tree.specs.Scenes.{is_integer}
 use Rattle.dm_tree.specs.Trees.{kind_of}
 use Rattle.dm_typing.specs.Rules.{is_modifiable, points_to_complete}
 use Rattle.dm_typing.specs.Views.{view_over, known_over}
-use Rattle.dm_eunary.proofs.UnaryLemmas.{counts-later, and-true}
+use Rattle.dm_eunary.proofs.UnaryLemmas.{countable-later, and-true}
 use Rattle.dm_eunary.proofs.counting.may_be_counted.Goals as goal
 
-pub returns-then-not-counts : goal.returns-then-not-counts
-returns-then-not-counts c = λ later begins.
+pub returns-then-not-is_countable : goal.returns-then-not-is_countable
+returns-then-not-is_countable c = λ later begins.
     let known = known_over later c.args.known.now in
     let tree = view_over later c.args.operand.now in
     sym (and_right (is_modifiable known tree) (is_integer (kind_of tree) || points_to_complete known (kind_of tree))
-    (sym (counts-later c.args.known.now later c.args.operand.now begins c.requires) ∙ (sym c.counts.ensures ∙ c.if-not-counts.true)))
+    (sym (countable-later c.args.known.now later c.args.operand.now begins c.requires) ∙ (sym c.is_countable.ensures ∙ c.if-not-is_countable.true)))
 
 pub returns : goal.returns
 returns c = λ later begins.
@@ -22,4 +22,4 @@ returns c = λ later begins.
     let tree = view_over later c.args.operand.now in
     c.in_ok-may.ensures later begins
     ∙ and-true (is_modifiable known tree) (is_integer (kind_of tree) || points_to_complete known (kind_of tree))
-    (sym (counts-later c.args.known.now later c.args.operand.now begins c.requires) ∙ (sym c.counts.ensures ∙ c.if-not-counts.false))
+    (sym (countable-later c.args.known.now later c.args.operand.now begins c.requires) ∙ (sym c.is_countable.ensures ∙ c.if-not-is_countable.false))

@@ -7,7 +7,9 @@ use Rattle.dm_tree.specs.Trees as label
 use Rattle.dm_tree.specs.TypeNumbers.{are_known}
 use Rattle.dm_typing.specs.Conversions.{made}
 use Rattle.dm_typing.specs.Known.{given}
+use Rattle.dm_typing.specs.Operators.{row_at}
 use Rattle.dm_typing.specs.Rules.{may_be_counted}
+use Rattle.dm_typing.specs.Typing.{is_plus_plus}
 use Rattle.dm_typing.specs.Views.{view_over, known_over, source_of, type_over}
 use Rattle.dm_typing.proofs.GivesLemmas.{obeyed, disobeyed, refused}
 use Rattle.dm_typing.proofs.LaterLemmas.{type-later}
@@ -31,7 +33,7 @@ returns-clause-gives c = λ later begins.
     ∙ ap (given known)
     (sym (c.in_ok-made.ensures.view (record { shapes = later; structs = [] })
     ∙ ap (λ plus. made source c.args.at (label.count plus c.args.before) (type_over later c.bare-kind.result) (tree ∷ [])) c.is_plus_plus.ensures
-    ∙ ap (λ type. made source c.args.at (label.count _ c.args.before) type (tree ∷ []))
+    ∙ ap (λ type. made source c.args.at (label.count (is_plus_plus (row_at source c.args.operator)) c.args.before) type (tree ∷ []))
     (type-later shapes later c.bare-kind.result begins c.bare-kind.ensures.0 ∙ (c.bare-kind.ensures.1 ∙ ap bare (sym (kind-later shapes later c.args.operand begins c.requires))))))
 
 pub returns-clause-numbered : goal.returns-clause-numbered

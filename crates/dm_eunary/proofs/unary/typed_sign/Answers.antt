@@ -18,7 +18,7 @@ returns-in-Some-Not-clause-gives c = λ later begins.
     gives-so {A = Core} (view_over later) (source_of c.args.typer.now) (known_over later c.typed_not.new.known) c.typed_not.result
     (typed_by_sign setting known c.args.at tree s.Not) (typed_sign setting known c.args.at c.args.operator tree)
     (sym (found-it (sign_at (source_of c.args.typer.now) c.args.operator) s.Not 16 c.args.at.inner.first (typed_by_sign setting known c.args.at tree)
-    (sym c.sign_at.ensures ∙ c.in-Some-Not.is)))
+    (sym c.sign_at.ensures ∙ (c.in-Some-Not.is ∙ ap Some c.in-Some-Not.field-0-is))))
     (c.typed_not.ensures.gives later begins)
 
 pub returns-in-Some-clause-gives : goal.returns-in-Some-clause-gives
