@@ -9,13 +9,13 @@ use Rattle.std.proofs.Math.Seq.{drop-cons}
 use Rattle.dm_type.specs.declared.shape.Shape.{Shape}
 use Rattle.dm_type.specs.declared.shape.Shape.TheVariants.{Void, Integer, Pointer, Array, Struct, Function, Const}
 use Rattle.dm_type.specs.declared.shape.Member.{Member}
-use Rattle.dm_type.specs.CTypes.{CType, void, integer, pointer, array, struct, function, const, is_const}
+use Rattle.dm_type.specs.CTypes.{CType, struct, is_const}
 use Rattle.dm_type.specs.TableLaws.{injected}
 use Rattle.dm_type.specs.Tables.{Table, type_of, as_is, members_of, IsId}
 use Rattle.dm_typing.specs.Conversions.{element, any_member, any_of, members_in, has_const_within, has_const}
 use Rattle.dm_eunary.specs.Parts.{has_const_elements, struct_inside, Stage, is_seen, noted, noted_inside, first_stage, all_noted, HasKnownStruct}
 use Rattle.dm_typing.specs.Typing.{number_if_struct}
-use Rattle.dm_typing.specs.Views.{Begins, type_over, table_over}
+use Rattle.dm_typing.specs.Views.{Begins, table_over}
 use Rattle.dm_typing.proofs.CallLemmas.{one-of}
 use Rattle.dm_typing.proofs.LaterLemmas.{type-later}
 

@@ -2,7 +2,6 @@
 use Rattle.std.proofs.Common.{ap, sym, ◌∙◌, subst}
 use Rattle.dm_type.specs.CTypes.{pointer}
 use Rattle.dm_type.specs.Tables.{as_is, types_of, IsShape}
-use Rattle.dm_tree.specs.Trees.{kind_of}
 use Rattle.dm_typing.specs.Rules.{may_be_cast}
 use Rattle.dm_typing.specs.Views.{view_over, known_over}
 use Rattle.dm_eunary.specs.Unary.{may_be_integer}

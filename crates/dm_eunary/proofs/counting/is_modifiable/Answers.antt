@@ -3,7 +3,6 @@ use Rattle.std.specs.Prelude.{not, ◌&&◌}
 use Rattle.std.proofs.Common.{ap, sym, ◌∙◌}
 use Rattle.dm_tree.specs.Trees.{kind_of}
 use Rattle.dm_typing.specs.Conversions.{has_const}
-use Rattle.dm_eunary.specs.Unary.{is_whole_object}
 use Rattle.dm_typing.specs.Views.{view_over, known_over}
 use Rattle.dm_eunary.proofs.UnaryLemmas.{modifiable-is}
 use Rattle.dm_typing.proofs.ValueLemmas.{kind-later}

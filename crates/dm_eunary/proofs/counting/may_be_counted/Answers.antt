@@ -1,6 +1,6 @@
 -- A modifiable lvalue of a type that counts.
-use Rattle.std.specs.Prelude.{◌&&◌, ◌||◌, true}
-use Rattle.std.proofs.Common.{ap, sym, ◌∙◌}
+use Rattle.std.specs.Prelude.{◌||◌}
+use Rattle.std.proofs.Common.{sym, ◌∙◌}
 use Rattle.std.proofs.lemmas.Bool.{and_right}
 use Rattle.dm_tree.specs.Scenes.{is_integer}
 use Rattle.dm_tree.specs.Trees.{kind_of}

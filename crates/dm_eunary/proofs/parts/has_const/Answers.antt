@@ -1,11 +1,11 @@
 -- One struct after another.
-use Rattle.std.proofs.Common.{◌≡◌, [], length, rules, sym, ap, ◌∙◌, subst, arith}
+use Rattle.std.proofs.Common.{◌≡◌, [], length, rules, sym, ap, ◌∙◌, subst}
 use Rattle.std.specs.Prelude.{option_copied}
 use Rattle.std.proofs.lemmas.List.{nil_from_length}
 use Rattle.dm_type.specs.CTypes.{CType}
 use Rattle.dm_type.specs.Tables.{Table, type_of}
 use Rattle.dm_typing.specs.Views.{table_over}
-use Rattle.dm_eunary.specs.Parts.{Stage, stage_of}
+use Rattle.dm_eunary.specs.Parts.{stage_of}
 use Rattle.dm_eunary.proofs.ConstLemmas.{Searching, none-from, const-itself, begun, taken, unknown-on, members-on, fewer-on, found-on, none-left}
 use Rattle.dm_eunary.proofs.parts.has_const.Goals as goal
 

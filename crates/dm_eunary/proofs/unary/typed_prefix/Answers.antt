@@ -2,8 +2,7 @@
 use Rattle.std.proofs.Common.{ap, sym, ◌∙◌}
 use Rattle.dm_syn.specs.Sources.{symbol_at}
 use Rattle.dm_tree.specs.declared.tree.Core.{Core}
-use Rattle.dm_typing.specs.Conversions.{as_value}
-use Rattle.dm_typing.specs.Typing.{typed_prefix, typed_count, typed_address, typed_follow, typed_sign}
+use Rattle.dm_typing.specs.Typing.{typed_prefix}
 use Rattle.dm_typing.specs.Views.{view_over, known_over, source_of, setting_of}
 use Rattle.dm_eunary.proofs.UnaryLemmas.{gives-so, other-symbol}
 use Rattle.dm_eunary.proofs.unary.typed_prefix.Goals as goal

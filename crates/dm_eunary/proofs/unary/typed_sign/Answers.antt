@@ -1,5 +1,5 @@
 -- By the sign.
-use Rattle.std.specs.Prelude.{Some, None}
+use Rattle.std.specs.Prelude.{Some}
 use Rattle.std.proofs.Common.{ap, sym, ◌∙◌}
 use Rattle.dm_tree.specs.declared.tree.Core.{Core}
 use Rattle.dm_tree.specs.declared.tree.Sign.TheVariants as s

@@ -1,5 +1,5 @@
 -- The operator has the value of the operand.
-use Rattle.std.proofs.Common.{ap₂, sym, ◌∙◌}
+use Rattle.std.proofs.Common.{ap₂, sym}
 use Rattle.dm_tree.specs.declared.tree.Core.{Core}
 use Rattle.dm_typing.specs.Conversions.{as_value}
 use Rattle.dm_typing.specs.Typing.{typed_sign}

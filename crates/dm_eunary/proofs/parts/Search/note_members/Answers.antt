@@ -1,5 +1,5 @@
 -- One member more.
-use Rattle.std.proofs.Common.{ap, sym, ◌∙◌}
+use Rattle.std.proofs.Common.{◌∙◌}
 use Rattle.dm_eunary.specs.Parts.{stage_of}
 use Rattle.dm_eunary.proofs.ConstLemmas.{noted-next, known-next}
 use Rattle.dm_eunary.proofs.parts.Search.note_members.Goals as goal
