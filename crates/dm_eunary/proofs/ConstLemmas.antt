@@ -36,15 +36,6 @@ element-other types (Struct number) never = refl
 element-other types (Function result parameters) never = refl
 element-other types (Const id) never = refl
 
-pub number-other : (types : List CType) (shape : Shape) → ((number : ℕ) → shape ≡ Struct number → ⊥) → number_if_struct (as_is types shape) ≡ None
-number-other types Void never = refl
-number-other types (Integer kind) never = refl
-number-other types (Pointer id) never = refl
-number-other types (Array id count) never = refl
-number-other types (Struct number) never = absurd (never number refl)
-number-other types (Function result parameters) never = refl
-number-other types (Const id) never = refl
-
 is-struct : (type : CType) (n : ℕ) → number_if_struct type ≡ Some n → type ≡ struct n
 is-struct (struct m) n h = ap struct (injected m n h)
 is-struct type n h = absurd (cc)
@@ -57,10 +48,10 @@ unseen [] = 0
 unseen (true ∷ seen) = unseen seen
 unseen (false ∷ seen) = suc (unseen seen)
 
-unseen-least : (seen : List Bool) → unseen seen ≤ length seen
-unseen-least [] = omega arith
-unseen-least (true ∷ seen) = let h = unseen-least seen in omega (arith, h)
-unseen-least (false ∷ seen) = let h = unseen-least seen in omega (arith, h)
+unseen-within : (seen : List Bool) → unseen seen ≤ length seen
+unseen-within [] = omega arith
+unseen-within (true ∷ seen) = let h = unseen-within seen in omega (arith, h)
+unseen-within (false ∷ seen) = let h = unseen-within seen in omega (arith, h)
 
 unseen-set : (seen : List Bool) (n : ℕ) → n < length seen → is_seen seen n ≡ false → suc (unseen (slice_set seen n true)) ≡ unseen seen
 unseen-set [] n inside is = absurd (omega (arith, inside))
@@ -360,7 +351,7 @@ begun table start inside =
     } in
     let one = inside-open table start (λ n. ⊥) 0 stage (struct_inside start) inside (λ n is. reach-first table start n is) state in
     let count = one.0.1 in
-    let least = unseen-least marks in
+    let least = unseen-within marks in
     (0, one.0.0, one.1, omega (arith, count, least, size))
 
 -- a struct is taken

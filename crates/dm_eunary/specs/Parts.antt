@@ -13,23 +13,30 @@ use Rattle.dm_typing.specs.Typing.{number_if_struct}
 abbrev pub has_const_elements : CType → Bool
 has_const_elements type = is_const (element type)
 
+-- the struct of the elements of an array of arrays, or of an object
 abbrev pub struct_inside : CType → Option ℕ
 struct_inside type = number_if_struct (element type)
 
+-- how far a search is
 pub record Stage : Type 0 where
+  -- whether each struct has been seen
   pub seen : List Bool
+  -- those that have been seen, and not been looked at
   pub left : List ℕ
 
+-- as the code has it
 abbrev pub stage_of : Search → Stage
 stage_of search = record { seen = search.seen.items; left = search.left.items }
 
 abbrev pub is_seen : List Bool → ℕ → Bool
 is_seen seen number = slice_index_or seen number false
 
+-- a struct is seen, and is to be looked at unless it was seen before
 abbrev pub noted : Stage → ℕ → Stage
 noted stage number =
     if is_seen stage.seen number then stage else record { seen = slice_set stage.seen number true; left = stage.left ++ number ∷ [] }
 
+-- the struct inside a type is, if there is one
 abbrev pub noted_inside : Stage → Option ℕ → Stage
 noted_inside stage None = stage
 noted_inside stage (Some number) = noted stage number

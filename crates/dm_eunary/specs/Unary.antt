@@ -12,10 +12,9 @@ use Rattle.dm_tree.specs.Trees as label
 use Rattle.dm_tree.specs.Trees.{Tree, kind_of}
 use Rattle.dm_typing.specs.declared.extent.Extent.{Extent}
 use Rattle.dm_typing.specs.Known.{Known, Setting, Outcome, given, if_given}
-use Rattle.dm_typing.specs.Conversions.{made, as_value, is_complete}
+use Rattle.dm_typing.specs.Conversions.{made, is_complete}
 use Rattle.dm_typing.specs.Operators.{row_at, sign_of_row}
 use Rattle.dm_typing.specs.Rules.{signed}
-use Rattle.dm_typing.specs.Typing.{typed_follow, typed_sign}
 
 -- the sign that a token is
 abbrev pub sign_at : Source → ℕ → Option Sign
@@ -25,13 +24,6 @@ sign_at source operator = option_and_then sign_of_row (row_at source operator)
 abbrev pub typed_by_sign : Setting → Known → Extent → Tree → Sign → Outcome Tree
 typed_by_sign setting known extent operand sign =
     if_given (signed sign operand) 16 extent.inner.first (λ (converted, kind). given known (made setting.source extent (label.unary sign) kind (converted ∷ [])))
-
--- prefix operators that have the value of their operand
-abbrev pub typed_value_followed : Setting → Known → Extent → Tree → Outcome Tree
-typed_value_followed setting known extent operand = typed_follow setting known extent (as_value operand)
-
-abbrev pub typed_value_signed : Setting → Known → Extent → ℕ → Tree → Outcome Tree
-typed_value_signed setting known extent operator operand = typed_sign setting known extent operator (as_value operand)
 
 -- a value of a type may become one of a kind
 abbrev pub may_be_integer : CType → Kind → Bool

@@ -4,6 +4,7 @@ ghost use Rattle.std.specs.Prelude.{◌≡◌, ◌≢◌, List, IfOk};
 ghost use Rattle.dm_tree.specs.declared.tree.Sign.TheVariants as sign_of;
 ghost use Rattle.dm_type.specs.declared.shape.Shape.{Shape as OneShape};
 ghost use Rattle.dm_syn.specs.Sources.{symbol_at};
+ghost use Rattle.dm_typing.specs.Conversions as conversions;
 ghost use Rattle.dm_typing.specs.Fitting.{IsNumbered};
 ghost use Rattle.dm_typing.specs.Operators as operators;
 ghost use Rattle.dm_typing.specs.Typing as typing;
@@ -63,7 +64,7 @@ fn typed_value_followed(
 ) -> Result<Core, Stop>
     requires { IsNumbered known.old.types operand }
     ensures gives { (later : List OneShape) → Begins known.new.types.shapes later → Gives (view_over later) (source_of typer.now) (known_over later known.new) result
-        (unary.typed_value_followed (setting_of typer.now) (known_over later known.old) at (view_over later operand)) }
+        (typing.typed_follow (setting_of typer.now) (known_over later known.old) at (conversions.as_value (view_over later operand))) }
     ensures numbered { IfOk result (IsNumbered known.new.types) }
     ensures grows { Grows known.old known.new }
 {
@@ -81,7 +82,7 @@ fn typed_value_signed(
 ) -> Result<Core, Stop>
     requires { IsNumbered known.old.types operand }
     ensures gives { (later : List OneShape) → Begins known.new.types.shapes later → Gives (view_over later) (source_of typer.now) (known_over later known.new) result
-        (unary.typed_value_signed (setting_of typer.now) (known_over later known.old) at operator (view_over later operand)) }
+        (typing.typed_sign (setting_of typer.now) (known_over later known.old) at operator (conversions.as_value (view_over later operand))) }
     ensures numbered { IfOk result (IsNumbered known.new.types) }
     ensures grows { Grows known.old known.new }
 {
