@@ -1,0 +1,26 @@
+-- A pointer is moved back, or two have a distance.
+use Rattle.std.specs.Prelude.{Some, true, false, []}
+use Rattle.std.proofs.Common.{ap, sym, ◌∙◌}
+use Rattle.dm_typing.specs.Rules.{pair}
+use Rattle.dm_typing.specs.Views.{view_over}
+use Rattle.dm_ebinary.proofs.BinaryLemmas.{difference-moves, difference-apart}
+use Rattle.dm_typing.proofs.LaterLemmas.{begins-on}
+use Rattle.dm_typing.proofs.ValueLemmas.{kind-view}
+use Rattle.dm_ebinary.proofs.operations.subtracted.Goals as goal
+
+pub returns-then-moves_by-clause-pair : goal.returns-then-moves_by-clause-pair
+returns-then-moves_by-clause-pair c = λ later begins.
+    ap (λ type. Some (pair (view_over later c.args.a) (view_over later c.args.b) type)) (sym (kind-view (record { shapes = later; structs = [] }) c.args.a))
+    ∙ sym (difference-moves c.args.known.now later c.args.a c.args.b begins c.requires.left c.requires.right (sym c.moves_by.ensures ∙ c.if-moves_by.true))
+
+pub returns-then-not-have_distance-clause-pair : goal.returns-then-not-have_distance-clause-pair
+returns-then-not-have_distance-clause-pair c = λ later begins.
+    sym (difference-apart c.args.known.now later c.args.a c.args.b begins c.requires.left c.requires.right (sym c.moves_by.ensures ∙ c.if-moves_by.false)
+    false (sym c.have_distance.ensures ∙ c.if-not-have_distance.true))
+
+pub returns-clause-pair : goal.returns-clause-pair
+returns-clause-pair c = λ later begins.
+    ap Some (c.in_ok-pair.ensures.pair later begins)
+    ∙ sym (difference-apart c.args.known.now later c.args.a c.args.b (begins-on c.args.known.now.types.shapes c.with_kind.new.known.types.shapes later c.with_kind.ensures.grows.shapes begins)
+    c.requires.left c.requires.right (sym c.moves_by.ensures ∙ c.if-moves_by.false)
+    true (sym c.have_distance.ensures ∙ c.if-not-have_distance.false))
