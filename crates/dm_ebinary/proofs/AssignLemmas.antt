@@ -18,7 +18,7 @@ use Rattle.dm_tree.specs.Scenes.{target, is_integer, is_scalar}
 use Rattle.dm_tree.specs.Trees.{Tree, kind_of}
 use Rattle.dm_typing.specs.declared.extent.Extent.{Extent}
 use Rattle.dm_typing.specs.declared.known.Known.{Known as Held}
-use Rattle.dm_ebinary.specs.declared.operations.Sides.{Sides}
+use Rattle.dm_ebinary.specs.declared.ways.Sides.{Sides}
 use Rattle.dm_typing.specs.Conversions.{is_same, is_null, as_type, as_kind}
 use Rattle.dm_typing.specs.Fitting.{IsNumbered}
 use Rattle.dm_typing.specs.Known.{Known, Setting}
@@ -38,8 +38,8 @@ use Rattle.dm_typing.proofs.ValueLemmas.{kind-later, kind-view, bare-later}
 -- an assignment other than = is compound
 pub assignment-other : (setting : Setting) (known : Known) (extent : Extent) (operator : ℕ) (object value : Tree) (it : Symbol) → (it ≡ symbol.Equals → ⊥)
     → typed_assignment setting known extent operator object value it ≡ typed_update setting known extent object value (option_and_then operator_of_assignment (row_at setting.source operator))
-assignment-other setting known extent operator object value symbol.Equals no = absurd (no refl)
-assignment-other setting known extent operator object value it no = refl
+assignment-other setting known extent operator object value symbol.Equals unlike = absurd (unlike refl)
+assignment-other setting known extent operator object value it unlike = refl
 
 -- ---- what may be assigned
 
@@ -60,13 +60,13 @@ kinds-fit known tree k.ULLong = refl
 -- nothing is assigned to an object of another type
 pub never-assignable : (known : Known) (tree : Tree) (types : List CType) (shape : Shape) → ((kind : Kind) → shape ≡ Integer kind → ⊥) → ((to : ℕ) → shape ≡ Pointer to → ⊥)
     → ((n : ℕ) → shape ≡ Struct n → ⊥) → assignable_to known tree (as_is types shape) ≡ false
-never-assignable known tree types Void no nor neither = refl
-never-assignable known tree types (Integer kind) no nor neither = absurd (no kind refl)
-never-assignable known tree types (Pointer to) no nor neither = absurd (nor to refl)
-never-assignable known tree types (Array id n) no nor neither = refl
-never-assignable known tree types (Struct n) no nor neither = absurd (neither n refl)
-never-assignable known tree types (Function result parameters) no nor neither = refl
-never-assignable known tree types (Const id) no nor neither = refl
+never-assignable known tree types Void one two three = refl
+never-assignable known tree types (Integer kind) one two three = absurd (one kind refl)
+never-assignable known tree types (Pointer to) one two three = absurd (two to refl)
+never-assignable known tree types (Array id n) one two three = refl
+never-assignable known tree types (Struct n) one two three = absurd (three n refl)
+never-assignable known tree types (Function result parameters) one two three = refl
+never-assignable known tree types (Const id) one two three = refl
 
 module _ (held : Held) (later : List Shape) (value : Core) (begins : Begins held.types.shapes later) (numbered : IsNumbered held.types value) where
   abbrev tree : Tree
@@ -121,6 +121,10 @@ kinds-both known op type value None (Some right) kinds h = absurd (cc)
 kinds-both known op type value (Some left) None kinds h = absurd (cc)
 kinds-both known op type value None None kinds h = absurd (cc)
 
+-- the type in which an operator works, and its right operand, by the kinds to which they are brought
+abbrev pub brought-kinds : Tree → Sides → CType × Tree
+brought-kinds value it = (integer it.left, as_kind it.right value)
+
 -- the kinds to which the operands are brought
 pub update-brought : (op : Op) (left right : Kind) (value : Tree)
     → updated_integer op left right value ≡ (integer (sides_of op left right).left, as_kind (sides_of op left right).right value)
@@ -141,8 +145,8 @@ update-brought o.And left right value = refl
 update-brought o.Xor left right value = refl
 update-brought o.Or left right value = refl
 
-pub two-parts : (one type : CType) (value tree : Tree) → one ≡ type → value ≡ tree → (one, value) ≡ (type, tree)
-two-parts one type value tree p q = ap (λ t. (t, value)) p ∙ ap (λ t. (type, t)) q
+pub two-parts : (one type : CType) (value other : Tree) → one ≡ type → value ≡ other → ◌≡◌ {A = CType × Tree} (one, value) (type, other)
+two-parts one type value other p q = ap (λ t. (t, value)) p ∙ ap (λ t. (type, t)) q
 
 module _ (held : Held) (later : List Shape) (op : Op) (object plain : ℕ) (value : Core) (begins : Begins held.types.shapes later) (inside : IsId held.types object)
     (numbered : IsNumbered held.types value) where
@@ -180,10 +184,10 @@ module _ (held : Held) (later : List Shape) (op : Op) (object plain : ℕ) (valu
         ∙ ap (λ t. moved_if (is_integer (kind_of operand) && moves op && is_some t) (type_over later plain)) (complete-alone later held (type_of held.types plain)))
 
 -- what moves a pointer, whatever numbers come
-pub move-later : (held : Held) (later : List Shape) (op : Op) (pointer : CType) (value : Core) → Begins held.types.shapes later → IsNumbered held.types value
-    → (test : Bool) → test ≡ may_move (seen held) op pointer (type_of held.types (out-Core value).kind) → may_move (seen held) op pointer (kind_of (view_over later value)) ≡ test
-move-later held later op pointer value begins numbered test h =
-    ap (may_move (seen held) op pointer) (kind-later held.types.shapes later value begins numbered) ∙ sym h
+pub move-later : (held : Held) (later : List Shape) (op : Op) (to : CType) (value : Core) → Begins held.types.shapes later → IsNumbered held.types value
+    → (test : Bool) → test ≡ may_move (seen held) op to (type_of held.types (out-Core value).kind) → may_move (seen held) op to (kind_of (view_over later value)) ≡ test
+move-later held later op to value begins numbered test h =
+    ap (may_move (seen held) op to) (kind-later held.types.shapes later value begins numbered) ∙ sym h
 
 -- an object that may not be written is not updated
 pub not-updated : (known : Known) (op : Op) (object value : Tree) → false ≡ is_modifiable known object → updated known op object value ≡ None

@@ -1,6 +1,6 @@
 -- Operators between two operands, as the code types them.
-use Rattle.std.specs.Prelude.{◌≡◌, ℕ, Bool, true, false, ◌&&◌, if◌then◌else◌, is_some, IsTrue, List, ◌∷◌, [], length, Option, Some, None, option_map, option_and_then, Result, refl}
-use Rattle.std.proofs.Common.{sym, ap, ◌∙◌, subst}
+use Rattle.std.specs.Prelude.{◌≡◌, ℕ, ◌<◌, Bool, true, false, ◌&&◌, if◌then◌else◌, is_some, IsTrue, List, ◌∷◌, [], length, Option, Some, None, option_map, option_and_then, Result, refl}
+use Rattle.std.proofs.Common.{sym, ap, ◌∙◌, subst, arith}
 use Rattle.dm_token.specs.declared.stop.Stop.{Stop}
 use Rattle.dm_int.specs.declared.Kind.{Kind}
 use Rattle.dm_int.specs.declared.Kind.TheVariants as k
@@ -19,29 +19,29 @@ use Rattle.dm_tree.specs.Scenes.{is_integer, is_pointer}
 use Rattle.dm_tree.specs.Trees.{Tree, kind_of}
 use Rattle.dm_typing.specs.declared.extent.Extent.{Extent}
 use Rattle.dm_typing.specs.declared.known.Known.{Known as Held}
-use Rattle.dm_ebinary.specs.declared.operations.Sides.{Sides}
+use Rattle.dm_ebinary.specs.declared.ways.Sides.{Sides}
 use Rattle.dm_ebinary.specs.declared.operations.Brought.{Brought}
 use Rattle.dm_ebinary.specs.declared.operations.Brought.TheVariants as brought
 use Rattle.dm_typing.specs.Known.{Known, Setting, Outcome}
 use Rattle.dm_typing.specs.Operators.{row_at, operator_of_row}
 use Rattle.dm_typing.specs.Conversions.{complete_target, as_type, as_kind, is_null}
 use Rattle.dm_typing.specs.Fitting.{IsNumbered}
-use Rattle.dm_ebinary.specs.Pairs.{both_kinds, sides_of, by_kinds, family_of, by_family, moves_by, have_distance, is_beside_null, equal_by, equated_by}
+use Rattle.dm_ebinary.specs.Pairs.{both_kinds, sides_of, pair_by, IsWay, compared_as, by_kinds, family_of, by_family, moves_by, have_distance, is_beside_null, equal_by, equated_by}
 use Rattle.dm_typing.specs.Rules.{Pair, pair, indexed, points_to_complete, point_alike, is_void_pointer, of_integers, of_pointer_and_integer, of_others, of_kinds, operated, ordered, equated}
 use Rattle.dm_typing.specs.Typing.{typed_operation, typed_binary}
 use Rattle.dm_typing.specs.Views.{Begins, type_over, view_over, known_over, seen, Grows, Gives}
 use Rattle.dm_typing.proofs.GivesLemmas.{complete-alone}
-use Rattle.dm_typing.proofs.LaterLemmas.{begins-on}
-use Rattle.dm_typing.proofs.ValueLemmas.{kind-later}
+use Rattle.dm_typing.proofs.LaterLemmas.{begins-on, begins-length}
+use Rattle.dm_typing.proofs.ValueLemmas.{kind-later, kind-view, kind-known}
 
 -- ---- symbols
 
 -- an operator that is neither && nor || is one on values
 pub binary-other : (setting : Setting) (known : Known) (extent : Extent) (operator : ℕ) (a b : Tree) (it : Symbol) → (it ≡ symbol.And → ⊥) → (it ≡ symbol.Or → ⊥)
     → typed_binary setting known extent operator a b it ≡ typed_operation setting known extent a b (option_and_then operator_of_row (row_at setting.source operator))
-binary-other setting known extent operator a b symbol.And no nor = absurd (no refl)
-binary-other setting known extent operator a b symbol.Or no nor = absurd (nor refl)
-binary-other setting known extent operator a b it no nor = refl
+binary-other setting known extent operator a b symbol.And one other = absurd (one refl)
+binary-other setting known extent operator a b symbol.Or one other = absurd (other refl)
+binary-other setting known extent operator a b it one other = refl
 
 -- what is given, by an equal outcome
 pub gives-same : {A B : Type 0} (view : A → B) (source : Source) (behind : Known) (result : Result A Stop) (one other : Outcome B) → one ≡ other
@@ -268,20 +268,20 @@ module _ (held : Held) (later : List Shape) (a b : Core) (begins : Begins held.t
           pub equal-never : false ≡ (is_pointer (type_of held.types (out-Core a).kind) && is_void_pointer (type_of held.types (out-Core b).kind)) → None ≡ equal_by now one other
           equal-never h = sym (step-void ∙ ap (λ t. first_of false false false false t) (right-void-is false h))
 
-tests-decide : (alike right_null left_null left_void right_void : Bool) (a b : Tree)
+tests-decide : (alike second_null first_null first_void second_void : Bool) (a b : Tree)
     → (if alike then Some (pair a b (integer k.Int))
-    else if right_null then Some (pair a (as_type (kind_of a) b) (integer k.Int))
-    else if left_null then Some (pair (as_type (kind_of b) a) b (integer k.Int))
-    else if left_void then Some (pair a (as_type (kind_of a) b) (integer k.Int))
-    else if right_void then Some (pair (as_type (kind_of b) a) b (integer k.Int))
+    else if second_null then Some (pair a (as_type (kind_of a) b) (integer k.Int))
+    else if first_null then Some (pair (as_type (kind_of b) a) b (integer k.Int))
+    else if first_void then Some (pair a (as_type (kind_of a) b) (integer k.Int))
+    else if second_void then Some (pair (as_type (kind_of b) a) b (integer k.Int))
     else None)
     ≡ option_map (equated_by a b)
-    (if alike then Some brought.Neither else if right_null then Some brought.Right else if left_null then Some brought.Left
-    else if left_void then Some brought.Right else if right_void then Some brought.Left else None)
-tests-decide true right_null left_null left_void right_void a b = refl
-tests-decide false true left_null left_void right_void a b = refl
-tests-decide false false true left_void right_void a b = refl
-tests-decide false false false true right_void a b = refl
+    (if alike then Some brought.Neither else if second_null then Some brought.Right else if first_null then Some brought.Left
+    else if first_void then Some brought.Right else if second_void then Some brought.Left else None)
+tests-decide true second_null first_null first_void second_void a b = refl
+tests-decide false true first_null first_void second_void a b = refl
+tests-decide false false true first_void second_void a b = refl
+tests-decide false false false true second_void a b = refl
 tests-decide false false false false true a b = refl
 tests-decide false false false false false a b = refl
 
@@ -290,3 +290,27 @@ pub equated-brought : (known : Known) (a b : Tree) → equated known a b ≡ opt
 equated-brought known a b =
     tests-decide (point_alike (kind_of a) (kind_of b)) (is_beside_null known (kind_of a) b) (is_beside_null known (kind_of b) a)
     (is_void_pointer (kind_of a) && is_pointer (kind_of b)) (is_pointer (kind_of a) && is_void_pointer (kind_of b)) a b
+
+-- ---- what the code finds
+
+pub still-numbered : (a b : List Shape) (id : ℕ) → Begins a b → id < length a → id < length b
+still-numbered a b id begins inside = let le = begins-length a b begins in omega (arith, le, inside)
+
+-- two pointers of which one is converted, by the numbers of their types
+pub compared-so : (later : List Shape) (a b : Core) (it : Brought) (kind : ℕ) → type_over later kind ≡ integer k.Int
+    → pair_by later (view_over later a) (view_over later b) (compared_as it (out-Core a).kind (out-Core b).kind kind) ≡ equated_by (view_over later a) (view_over later b) it
+compared-so later a b brought.Neither kind h = ap (pair (view_over later a) (view_over later b)) h
+compared-so later a b brought.Right kind h =
+    ap (pair (view_over later a) (as_type (type_over later (out-Core a).kind) (view_over later b))) h
+    ∙ ap (λ t. pair (view_over later a) (as_type t (view_over later b)) (integer k.Int)) (sym (kind-view (record { shapes = later; structs = [] }) a))
+compared-so later a b brought.Left kind h =
+    ap (pair (as_type (type_over later (out-Core b).kind) (view_over later a)) (view_over later b)) h
+    ∙ ap (λ t. pair (as_type t (view_over later a)) (view_over later b) (integer k.Int)) (sym (kind-view (record { shapes = later; structs = [] }) b))
+
+pub compared-numbered : (old new : Table) (a b : Core) (it : Brought) (kind : ℕ) → Begins old.shapes new.shapes → IsNumbered old a → IsNumbered old b → IsId new kind
+    → IsWay new (compared_as it (out-Core a).kind (out-Core b).kind kind)
+compared-numbered old new a b brought.Neither kind begins left right inside = (tt, tt, inside)
+compared-numbered old new a b brought.Right kind begins left right inside =
+    (tt, still-numbered old.shapes new.shapes (out-Core a).kind begins (kind-known (length old.shapes) a left), inside)
+compared-numbered old new a b brought.Left kind begins left right inside =
+    (still-numbered old.shapes new.shapes (out-Core b).kind begins (kind-known (length old.shapes) b right), tt, inside)

@@ -12,7 +12,7 @@ use Rattle.dm_tree.specs.Constants.{integer_kind}
 use Rattle.dm_tree.specs.Scenes.{target, is_void, are_alike}
 use Rattle.dm_tree.specs.Trees.{Tree, kind_of}
 use Rattle.dm_typing.specs.declared.known.Known.{Known as Held}
-use Rattle.dm_ebinary.specs.declared.operations.Sides.{Sides}
+use Rattle.dm_ebinary.specs.declared.ways.Sides.{Sides}
 use Rattle.dm_ebinary.specs.Arms.{same_plainly, by_plainness, kind_of_types, by_sides, arms_kind}
 use Rattle.dm_typing.specs.Conversions.{as_type, is_same, is_null}
 use Rattle.dm_typing.specs.Fitting.{IsNumbered}

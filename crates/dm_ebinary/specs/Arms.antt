@@ -1,17 +1,21 @@
 -- What the code of the conditional operator finds on the way (6.5.15).
 --     arms_kind known a b      the type to which both arms are converted
 --     IsNumberBy shapes id type      the number is that of this type, whatever numbers come
-use Rattle.std.specs.Prelude.{◌≡◌, ℕ, ◌<◌, Bool, true, ◌==◌, if◌then◌else◌, List, length, Option, Some, None}
+use Rattle.std.specs.Prelude.{◌≡◌, ℕ, ◌<◌, Bool, true, ◌==◌, if◌then◌else◌, List, [], ◌∷◌, length, Option, Some, None}
 use Rattle.dm_int.specs.Kinds.{common}
 use Rattle.dm_type.specs.declared.shape.Shape.{Shape}
 use Rattle.dm_type.specs.CTypes.{CType, void, integer, struct}
 use Rattle.dm_tree.specs.Constants.{integer_kind}
 use Rattle.dm_tree.specs.Scenes.{target}
 use Rattle.dm_tree.specs.Trees.{Tree, kind_of}
-use Rattle.dm_ebinary.specs.declared.operations.Sides.{Sides}
+use Rattle.dm_tree.specs.Trees as label
+use Rattle.dm_syn.specs.Sources.{Source}
+use Rattle.dm_ebinary.specs.declared.ways.Sides.{Sides}
 use Rattle.dm_typing.specs.Known.{Known}
 use Rattle.dm_ebinary.specs.Pairs.{both_kinds}
-use Rattle.dm_typing.specs.Rules.{arms_by_targets}
+use Rattle.dm_typing.specs.declared.extent.Extent.{Extent}
+use Rattle.dm_typing.specs.Conversions.{made}
+use Rattle.dm_typing.specs.Rules.{Pair, arms_by_targets}
 use Rattle.dm_typing.specs.Views.{Begins, type_over}
 
 -- the number is that of this type, whatever numbers come
@@ -39,3 +43,7 @@ by_sides known a b None = kind_of_types known a b
 -- the type to which both arms are converted
 abbrev pub arms_kind : Known → Tree → Tree → Option CType
 arms_kind known a b = by_sides known a b (both_kinds (integer_kind (kind_of a)) (integer_kind (kind_of b)))
+
+-- the node of the conditional operator on arms after their conversions
+abbrev pub choice : Source → Extent → Tree → Pair → Tree
+choice source extent condition both = made source extent label.choose both.kind (condition ∷ both.left ∷ both.right ∷ [])

@@ -1,9 +1,9 @@
 -- What the code of operators between two operands finds on the way (6.5.5 to 6.5.12), and its operands after their conversions.
---     pair_over later made      two operands after their conversions, whatever numbers come
+--     pair_by later a b way      two operands after their conversions, whatever numbers come
 --     sides_of op left right      the kinds to which an operator brings integers of these kinds
 --     family_of op      what an operator may do with operands that are not both integers
 --     equal_by known a b      which of two pointers that are compared is converted to the type of the other
-use Rattle.std.specs.Prelude.{ℕ, Bool, true, false, ◌&&◌, if◌then◌else◌, List, Option, Some, None}
+use Rattle.std.specs.Prelude.{ℕ, Bool, ◌&&◌, if◌then◌else◌, List, [], ◌∷◌, Option, Some, None, option_map, IfSome}
 use Rattle.dm_int.specs.declared.Kind.{Kind}
 use Rattle.dm_int.specs.declared.Kind.TheVariants as k
 use Rattle.dm_int.specs.declared.Op.{Op}
@@ -15,27 +15,38 @@ use Rattle.dm_type.specs.Tables.{Table, IsId}
 use Rattle.dm_tree.specs.Evaluation.{is_shift}
 use Rattle.dm_tree.specs.Scenes.{is_integer, is_pointer}
 use Rattle.dm_tree.specs.Trees.{Tree, kind_of}
-use Rattle.dm_ebinary.specs.declared.operations.Pair.{Pair as HeldPair}
-use Rattle.dm_ebinary.specs.declared.operations.Sides.{Sides}
+use Rattle.dm_tree.specs.Trees as label
+use Rattle.dm_syn.specs.Sources.{Source}
+use Rattle.dm_ebinary.specs.declared.ways.Way.{Way}
+use Rattle.dm_ebinary.specs.declared.ways.Sides.{Sides}
 use Rattle.dm_ebinary.specs.declared.operations.Family.{Family}
 use Rattle.dm_ebinary.specs.declared.operations.Family.TheVariants as family
 use Rattle.dm_ebinary.specs.declared.operations.Brought.{Brought}
 use Rattle.dm_ebinary.specs.declared.operations.Brought.TheVariants as brought
 use Rattle.dm_typing.specs.Known.{Known}
-use Rattle.dm_typing.specs.Conversions.{as_type, is_null}
-use Rattle.dm_typing.specs.Fitting.{IsNumbered}
+use Rattle.dm_typing.specs.Conversions.{made, as_type, is_null}
+use Rattle.dm_typing.specs.declared.extent.Extent.{Extent}
 use Rattle.dm_typing.specs.Rules.{Pair, pair, points_to_complete, point_alike, is_void_pointer, of_integers, of_pointer_and_integer, ordered, equated, of_others}
-use Rattle.dm_typing.specs.Views.{view_over, type_over}
+use Rattle.dm_typing.specs.Views.{type_over}
 
 -- ---- pairs
 
--- two operands after their conversions, and the type of the whole
-abbrev pub pair_over : List Shape → HeldPair → Pair
-pair_over later made = pair (view_over later made.left) (view_over later made.right) (type_over later made.kind)
+-- a tree after its conversion to a type, if there is one
+abbrev pub as_type_if : Option CType → Tree → Tree
+as_type_if None tree = tree
+as_type_if (Some type) tree = as_type type tree
 
--- their types are numbered
-abbrev pub IsPaired : Table → HeldPair → Type 0
-IsPaired types made = IsNumbered types made.left × IsNumbered types made.right × IsId types made.kind
+-- two operands after their conversions, and the type of the whole
+abbrev pub pair_by : List Shape → Tree → Tree → Way → Pair
+pair_by later a b way = pair (as_type_if (option_map (type_over later) way.left) a) (as_type_if (option_map (type_over later) way.right) b) (type_over later way.kind)
+
+-- these types are numbered
+abbrev pub IsWay : Table → Way → Type 0
+IsWay types way = IfSome way.left (IsId types) × IfSome way.right (IsId types) × IsId types way.kind
+
+-- the node of an operator on two operands after their conversions
+abbrev pub operation : Source → Extent → Op → Pair → Tree
+operation source extent op both = made source extent (label.binary op) both.kind (both.left ∷ both.right ∷ [])
 
 -- ---- integers
 
@@ -79,7 +90,7 @@ by_family known a b family.Integers = None
 
 -- a pointer to a complete object type, and an integer
 abbrev pub moves_by : Known → CType → CType → Bool
-moves_by known pointer other = points_to_complete known pointer && is_integer other
+moves_by known type other = points_to_complete known type && is_integer other
 
 -- two pointers to compatible complete object types
 abbrev pub have_distance : Known → CType → CType → Bool
@@ -87,7 +98,7 @@ have_distance known a b = points_to_complete known a && points_to_complete known
 
 -- a pointer, and a null pointer constant
 abbrev pub is_beside_null : Known → CType → Tree → Bool
-is_beside_null known pointer tree = is_pointer pointer && is_null known tree
+is_beside_null known type tree = is_pointer type && is_null known tree
 
 -- of two pointers that are compared: which is converted to the type of the other (6.5.9p5)
 abbrev pub equal_by : Known → Tree → Tree → Option Brought
@@ -103,3 +114,9 @@ abbrev pub equated_by : Tree → Tree → Brought → Pair
 equated_by a b brought.Neither = pair a b (integer k.Int)
 equated_by a b brought.Right = pair a (as_type (kind_of a) b) (integer k.Int)
 equated_by a b brought.Left = pair (as_type (kind_of b) a) b (integer k.Int)
+
+-- the same by the numbers of their types
+abbrev pub compared_as : Brought → ℕ → ℕ → ℕ → Way
+compared_as brought.Neither a b kind = record { left = None; right = None; kind = kind }
+compared_as brought.Right a b kind = record { left = None; right = Some a; kind = kind }
+compared_as brought.Left a b kind = record { left = Some b; right = None; kind = kind }

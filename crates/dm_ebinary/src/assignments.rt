@@ -7,7 +7,7 @@ ghost use Rattle.dm_type.specs.Tables.{type_of, IsId};
 ghost use Rattle.dm_syn.specs.Sources.{symbol_at};
 ghost use Rattle.dm_tree.specs.Constants as constants;
 ghost use Rattle.dm_tree.specs.Scenes as scenes;
-ghost use Rattle.dm_tree.specs.Trees.{kind_of};
+ghost use Rattle.dm_tree.specs.Trees.{Tree, kind_of};
 ghost use Rattle.dm_typing.specs.Fitting.{IsNumbered};
 ghost use Rattle.dm_typing.specs.Operators as operators;
 ghost use Rattle.dm_typing.specs.Operators.{row_at};
@@ -17,8 +17,8 @@ ghost use Rattle.dm_ebinary.specs.Stores.{updated_over, IsUpdated};
 ghost use Rattle.dm_typing.specs.Typing as typing;
 ghost use Rattle.dm_typing.specs.Views.{Begins, seen, type_over, view_over, known_over, source_of, setting_of, Gives, Grows};
 
-use crate::operations::{Sides, both_kinds, sides_of};
 use crate::stand_ins::is_modifiable;
+use crate::ways::{Sides, as_type_if, both_kinds, sides_of};
 use dm_int::{Kind, Op};
 use dm_syn::Symbol;
 use dm_token::{Memory, Stop};
@@ -30,11 +30,11 @@ use dm_typing::looks::{
 use dm_typing::values::is_null;
 use dm_typing::{Extent, Known, Typer};
 
-/// The right operand of a compound assignment after its conversion, and the type in which the operator works.
-#[derive(Drop)]
+/// The type in which the operator of a compound assignment works, and that to which the right operand is converted, if it is.
+#[derive(Clone, Copy)]
 pub(crate) struct Operand {
     pub works: TypeId,
-    pub value: Core,
+    pub to: Option<TypeId>,
 }
 
 /// The operator of a compound assignment (6.5.16.2).
@@ -146,17 +146,17 @@ fn may_move(known: &Known, op: Op, pointer: TypeId, other: TypeId) -> bool
 }
 
 /// The right operand of `+=` or `-=` on a pointer to a complete object type, which is an integer (6.5.16.2p1).
-fn moved(known: &Known, op: Op, object: TypeId, value: Core) -> Option<Operand>
+fn moved(known: &Known, op: Op, object: TypeId, value: &Core) -> Option<Operand>
     requires object { IsId known.now.types object }
-    requires value { IsNumbered known.now.types value }
-    ensures operand { (later : List OneShape) → Begins known.now.types.shapes later → option_map (updated_over later) result ≡
-        (if stores.may_move (seen known.now) op (type_of known.now.types object) (kind_of (view_over later value)) then Some (type_over later object, view_over later value) else None) }
+    requires value { IsNumbered known.now.types value.now }
+    ensures operand { (later : List OneShape) → Begins known.now.types.shapes later → option_map (updated_over later (view_over later value.now)) result ≡
+        (if stores.may_move (seen known.now) op (type_of known.now.types object) (kind_of (view_over later value.now)) then Some (type_over later object, view_over later value.now) else None) }
     ensures numbered { IfSome result (IsUpdated known.now.types) }
 {
     if may_move(known, op, object, value.kind) {
         return Some(Operand {
             works: object,
-            value,
+            to: None,
         });
     }
     None
@@ -274,36 +274,56 @@ fn updated(
     if !modifiable {
         return Err(typer.broken(29, at.inner.first));
     }
-    let kind = bare(&known.types, object.kind);
-    let found = updated_by(typer, known, op, object.kind, value)?;
+    let found = updated_by(known, op, object.kind, &value)?;
     match found {
         Some(right) => {
-            let made = typer.update(at, op, right.works, object, right.value, kind)?;
+            let made = changed(typer, known, at, op, right, object, value)?;
             Ok(made)
         }
         None => Err(typer.broken(29, at.inner.first)),
     }
 }
 
+/// The node of a compound assignment on its right operand after its conversion.
+fn changed(
+    typer: &Typer<'_>,
+    known: &Known,
+    at: Extent,
+    op: Op,
+    right: Operand,
+    object: Core,
+    value: Core,
+) -> Result<Core, Memory>
+    requires object { IsNumbered known.now.types object }
+    requires value { IsNumbered known.now.types value }
+    requires operand { IsUpdated known.now.types right }
+    ensures view { IfOk result (λ made. (later : List OneShape) → Begins known.now.types.shapes later → view_over later made ≡ stores.update (source_of typer.now) at op (view_over later object) (updated_over later (view_over later value) right)) }
+    ensures numbered { IfOk result (IsNumbered known.now.types) }
+{
+    let kind = bare(&known.types, object.kind);
+    let value = as_type_if(typer, known, right.to, value)?;
+    let made = typer.update(at, op, right.works, object, value, kind)?;
+    Ok(made)
+}
+
 /// The right operand after its conversion, and the type in which the operator works (6.5.16.2p3).
 fn updated_by(
-    typer: &Typer<'_>,
     known: &mut Known,
     op: Op,
     object: TypeId,
-    value: Core,
+    value: &Core,
 ) -> Result<Option<Operand>, Memory>
     requires object { IsId known.old.types object }
-    requires value { IsNumbered known.old.types value }
-    ensures operand { IfOk result (λ made. (later : List OneShape) → Begins known.new.types.shapes later → option_map (updated_over later) made ≡
-        rules.updated_by (known_over later known.old) op (types_of_c.bare (type_over later object)) (view_over later value) (constants.integer_kind (type_over later object)) (constants.integer_kind (kind_of (view_over later value)))) }
-    ensures numbered { IfOk result (λ made. IfSome made (IsUpdated known.new.types)) }
+    requires value { IsNumbered known.old.types value.now }
+    ensures operand { IfOk result (λ found. (later : List OneShape) → Begins known.new.types.shapes later → option_map (updated_over later (view_over later value.now)) found ≡
+        rules.updated_by (known_over later known.old) op (types_of_c.bare (type_over later object)) (view_over later value.now) (constants.integer_kind (type_over later object)) (constants.integer_kind (kind_of (view_over later value.now)))) }
+    ensures numbered { IfOk result (λ found. IfSome found (IsUpdated known.new.types)) }
     ensures grows { Grows known.old known.new }
 {
     match both_kinds(&known.types, object, value.kind) {
         Some(kinds) => {
-            let made = updated_integer(typer, known, op, kinds, value)?;
-            Ok(Some(made))
+            let found = updated_integer(known, op, kinds)?;
+            Ok(Some(found))
         }
         None => {
             let plain = bare(&known.types, object);
@@ -313,20 +333,16 @@ fn updated_by(
 }
 
 /// An integer on the right of an integer.
-fn updated_integer(
-    typer: &Typer<'_>,
-    known: &mut Known,
-    op: Op,
-    kinds: Sides,
-    value: Core,
-) -> Result<Operand, Memory>
-    requires { IsNumbered known.old.types value }
-    ensures operand { IfOk result (λ made. (later : List OneShape) → Begins known.new.types.shapes later → updated_over later made ≡ rules.updated_integer op kinds.left kinds.right (view_over later value)) }
+fn updated_integer(known: &mut Known, op: Op, kinds: Sides) -> Result<Operand, Memory>
+    ensures operand { IfOk result (λ found. (later : List OneShape) → Begins known.new.types.shapes later → (value : Tree) → updated_over later value found ≡ rules.updated_integer op kinds.left kinds.right value) }
     ensures numbered { IfOk result (IsUpdated known.new.types) }
     ensures grows { Grows known.old known.new }
 {
     let brought = sides_of(op, kinds);
-    let value = typer.as_kind(known, brought.right, value)?;
+    let to = known.intern(Shape::Integer(brought.right))?;
     let works = known.intern(Shape::Integer(brought.left))?;
-    Ok(Operand { works, value })
+    Ok(Operand {
+        works,
+        to: Some(to),
+    })
 }

@@ -10,12 +10,12 @@ ghost use Rattle.dm_tree.specs.Scenes as scenes;
 ghost use Rattle.dm_ebinary.specs.Arms as arms;
 ghost use Rattle.dm_ebinary.specs.Arms.{IsNumberBy};
 ghost use Rattle.dm_typing.specs.Fitting.{IsNumbered};
-ghost use Rattle.dm_ebinary.specs.Pairs.{pair_over, IsPaired};
+ghost use Rattle.dm_ebinary.specs.Pairs.{pair_by, IsWay};
 ghost use Rattle.dm_typing.specs.Rules as rules;
 ghost use Rattle.dm_typing.specs.Typing as typing;
 ghost use Rattle.dm_typing.specs.Views.{Begins, type_over, view_over, known_over, source_of, setting_of, Gives, Grows};
 
-use crate::operations::{Pair, both_kinds};
+use crate::ways::{Way, as_type_if, both_kinds};
 use dm_int::common;
 use dm_token::{Memory, Stop};
 use dm_tree::Core;
@@ -236,31 +236,54 @@ pub fn typed_choice(
     if !is_scalar(&known.types, condition.kind) {
         return Err(typer.broken(27, at.inner.first));
     }
-    let found = arms(typer, known, a, b)?;
+    let found = arms(known, &a, &b)?;
     match found {
-        Some(pair) => {
-            let made = typer.choose(at, condition, pair.left, pair.right, pair.kind)?;
+        Some(way) => {
+            let made = chosen(typer, known, at, condition, way, a, b)?;
             Ok(made)
         }
         None => Err(typer.broken(27, at.inner.first)),
     }
 }
 
-/// The arms after their conversions.
-fn arms(typer: &Typer<'_>, known: &mut Known, a: Core, b: Core) -> Result<Option<Pair>, Memory>
-    requires left { IsNumbered known.old.types a }
-    requires right { IsNumbered known.old.types b }
-    ensures pair { IfOk result (λ made. (later : List OneShape) → Begins known.new.types.shapes later → option_map (pair_over later) made ≡ rules.arms (known_over later known.old) (view_over later a) (view_over later b)) }
-    ensures numbered { IfOk result (λ made. IfSome made (IsPaired known.new.types)) }
+/// How the arms come together.
+fn arms(known: &mut Known, a: &Core, b: &Core) -> Result<Option<Way>, Memory>
+    requires left { IsNumbered known.old.types a.now }
+    requires right { IsNumbered known.old.types b.now }
+    ensures way { IfOk result (λ found. (later : List OneShape) → Begins known.new.types.shapes later → option_map (pair_by later (view_over later a.now) (view_over later b.now)) found ≡ rules.arms (known_over later known.old) (view_over later a.now) (view_over later b.now)) }
+    ensures numbered { IfOk result (λ found. IfSome found (IsWay known.new.types)) }
     ensures grows { Grows known.old known.new }
 {
-    let found = arms_kind(known, &a, &b)?;
+    let found = arms_kind(known, a, b)?;
     match found {
-        Some(kind) => {
-            let left = typer.as_type(known, kind, a)?;
-            let right = typer.as_type(known, kind, b)?;
-            Ok(Some(Pair { left, right, kind }))
-        }
+        Some(kind) => Ok(Some(Way {
+            left: Some(kind),
+            right: Some(kind),
+            kind,
+        })),
         None => Ok(None),
     }
+}
+
+/// The node of the conditional operator on its arms after their conversions.
+fn chosen(
+    typer: &Typer<'_>,
+    known: &Known,
+    at: Extent,
+    condition: Core,
+    way: Way,
+    a: Core,
+    b: Core,
+) -> Result<Core, Memory>
+    requires condition { IsNumbered known.now.types condition }
+    requires left { IsNumbered known.now.types a }
+    requires right { IsNumbered known.now.types b }
+    requires way { IsWay known.now.types way }
+    ensures view { IfOk result (λ made. (later : List OneShape) → Begins known.now.types.shapes later → view_over later made ≡ arms.choice (source_of typer.now) at (view_over later condition) (pair_by later (view_over later a) (view_over later b) way)) }
+    ensures numbered { IfOk result (IsNumbered known.now.types) }
+{
+    let left = as_type_if(typer, known, way.left, a)?;
+    let right = as_type_if(typer, known, way.right, b)?;
+    let made = typer.choose(at, condition, left, right, way.kind)?;
+    Ok(made)
 }

@@ -5,3 +5,4 @@ pub mod assignments;
 pub mod choices;
 pub mod operations;
 mod stand_ins;
+mod ways;

@@ -3,47 +3,30 @@
 ghost use Rattle.std.specs.Prelude.{◌≡◌, ◌&&◌, List, IfOk, IfSome, Some, option_map, option_and_then};
 ghost use Rattle.dm_type.specs.CTypes.{integer};
 ghost use Rattle.dm_type.specs.declared.shape.Shape.{Shape as OneShape};
-ghost use Rattle.dm_type.specs.Tables.{type_of, IsId};
+ghost use Rattle.dm_type.specs.Tables.{Table, type_of, IsId};
 ghost use Rattle.dm_syn.specs.Sources.{symbol_at};
-ghost use Rattle.dm_tree.specs.Constants as constants;
-ghost use Rattle.dm_tree.specs.Evaluation as evaluation;
+ghost use Rattle.dm_tree.specs.Trees.{Tree};
 ghost use Rattle.dm_tree.specs.Operands as operands;
 ghost use Rattle.dm_tree.specs.Scenes as scenes;
 ghost use Rattle.dm_typing.specs.Fitting.{IsNumbered};
 ghost use Rattle.dm_typing.specs.Operators as operators;
 ghost use Rattle.dm_typing.specs.Operators.{row_at};
 ghost use Rattle.dm_ebinary.specs.Pairs as pairs;
-ghost use Rattle.dm_ebinary.specs.Pairs.{pair_over, IsPaired};
+ghost use Rattle.dm_ebinary.specs.Pairs.{pair_by, IsWay};
 ghost use Rattle.dm_typing.specs.Rules as rules;
 ghost use Rattle.dm_typing.specs.Typing as typing;
-ghost use Rattle.dm_typing.specs.Views.{Begins, seen, view_over, known_over, source_of, setting_of, Gives, Grows};
+ghost use Rattle.dm_typing.specs.Views.{Begins, seen, type_over, view_over, known_over, source_of, setting_of, Gives, Grows};
 
-use dm_int::{Kind, Op, common, promote};
+use crate::ways::{Sides, Way, as_type_if, both_kinds, sides_of};
+use dm_int::{Kind, Op};
 use dm_syn::Symbol;
 use dm_token::{Memory, Stop};
 use dm_tree::Core;
 use dm_type::{Shape, TypeId, Types};
 use dm_typing::access::indexed;
-use dm_typing::looks::{
-    integer_kind, is_integer, is_pointer, is_void_pointer, point_alike, points_to_complete,
-};
+use dm_typing::looks::{is_integer, is_pointer, is_void_pointer, point_alike, points_to_complete};
 use dm_typing::values::is_null;
 use dm_typing::{Extent, Known, Typer};
-
-/// Two operands after their conversions, and the type of the whole.
-#[derive(Drop)]
-pub(crate) struct Pair {
-    pub left: Core,
-    pub right: Core,
-    pub kind: TypeId,
-}
-
-/// The kinds of two integers.
-#[derive(Clone, Copy)]
-pub(crate) struct Sides {
-    pub left: Kind,
-    pub right: Kind,
-}
 
 /// What an operator may do with operands that aren't both integers.
 #[derive(Clone, Copy)]
@@ -108,13 +91,6 @@ fn rule_of(op: Op) -> u8
     }
 }
 
-/// Whether the operator is a shift, whose operands are promoted one by one (6.5.7p3).
-fn is_shift(op: Op) -> bool
-    ensures { result ≡ evaluation.is_shift op }
-{
-    matches!(op, Op::Shl | Op::Shr)
-}
-
 /// Whether the operator is a relation or an equality (6.5.8, 6.5.9).
 fn is_comparison(op: Op) -> bool
     ensures { result ≡ operands.is_comparison op }
@@ -130,34 +106,6 @@ fn result_kind(op: Op, kind: Kind) -> Kind
     ensures { integer result ≡ operands.result_type op kind }
 {
     if is_comparison(op) { Kind::Int } else { kind }
-}
-
-/// The kinds to which an operator brings integers.
-pub(crate) fn sides_of(op: Op, kinds: Sides) -> Sides
-    ensures { result ≡ pairs.sides_of op kinds.left kinds.right }
-{
-    if is_shift(op) {
-        let left = promote(kinds.left);
-        let right = promote(kinds.right);
-        return Sides { left, right };
-    }
-    let both = common(kinds.left, kinds.right);
-    Sides {
-        left: both,
-        right: both,
-    }
-}
-
-/// The kinds of two types, if both are integers.
-pub(crate) fn both_kinds(types: &Types, a: TypeId, b: TypeId) -> Option<Sides>
-    requires left { IsId types.now a }
-    requires right { IsId types.now b }
-    ensures { result ≡ pairs.both_kinds (constants.integer_kind (type_of types.now a)) (constants.integer_kind (type_of types.now b)) }
-{
-    match (integer_kind(types, a), integer_kind(types, b)) {
-        (Some(left), Some(right)) => Some(Sides { left, right }),
-        _ => None,
-    }
 }
 
 /// What an operator may do with operands that aren't both integers.
@@ -249,19 +197,185 @@ fn equal_by(known: &Known, a: &Core, b: &Core) -> Option<Brought>
 }
 
 /// `+`: a pointer to a complete object type and an integer (C20).
-fn added(known: &Known, a: Core, b: Core) -> Option<Pair>
-    requires left { IsNumbered known.now.types a }
-    requires right { IsNumbered known.now.types b }
-    ensures pair { (later : List OneShape) → Begins known.now.types.shapes later → option_map (pair_over later) result ≡ pairs.by_family (known_over later known.now) (view_over later a) (view_over later b) Family.Sum }
-    ensures numbered { IfSome result (IsPaired known.now.types) }
+fn added(known: &Known, a: &Core, b: &Core) -> Option<Way>
+    requires left { IsNumbered known.now.types a.now }
+    requires right { IsNumbered known.now.types b.now }
+    ensures way { (later : List OneShape) → Begins known.now.types.shapes later → option_map (pair_by later (view_over later a.now) (view_over later b.now)) result ≡ pairs.by_family (known_over later known.now) (view_over later a.now) (view_over later b.now) Family.Sum }
+    ensures numbered { IfSome result (IsWay known.now.types) }
 {
     match indexed(known, a.kind, b.kind) {
-        Some(found) => Some(Pair {
-            left: a,
-            right: b,
-            kind: found.0,
-        }),
+        Some(found) => Some(as_they_are(found.0)),
         None => None,
+    }
+}
+
+/// Two operands that aren't converted.
+fn as_they_are(kind: TypeId) -> Way
+    ensures way { (later : List OneShape) → (a b : Tree) → pair_by later a b result ≡ rules.pair a b (type_over later kind) }
+    ensures numbered { (types : Table) → IsId types kind → IsWay types result }
+{
+    Way {
+        left: None,
+        right: None,
+        kind,
+    }
+}
+
+/// Two operands that aren't converted, and an integer type of the whole.
+fn of_kind(known: &mut Known, kind: Kind) -> Result<Way, Memory>
+    ensures way { IfOk result (λ way. (later : List OneShape) → Begins known.new.types.shapes later → (a b : Tree) → pair_by later a b way ≡ rules.pair a b (integer kind)) }
+    ensures numbered { IfOk result (IsWay known.new.types) }
+    ensures grows { Grows known.old known.new }
+{
+    let whole = known.intern(Shape::Integer(kind))?;
+    Ok(as_they_are(whole))
+}
+
+/// `-`: a pointer to a complete object type and an integer, or two such pointers to compatible types (C21).
+fn subtracted(known: &mut Known, a: &Core, b: &Core) -> Result<Option<Way>, Memory>
+    requires left { IsNumbered known.old.types a.now }
+    requires right { IsNumbered known.old.types b.now }
+    ensures way { IfOk result (λ found. (later : List OneShape) → Begins known.new.types.shapes later → option_map (pair_by later (view_over later a.now) (view_over later b.now)) found ≡ pairs.by_family (known_over later known.old) (view_over later a.now) (view_over later b.now) Family.Difference) }
+    ensures numbered { IfOk result (λ found. IfSome found (IsWay known.new.types)) }
+    ensures grows { Grows known.old known.new }
+{
+    if moves_by(known, a.kind, b.kind) {
+        return Ok(Some(as_they_are(a.kind)));
+    }
+    if !have_distance(known, a.kind, b.kind) {
+        return Ok(None);
+    }
+    let way = of_kind(known, Kind::Long)?;
+    Ok(Some(way))
+}
+
+/// Pointers to compatible types are ordered (C23).
+fn ordered(known: &mut Known, a: &Core, b: &Core) -> Result<Option<Way>, Memory>
+    requires left { IsNumbered known.old.types a.now }
+    requires right { IsNumbered known.old.types b.now }
+    ensures way { IfOk result (λ found. (later : List OneShape) → Begins known.new.types.shapes later → option_map (pair_by later (view_over later a.now) (view_over later b.now)) found ≡ rules.ordered (view_over later a.now) (view_over later b.now)) }
+    ensures numbered { IfOk result (λ found. IfSome found (IsWay known.new.types)) }
+    ensures grows { Grows known.old known.new }
+{
+    if !point_alike(&known.types, a.kind, b.kind) {
+        return Ok(None);
+    }
+    let way = of_kind(known, Kind::Int)?;
+    Ok(Some(way))
+}
+
+/// Pointers are equal or not also where one points to void or is a null pointer constant (C24).
+fn equated(known: &mut Known, a: &Core, b: &Core) -> Result<Option<Way>, Memory>
+    requires left { IsNumbered known.old.types a.now }
+    requires right { IsNumbered known.old.types b.now }
+    ensures way { IfOk result (λ found. (later : List OneShape) → Begins known.new.types.shapes later → option_map (pair_by later (view_over later a.now) (view_over later b.now)) found ≡ rules.equated (known_over later known.old) (view_over later a.now) (view_over later b.now)) }
+    ensures numbered { IfOk result (λ found. IfSome found (IsWay known.new.types)) }
+    ensures grows { Grows known.old known.new }
+{
+    match equal_by(known, a, b) {
+        Some(brought) => {
+            let way = compared(known, brought, a, b)?;
+            Ok(Some(way))
+        }
+        None => Ok(None),
+    }
+}
+
+/// Two pointers of which one is converted to the type of the other.
+fn compared(known: &mut Known, brought: Brought, a: &Core, b: &Core) -> Result<Way, Memory>
+    requires left { IsNumbered known.old.types a.now }
+    requires right { IsNumbered known.old.types b.now }
+    ensures way { IfOk result (λ way. (later : List OneShape) → Begins known.new.types.shapes later → pair_by later (view_over later a.now) (view_over later b.now) way ≡ pairs.equated_by (view_over later a.now) (view_over later b.now) brought) }
+    ensures numbered { IfOk result (IsWay known.new.types) }
+    ensures grows { Grows known.old known.new }
+{
+    let kind = known.intern(Shape::Integer(Kind::Int))?;
+    Ok(compared_as(brought, a.kind, b.kind, kind))
+}
+
+/// The types to which two pointers are converted, by that of the whole.
+fn compared_as(brought: Brought, a: TypeId, b: TypeId, kind: TypeId) -> Way
+    ensures { result ≡ pairs.compared_as brought a b kind }
+{
+    match brought {
+        Brought::Neither => Way {
+            left: None,
+            right: None,
+            kind,
+        },
+        Brought::Right => Way {
+            left: None,
+            right: Some(a),
+            kind,
+        },
+        Brought::Left => Way {
+            left: Some(b),
+            right: None,
+            kind,
+        },
+    }
+}
+
+/// Two integers after the usual arithmetic conversions (6.3.1.8), or those of a shift.
+fn of_integers(known: &mut Known, op: Op, kinds: Sides) -> Result<Way, Memory>
+    ensures way { IfOk result (λ way. (later : List OneShape) → Begins known.new.types.shapes later → (a b : Tree) → pair_by later a b way ≡ rules.of_integers op kinds.left kinds.right a b) }
+    ensures numbered { IfOk result (IsWay known.new.types) }
+    ensures grows { Grows known.old known.new }
+{
+    let works = sides_of(op, kinds);
+    let left = known.intern(Shape::Integer(works.left))?;
+    let right = known.intern(Shape::Integer(works.right))?;
+    let kind = known.intern(Shape::Integer(result_kind(op, works.left)))?;
+    Ok(Way {
+        left: Some(left),
+        right: Some(right),
+        kind,
+    })
+}
+
+/// Operands that aren't both integers.
+fn of_others(known: &mut Known, op: Op, a: &Core, b: &Core) -> Result<Option<Way>, Memory>
+    requires left { IsNumbered known.old.types a.now }
+    requires right { IsNumbered known.old.types b.now }
+    ensures way { IfOk result (λ found. (later : List OneShape) → Begins known.new.types.shapes later → option_map (pair_by later (view_over later a.now) (view_over later b.now)) found ≡ rules.of_others (known_over later known.old) op (view_over later a.now) (view_over later b.now)) }
+    ensures numbered { IfOk result (λ found. IfSome found (IsWay known.new.types)) }
+    ensures grows { Grows known.old known.new }
+{
+    match family_of(op) {
+        Family::Sum => Ok(added(known, a, b)),
+        Family::Difference => {
+            let found = subtracted(known, a, b)?;
+            Ok(found)
+        }
+        Family::Order => {
+            let found = ordered(known, a, b)?;
+            Ok(found)
+        }
+        Family::Equality => {
+            let found = equated(known, a, b)?;
+            Ok(found)
+        }
+        Family::Integers => Ok(None),
+    }
+}
+
+/// How the operands of an operator come together (C19 to C25).
+fn operated(known: &mut Known, op: Op, a: &Core, b: &Core) -> Result<Option<Way>, Memory>
+    requires left { IsNumbered known.old.types a.now }
+    requires right { IsNumbered known.old.types b.now }
+    ensures way { IfOk result (λ found. (later : List OneShape) → Begins known.new.types.shapes later → option_map (pair_by later (view_over later a.now) (view_over later b.now)) found ≡ rules.operated (known_over later known.old) op (view_over later a.now) (view_over later b.now)) }
+    ensures numbered { IfOk result (λ found. IfSome found (IsWay known.new.types)) }
+    ensures grows { Grows known.old known.new }
+{
+    match both_kinds(&known.types, a.kind, b.kind) {
+        Some(kinds) => {
+            let way = of_integers(known, op, kinds)?;
+            Ok(Some(way))
+        }
+        None => {
+            let found = of_others(known, op, a, b)?;
+            Ok(found)
+        }
     }
 }
 
@@ -336,206 +450,34 @@ fn typed_operator(
     ensures numbered { IfOk result (IsNumbered known.new.types) }
     ensures grows { Grows known.old known.new }
 {
-    let found = operated(typer, known, op, a, b)?;
+    let found = operated(known, op, &a, &b)?;
     match found {
-        Some(pair) => {
-            let made = typer.binary(at, op, pair.left, pair.right, pair.kind)?;
+        Some(way) => {
+            let made = joined(typer, known, at, op, way, a, b)?;
             Ok(made)
         }
         None => Err(typer.broken(rule_of(op), at.inner.first)),
     }
 }
 
-/// The operands of an operator after their conversions.
-fn operated(
+/// The node of an operator on its operands after their conversions.
+fn joined(
     typer: &Typer<'_>,
-    known: &mut Known,
+    known: &Known,
+    at: Extent,
     op: Op,
+    way: Way,
     a: Core,
     b: Core,
-) -> Result<Option<Pair>, Memory>
-    requires left { IsNumbered known.old.types a }
-    requires right { IsNumbered known.old.types b }
-    ensures pair { IfOk result (λ made. (later : List OneShape) → Begins known.new.types.shapes later → option_map (pair_over later) made ≡ rules.operated (known_over later known.old) op (view_over later a) (view_over later b)) }
-    ensures numbered { IfOk result (λ made. IfSome made (IsPaired known.new.types)) }
-    ensures grows { Grows known.old known.new }
+) -> Result<Core, Memory>
+    requires left { IsNumbered known.now.types a }
+    requires right { IsNumbered known.now.types b }
+    requires way { IsWay known.now.types way }
+    ensures view { IfOk result (λ made. (later : List OneShape) → Begins known.now.types.shapes later → view_over later made ≡ pairs.operation (source_of typer.now) at op (pair_by later (view_over later a) (view_over later b) way)) }
+    ensures numbered { IfOk result (IsNumbered known.now.types) }
 {
-    match both_kinds(&known.types, a.kind, b.kind) {
-        Some(kinds) => {
-            let pair = of_integers(typer, known, op, kinds, a, b)?;
-            Ok(Some(pair))
-        }
-        None => {
-            let found = of_others(typer, known, op, a, b)?;
-            Ok(found)
-        }
-    }
-}
-
-/// Two integers after the usual arithmetic conversions (6.3.1.8), or those of a shift.
-fn of_integers(
-    typer: &Typer<'_>,
-    known: &mut Known,
-    op: Op,
-    kinds: Sides,
-    a: Core,
-    b: Core,
-) -> Result<Pair, Memory>
-    requires left { IsNumbered known.old.types a }
-    requires right { IsNumbered known.old.types b }
-    ensures pair { IfOk result (λ made. (later : List OneShape) → Begins known.new.types.shapes later → pair_over later made ≡ rules.of_integers op kinds.left kinds.right (view_over later a) (view_over later b)) }
-    ensures numbered { IfOk result (IsPaired known.new.types) }
-    ensures grows { Grows known.old known.new }
-{
-    let works = sides_of(op, kinds);
-    let left = typer.as_kind(known, works.left, a)?;
-    let right = typer.as_kind(known, works.right, b)?;
-    let kind = known.intern(Shape::Integer(result_kind(op, works.left)))?;
-    Ok(Pair { left, right, kind })
-}
-
-/// Operands that aren't both integers.
-fn of_others(
-    typer: &Typer<'_>,
-    known: &mut Known,
-    op: Op,
-    a: Core,
-    b: Core,
-) -> Result<Option<Pair>, Memory>
-    requires left { IsNumbered known.old.types a }
-    requires right { IsNumbered known.old.types b }
-    ensures pair { IfOk result (λ made. (later : List OneShape) → Begins known.new.types.shapes later → option_map (pair_over later) made ≡ rules.of_others (known_over later known.old) op (view_over later a) (view_over later b)) }
-    ensures numbered { IfOk result (λ made. IfSome made (IsPaired known.new.types)) }
-    ensures grows { Grows known.old known.new }
-{
-    match family_of(op) {
-        Family::Sum => Ok(added(known, a, b)),
-        Family::Difference => {
-            let found = subtracted(typer, known, a, b)?;
-            Ok(found)
-        }
-        Family::Order => {
-            let found = ordered(typer, known, a, b)?;
-            Ok(found)
-        }
-        Family::Equality => {
-            let found = equated(typer, known, a, b)?;
-            Ok(found)
-        }
-        Family::Integers => Ok(None),
-    }
-}
-
-/// `-`: a pointer to a complete object type and an integer, or two such pointers to compatible types (C21).
-fn subtracted(
-    typer: &Typer<'_>,
-    known: &mut Known,
-    a: Core,
-    b: Core,
-) -> Result<Option<Pair>, Memory>
-    requires left { IsNumbered known.old.types a }
-    requires right { IsNumbered known.old.types b }
-    ensures pair { IfOk result (λ made. (later : List OneShape) → Begins known.new.types.shapes later → option_map (pair_over later) made ≡ pairs.by_family (known_over later known.old) (view_over later a) (view_over later b) Family.Difference) }
-    ensures numbered { IfOk result (λ made. IfSome made (IsPaired known.new.types)) }
-    ensures grows { Grows known.old known.new }
-{
-    if moves_by(known, a.kind, b.kind) {
-        let kind = a.kind;
-        return Ok(Some(Pair {
-            left: a,
-            right: b,
-            kind,
-        }));
-    }
-    if !have_distance(known, a.kind, b.kind) {
-        return Ok(None);
-    }
-    let pair = with_kind(typer, known, Kind::Long, a, b)?;
-    Ok(Some(pair))
-}
-
-/// Pointers to compatible types are ordered (C23).
-fn ordered(typer: &Typer<'_>, known: &mut Known, a: Core, b: Core) -> Result<Option<Pair>, Memory>
-    requires left { IsNumbered known.old.types a }
-    requires right { IsNumbered known.old.types b }
-    ensures pair { IfOk result (λ made. (later : List OneShape) → Begins known.new.types.shapes later → option_map (pair_over later) made ≡ rules.ordered (view_over later a) (view_over later b)) }
-    ensures numbered { IfOk result (λ made. IfSome made (IsPaired known.new.types)) }
-    ensures grows { Grows known.old known.new }
-{
-    if !point_alike(&known.types, a.kind, b.kind) {
-        return Ok(None);
-    }
-    let pair = with_kind(typer, known, Kind::Int, a, b)?;
-    Ok(Some(pair))
-}
-
-/// Pointers are equal or not also where one points to void or is a null pointer constant (C24).
-fn equated(typer: &Typer<'_>, known: &mut Known, a: Core, b: Core) -> Result<Option<Pair>, Memory>
-    requires left { IsNumbered known.old.types a }
-    requires right { IsNumbered known.old.types b }
-    ensures pair { IfOk result (λ made. (later : List OneShape) → Begins known.new.types.shapes later → option_map (pair_over later) made ≡ rules.equated (known_over later known.old) (view_over later a) (view_over later b)) }
-    ensures numbered { IfOk result (λ made. IfSome made (IsPaired known.new.types)) }
-    ensures grows { Grows known.old known.new }
-{
-    match equal_by(known, &a, &b) {
-        Some(brought) => {
-            let pair = compared(typer, known, brought, a, b)?;
-            Ok(Some(pair))
-        }
-        None => Ok(None),
-    }
-}
-
-/// Two pointers of which one is converted to the type of the other.
-fn compared(
-    typer: &Typer<'_>,
-    known: &mut Known,
-    brought: Brought,
-    a: Core,
-    b: Core,
-) -> Result<Pair, Memory>
-    requires left { IsNumbered known.old.types a }
-    requires right { IsNumbered known.old.types b }
-    ensures pair { IfOk result (λ made. (later : List OneShape) → Begins known.new.types.shapes later → pair_over later made ≡ pairs.equated_by (view_over later a) (view_over later b) brought) }
-    ensures numbered { IfOk result (IsPaired known.new.types) }
-    ensures grows { Grows known.old known.new }
-{
-    match brought {
-        Brought::Neither => {
-            let pair = with_kind(typer, known, Kind::Int, a, b)?;
-            Ok(pair)
-        }
-        Brought::Right => {
-            let b = typer.as_type(known, a.kind, b)?;
-            let pair = with_kind(typer, known, Kind::Int, a, b)?;
-            Ok(pair)
-        }
-        Brought::Left => {
-            let a = typer.as_type(known, b.kind, a)?;
-            let pair = with_kind(typer, known, Kind::Int, a, b)?;
-            Ok(pair)
-        }
-    }
-}
-
-/// Two operands as they are, and an integer type of the whole.
-fn with_kind(
-    typer: &Typer<'_>,
-    known: &mut Known,
-    kind: Kind,
-    a: Core,
-    b: Core,
-) -> Result<Pair, Memory>
-    requires left { IsNumbered known.old.types a }
-    requires right { IsNumbered known.old.types b }
-    ensures pair { IfOk result (λ made. (later : List OneShape) → Begins known.new.types.shapes later → pair_over later made ≡ rules.pair (view_over later a) (view_over later b) (integer kind)) }
-    ensures numbered { IfOk result (IsPaired known.new.types) }
-    ensures grows { Grows known.old known.new }
-{
-    let kind = known.intern(Shape::Integer(kind))?;
-    Ok(Pair {
-        left: a,
-        right: b,
-        kind,
-    })
+    let left = as_type_if(typer, known, way.left, a)?;
+    let right = as_type_if(typer, known, way.right, b)?;
+    let made = typer.binary(at, op, left, right, way.kind)?;
+    Ok(made)
 }

@@ -8,10 +8,10 @@ use Rattle.dm_ebinary.proofs.assignments.moved.Goals as goal
 
 pub returns-then-may_move-clause-operand : goal.returns-then-may_move-clause-operand
 returns-then-may_move-clause-operand c = λ later begins.
-    ap (λ t. if t then Some (type_over later c.args.object, view_over later c.args.value) else None)
-    (sym (move-later c.args.known.now later c.args.op (type_of c.args.known.now.types c.args.object) c.args.value begins c.requires.value true (sym c.if-may_move.true ∙ c.may_move.ensures)))
+    ap (λ t. if t then Some (type_over later c.args.object, view_over later c.args.value.now) else None)
+    (sym (move-later c.args.known.now later c.args.op (type_of c.args.known.now.types c.args.object) c.args.value.now begins c.requires.value true (sym c.if-may_move.true ∙ c.may_move.ensures)))
 
 pub returns-clause-operand : goal.returns-clause-operand
 returns-clause-operand c = λ later begins.
-    ap (λ t. if t then Some (type_over later c.args.object, view_over later c.args.value) else None)
-    (sym (move-later c.args.known.now later c.args.op (type_of c.args.known.now.types c.args.object) c.args.value begins c.requires.value false (sym c.if-may_move.false ∙ c.may_move.ensures)))
+    ap (λ t. if t then Some (type_over later c.args.object, view_over later c.args.value.now) else None)
+    (sym (move-later c.args.known.now later c.args.op (type_of c.args.known.now.types c.args.object) c.args.value.now begins c.requires.value false (sym c.if-may_move.false ∙ c.may_move.ensures)))

@@ -5,17 +5,17 @@ use Rattle.dm_ebinary.proofs.ChoiceStepLemmas.{numbers-later}
 use Rattle.dm_typing.proofs.LaterLemmas.{extends-anyway, types-later, trees-later, type-later, begins-on}
 use Rattle.dm_ebinary.proofs.choices.composite.Goals as goal
 
-pub invariant_of-self : goal.invariant_of-self
-invariant_of-self c =
-    let kept = extends-anyway c.composite.result c.args.known.now.types c.composite.new.known c.composite.ensures.kept c.composite.ensures.err in record {
-      entries = types-later c.args.known.now.types c.composite.new.known c.args.known.now.declared kept.0 c.args.known.now.entries;
-      trees = trees-later c.args.known.now.types c.composite.new.known c.args.known.now.constants kept.0 c.args.known.now.trees;
+pub invariant_of-known : goal.invariant_of-known
+invariant_of-known c =
+    let kept = extends-anyway c.composite.result c.args.known.now.types c.composite.new.self c.composite.ensures.kept c.composite.ensures.err in record {
+      entries = types-later c.args.known.now.types c.composite.new.self c.args.known.now.declared kept.0 c.args.known.now.entries;
+      trees = trees-later c.args.known.now.types c.composite.new.self c.args.known.now.constants kept.0 c.args.known.now.trees;
     }
 
 pub returns-clause-number : goal.returns-clause-number
 returns-clause-number c =
     let old = c.args.known.now.types in
-    let new = c.composite.new.known in
+    let new = c.composite.new.self in
     let has = c.in_ok-id.ensures.typed in (
       has.0,
       λ later begins. type-later new.shapes later c.in_ok-id.id begins has.0
