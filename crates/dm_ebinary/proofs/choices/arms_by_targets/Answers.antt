@@ -36,8 +36,8 @@ returns-in-None-Some-clause-kind c = λ later begins.
     let b = c.args.b.now in
     type-if later b c.is_null-in-None-Some.result c.type_if-in-None-Some.result c.type_if-in-None-Some.ensures
     ∙ ap (λ t. if t then Some (kind_of (view_over later b)) else None) (c.is_null-in-None-Some.ensures later begins)
-    ∙ targets-later c.args.known.now later a b begins c.requires.left c.requires.right None _ c.in-None-Some.ensures'.target c.in-None-Some.ensures.target
+    ∙ targets-later c.args.known.now later a b begins c.requires.left c.requires.right None (Some (type_of c.args.known.now.types c.in-None-Some._from)) search c.in-None-Some.ensures.target
 
 pub returns-in-None-None-clause-kind : goal.returns-in-None-None-clause-kind
 returns-in-None-None-clause-kind c = λ later begins.
-    targets-later c.args.known.now later c.args.a.now c.args.b.now begins c.requires.left c.requires.right None None c.in-None-None.ensures'.target c.in-None-None.ensures.target
+    targets-later c.args.known.now later c.args.a.now c.args.b.now begins c.requires.left c.requires.right None None search c.in-None-None.ensures.target
