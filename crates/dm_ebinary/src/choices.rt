@@ -168,14 +168,18 @@ fn arms_by_targets(known: &mut Known, a: &Core, b: &Core) -> Result<Option<TypeI
     ensures numbered { IfOk result (λ found. IfSome found (IsId known.new.types)) }
     ensures grows { Grows known.old known.new }
 {
-    match (target(&known.types, a.kind), target(&known.types, b.kind)) {
-        (Some(to), Some(from)) => {
-            let found = pointer_arms(known, a, b, to, from)?;
-            Ok(found)
-        }
-        (Some(_to), None) => Ok(type_if(is_null(known, b), a.kind)),
-        (None, Some(_from)) => Ok(type_if(is_null(known, a), b.kind)),
-        (None, None) => Ok(None),
+    match target(&known.types, a.kind) {
+        Some(to) => match target(&known.types, b.kind) {
+            Some(from) => {
+                let found = pointer_arms(known, a, b, to, from)?;
+                Ok(found)
+            }
+            None => Ok(type_if(is_null(known, b), a.kind)),
+        },
+        None => match target(&known.types, b.kind) {
+            Some(_from) => Ok(type_if(is_null(known, a), b.kind)),
+            None => Ok(None),
+        },
     }
 }
 
