@@ -1,25 +1,24 @@
 -- Assignments, as the code types them.
-use Rattle.std.specs.Prelude.{◌≡◌, ℕ, Bool, true, false, ◌&&◌, ◌||◌, not, if◌then◌else◌, is_some, List, [], Option, Some, None, option_map, option_and_then, refl}
+use Rattle.std.specs.Prelude.{◌≡◌, ℕ, Bool, true, false, ◌&&◌, ◌||◌, if◌then◌else◌, is_some, List, [], Option, Some, None, option_and_then, refl}
 use Rattle.std.proofs.Common.{sym, ap, ◌∙◌}
 use Rattle.dm_int.specs.declared.Kind.{Kind}
 use Rattle.dm_int.specs.declared.Kind.TheVariants as k
 use Rattle.dm_int.specs.declared.Op.{Op}
 use Rattle.dm_int.specs.declared.Op.TheVariants as o
-use Rattle.dm_int.specs.Kinds.{promote, common}
 use Rattle.dm_type.specs.declared.shape.Shape.{Shape}
 use Rattle.dm_type.specs.declared.shape.Shape.TheVariants.{Void, Integer, Pointer, Array, Struct, Function, Const}
-use Rattle.dm_type.specs.CTypes.{CType, integer, pointer, struct, bare, is_const}
-use Rattle.dm_type.specs.Tables.{Table, type_of, as_is, IsId, Has}
+use Rattle.dm_type.specs.CTypes.{CType, integer, struct, bare}
+use Rattle.dm_type.specs.Tables.{type_of, as_is, IsId, Has}
 use Rattle.dm_syn.specs.declared.symbol.Symbol.{Symbol}
 use Rattle.dm_syn.specs.declared.symbol.Symbol.TheVariants as symbol
 use Rattle.dm_tree.specs.declared.tree.Core.{Core, out-Core}
 use Rattle.dm_tree.specs.Constants.{integer_kind}
-use Rattle.dm_tree.specs.Scenes.{target, is_integer, is_scalar}
+use Rattle.dm_tree.specs.Scenes.{target, is_integer}
 use Rattle.dm_tree.specs.Trees.{Tree, kind_of}
 use Rattle.dm_typing.specs.declared.extent.Extent.{Extent}
 use Rattle.dm_typing.specs.declared.known.Known.{Known as Held}
 use Rattle.dm_ebinary.specs.declared.ways.Sides.{Sides}
-use Rattle.dm_typing.specs.Conversions.{is_same, is_null, as_type, as_kind}
+use Rattle.dm_typing.specs.Conversions.{is_same, is_null, as_kind}
 use Rattle.dm_typing.specs.Fitting.{IsNumbered}
 use Rattle.dm_typing.specs.Known.{Known, Setting}
 use Rattle.dm_typing.specs.Operators.{row_at, operator_of_assignment}
@@ -28,7 +27,6 @@ use Rattle.dm_typing.specs.Rules.{is_modifiable, pointer_assignable, assignable_
 use Rattle.dm_ebinary.specs.Stores.{fits_kind, may_point, may_move}
 use Rattle.dm_typing.specs.Typing.{typed_update, typed_assignment}
 use Rattle.dm_typing.specs.Views.{Begins, type_over, view_over, known_over, seen}
-use Rattle.dm_ebinary.proofs.BinaryLemmas.{types-alone}
 use Rattle.dm_typing.proofs.GivesLemmas.{complete-alone}
 use Rattle.dm_typing.proofs.LaterLemmas.{type-later}
 use Rattle.dm_typing.proofs.ValueLemmas.{kind-later, kind-view, bare-later}

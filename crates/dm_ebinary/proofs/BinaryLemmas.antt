@@ -1,5 +1,5 @@
 -- Operators between two operands, as the code types them.
-use Rattle.std.specs.Prelude.{◌≡◌, ℕ, ◌<◌, Bool, true, false, ◌&&◌, if◌then◌else◌, is_some, IsTrue, List, ◌∷◌, [], length, Option, Some, None, option_map, option_and_then, Result, refl}
+use Rattle.std.specs.Prelude.{◌≡◌, ℕ, ◌<◌, Bool, true, false, ◌&&◌, if◌then◌else◌, is_some, List, [], length, Option, Some, None, option_map, option_and_then, Result, refl}
 use Rattle.std.proofs.Common.{sym, ap, ◌∙◌, subst, arith}
 use Rattle.dm_token.specs.declared.stop.Stop.{Stop}
 use Rattle.dm_int.specs.declared.Kind.{Kind}
@@ -24,7 +24,7 @@ use Rattle.dm_ebinary.specs.declared.operations.Brought.{Brought}
 use Rattle.dm_ebinary.specs.declared.operations.Brought.TheVariants as brought
 use Rattle.dm_typing.specs.Known.{Known, Setting, Outcome}
 use Rattle.dm_typing.specs.Operators.{row_at, operator_of_row}
-use Rattle.dm_typing.specs.Conversions.{complete_target, as_type, as_kind, is_null}
+use Rattle.dm_typing.specs.Conversions.{as_type, as_kind}
 use Rattle.dm_typing.specs.Fitting.{IsNumbered}
 use Rattle.dm_ebinary.specs.Pairs.{both_kinds, sides_of, pair_by, IsWay, compared_as, by_kinds, family_of, by_family, moves_by, have_distance, is_beside_null, equal_by, equated_by}
 use Rattle.dm_typing.specs.Rules.{Pair, pair, indexed, points_to_complete, point_alike, is_void_pointer, of_integers, of_pointer_and_integer, of_others, of_kinds, operated, ordered, equated}

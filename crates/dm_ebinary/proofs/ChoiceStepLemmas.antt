@@ -1,12 +1,11 @@
 -- The conditional operator, as the code types it.
-use Rattle.std.specs.Prelude.{◌≡◌, ℕ, ◌<◌, ◌==◌, Bool, true, false, ◌||◌, if◌then◌else◌, IsTrue, List, [], length, Option, Some, None, option_map, refl}
-use Rattle.std.proofs.Common.{sym, ap, ap₂, ◌∙◌}
+use Rattle.std.specs.Prelude.{◌≡◌, ℕ, ◌==◌, Bool, true, false, ◌||◌, if◌then◌else◌, List, [], Option, Some, None, option_map, refl}
+use Rattle.std.proofs.Common.{sym, ap, ◌∙◌}
 use Rattle.dm_int.specs.declared.Kind.{Kind}
-use Rattle.dm_int.specs.Kinds.{common}
 use Rattle.dm_type.specs.declared.shape.Shape.{Shape}
-use Rattle.dm_type.specs.Alike.{are_compatible, composite}
-use Rattle.dm_type.specs.CTypes.{CType, void, integer, pointer, struct, bare, is_const}
-use Rattle.dm_type.specs.Tables.{Table, type_of, IsId, Has}
+use Rattle.dm_type.specs.Alike.{composite}
+use Rattle.dm_type.specs.CTypes.{CType, void, pointer, struct, bare, is_const}
+use Rattle.dm_type.specs.Tables.{Table, type_of, IsId}
 use Rattle.dm_tree.specs.declared.tree.Core.{Core, out-Core}
 use Rattle.dm_tree.specs.Constants.{integer_kind}
 use Rattle.dm_tree.specs.Scenes.{target, is_void, are_alike}
@@ -18,7 +17,7 @@ use Rattle.dm_typing.specs.Conversions.{as_type, is_same, is_null}
 use Rattle.dm_typing.specs.Fitting.{IsNumbered}
 use Rattle.dm_typing.specs.Known.{Known}
 use Rattle.dm_ebinary.specs.Pairs.{both_kinds}
-use Rattle.dm_typing.specs.Rules.{Pair, pair, both_as, with_const_if, pointer_arms, arms_by_targets, arms_of_types, arms_of_kinds, arms}
+use Rattle.dm_typing.specs.Rules.{pair, both_as, with_const_if, pointer_arms, arms_by_targets, arms_of_types, arms_of_kinds, arms}
 use Rattle.dm_typing.specs.Views.{Begins, type_over, view_over, known_over}
 use Rattle.dm_ebinary.proofs.BinaryLemmas.{types-alone}
 use Rattle.dm_typing.proofs.KindLemmas.{same-numbers}

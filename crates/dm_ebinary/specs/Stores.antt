@@ -1,7 +1,7 @@
 -- What the code of assignments finds on the way (6.5.16).
 --     fits_kind kind type      a value of the type may be assigned to an integer of the kind
 --     updated_over later value found      the right operand of a compound assignment after its conversion, whatever numbers come
-use Rattle.std.specs.Prelude.{Bool, ◌&&◌, ◌||◌, List, [], ◌∷◌, Option, option_map, IfSome}
+use Rattle.std.specs.Prelude.{Bool, ◌&&◌, ◌||◌, List, [], ◌∷◌, option_map, IfSome}
 use Rattle.dm_int.specs.declared.Kind.{Kind}
 use Rattle.dm_int.specs.declared.Kind.TheVariants as k
 use Rattle.dm_int.specs.declared.Op.{Op}

@@ -1,5 +1,5 @@
 -- By the kinds of the object and of the value.
-use Rattle.std.specs.Prelude.{Some, None}
+use Rattle.std.specs.Prelude.{Some}
 use Rattle.std.proofs.Common.{ap, sym, ◌∙◌}
 use Rattle.dm_ebinary.proofs.AssignLemmas.{updated-integers, updated-pointer}
 use Rattle.dm_typing.specs.Views.{view_over}

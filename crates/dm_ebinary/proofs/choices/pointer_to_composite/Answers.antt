@@ -1,10 +1,9 @@
 -- The const of both, and the composite of the rest.
 use Rattle.std.specs.Prelude.{◌||◌, IsTrue}
-use Rattle.std.proofs.Common.{ap, ap₂, sym, ◌∙◌, subst₂}
+use Rattle.std.proofs.Common.{ap₂, sym, ◌∙◌, subst₂}
 use Rattle.dm_type.specs.Alike.{are_compatible, composite}
 use Rattle.dm_type.specs.CTypes.{pointer, is_const}
 use Rattle.dm_typing.specs.Rules.{with_const_if}
-use Rattle.dm_typing.specs.Views.{type_over}
 use Rattle.dm_ebinary.proofs.BinaryLemmas.{grows-on}
 use Rattle.dm_ebinary.proofs.ChoiceStepLemmas.{numbers-later}
 use Rattle.dm_typing.proofs.LaterLemmas.{begins-on}

@@ -2,7 +2,6 @@
 use Rattle.std.proofs.Common.{ap, sym, ◌∙◌, subst}
 use Rattle.dm_ebinary.specs.Pairs.{pair_by, IsWay}
 use Rattle.dm_typing.specs.Views.{view_over}
-use Rattle.dm_typing.proofs.LaterLemmas.{begins-length}
 use Rattle.dm_ebinary.proofs.BinaryLemmas.{compared-so, compared-numbered}
 use Rattle.dm_ebinary.proofs.operations.compared.Goals as goal
 

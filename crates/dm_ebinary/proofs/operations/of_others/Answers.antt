@@ -1,5 +1,4 @@
 -- By what the operator may do with such operands.
-use Rattle.std.specs.Prelude.{Some, option_map}
 use Rattle.std.proofs.Common.{ap, sym, ◌∙◌}
 use Rattle.dm_ebinary.specs.Pairs.{by_family}
 use Rattle.dm_typing.specs.Views.{view_over, known_over}

@@ -1,6 +1,6 @@
 -- By the kinds of the operands.
-use Rattle.std.specs.Prelude.{Some, None, option_map}
-use Rattle.std.proofs.Common.{ap, sym, ◌∙◌}
+use Rattle.std.specs.Prelude.{Some, None}
+use Rattle.std.proofs.Common.{ap, ◌∙◌}
 use Rattle.dm_ebinary.proofs.BinaryLemmas.{by-kinds-later}
 use Rattle.dm_typing.specs.Views.{view_over}
 use Rattle.dm_typing.proofs.LaterLemmas.{begins-on}

@@ -1,6 +1,5 @@
 -- By the operator of the token.
-use Rattle.std.specs.Prelude.{None, Some}
-use Rattle.std.proofs.Common.{ap, sym, ◌∙◌}
+use Rattle.std.proofs.Common.{ap, sym}
 use Rattle.dm_tree.specs.declared.tree.Core.{Core}
 use Rattle.dm_typing.specs.Typing.{typed_operation}
 use Rattle.dm_typing.specs.Views.{view_over, known_over, source_of, setting_of}
