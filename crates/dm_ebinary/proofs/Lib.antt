@@ -1,0 +1,3 @@
+pub mod BinaryLemmas
+pub mod ChoiceStepLemmas
+pub mod AssignLemmas
