@@ -1,0 +1,4 @@
+pub mod ObjectLemmas
+pub mod MemberStepLemmas
+pub mod CallStepLemmas
+pub mod TagStepLemmas
