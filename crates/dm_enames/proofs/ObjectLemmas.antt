@@ -1,7 +1,7 @@
 -- What names mean, and what their sorts come to.
-use Rattle.std.specs.Prelude.{◌≡◌, ℕ, ℤ, Bool, true, false, ◌&&◌, not, is_some, List, [], option_and_then, option_map, unwrap_or, slice_get, length, Option, Some, None, refl}
-use Rattle.std.proofs.Common.{sym, ap, ◌∙◌, arith}
-use Rattle.std.proofs.lemmas.Option.{slice_get-map}
+use Rattle.std.specs.Prelude.{◌≡◌, ℕ, zero, suc, ◌<◌, All, ◌∷◌, ℤ, Bool, true, false, ◌&&◌, not, is_some, List, [], option_and_then, option_map, unwrap_or, slice_get, length, Option, Some, None, refl}
+use Rattle.std.proofs.Common.{sym, ap, ◌∙◌, arith, subst}
+use Rattle.std.proofs.lemmas.Option.{slice_get-map, slice_get_within, get_or_from_slice_get}
 use Rattle.dm_int.specs.declared.Kind.TheVariants as k
 use Rattle.dm_type.specs.declared.shape.Shape.{Shape}
 use Rattle.dm_type.specs.CTypes.{CType, integer}
@@ -44,6 +44,15 @@ meaning-entry held later name n entry h is = meaning-at held later name n h ∙ 
 pub meaning-missing : (held : Held) (later : List Shape) (name : List ℕ) (n : ℕ) → number_of held.scopes name ≡ Some n → slice_get held.declared n ≡ None
     → meaning_of (known_over later held) name ≡ None
 meaning-missing held later name n h is = meaning-at held later name n h ∙ ap (option_map (view_of_declared (table_over later held.types))) is
+
+-- what all have, what is found has
+pub found-has : {A : Type 0} (P : A → Type 0) (items : List A) (n : ℕ) (item : A) → All P items → slice_get items n ≡ Some item → P item
+found-has P items n item all is = subst P (get_or_from_slice_get items n item item is) (all n item (slice_get_within items n item is))
+
+pub found-below : {A : Type 0} (items : List A) (n : ℕ) → n < length items → slice_get items n ≡ None → ⊥
+found-below [] n below none = absurd (omega (arith, below))
+found-below (item ∷ items) zero below none = absurd (cc)
+found-below (item ∷ items) (suc n) below none = found-below items n (omega (arith, below)) none
 
 -- ---- names in expressions
 

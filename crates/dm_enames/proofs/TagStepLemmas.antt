@@ -24,12 +24,13 @@ use Rattle.dm_tree.specs.declared.unit.Declared.{Declared}
 use Rattle.dm_tree.specs.Units.{Declaration}
 use Rattle.dm_tree.specs.Views.{view_of_declared, entries_of}
 use Rattle.dm_typing.specs.declared.known.Known.{Known as Held}
-use Rattle.dm_typing.specs.Bounds.{IsBelow, AreBelow, AreOpen}
+use Rattle.dm_typing.specs.Bounds.{IsBelow, AreBelow, IsUnset, AreOpen}
 use Rattle.dm_typing.specs.Conversions.{is_same}
 use Rattle.dm_typing.specs.Known.{Known, obeys, given, declaring}
-use Rattle.dm_enames.specs.Tags.{ended, fields_over}
-use Rattle.dm_typing.specs.Typing.{is_among, number_among, number_of_type, fields, struct_ended}
-use Rattle.dm_typing.specs.Views.{Begins, type_over, table_over, view_over, known_over}
+use Rattle.dm_enames.specs.Tags.{ended, fields_over, IsUnopened, type_meant, struct_at}
+use Rattle.dm_typing.specs.Typing.{is_among, number_among, number_of_type, fields, struct_ended, beginning, struct_begun, may_have_members, number_if_struct}
+use Rattle.dm_typing.specs.Views.{Begins, type_over, table_over, view_over, known_over, seen}
+use Rattle.dm_typing.proofs.BoundLemmas.{open-parts, open-with}
 use Rattle.dm_typing.proofs.LaterLemmas.{begins-length, type-later}
 use Rattle.dm_typing.proofs.TypeLemmas.{same-types}
 use Rattle.dm_typing.proofs.ValueLemmas.{same-itself}
@@ -126,25 +127,11 @@ set-other (other ∷ structs) zero entry (suc at) apart = refl
 set-other (other ∷ structs) (suc number) entry zero apart = refl
 set-other (other ∷ structs) (suc number) entry (suc at) apart = set-other structs number entry at (λ e. apart (ap suc e))
 
--- the structs are all that counts
-pub open-same : (old new : Table) (begun : List ℕ) → new.structs ≡ old.structs → AreOpen old begun → AreOpen new begun
-open-same old new [] same still = tt
-open-same old new (number ∷ outer) same still = (
-  subst (λ structs. number < length structs) (sym same) still.0,
-  ap (λ structs. members_in structs number) same ∙ still.1,
-  still.2,
-  open-same old new outer same still.3,
-)
-
 -- one struct more
 pub open-more : (types : Table) (tag : Option (List ℕ)) (begun : List ℕ) → AreOpen types begun → AreOpen (with_struct types tag) begun
-open-more types tag [] still = tt
-open-more types tag (number ∷ outer) still = (
-  let under = still.0 in let longer = length-append types.structs (record { tag = tag; content = None } ∷ []) in omega (arith, under, longer),
-  pushed types.structs tag number ∙ still.1,
-  still.2,
-  open-more types tag outer still.3,
-)
+open-more types tag begun still =
+    let longer = length-append types.structs (record { tag = tag; content = None } ∷ []) in
+    (All-weaker (IsUnset types) (IsUnset (with_struct types tag)) (λ number one. (let under = one.0 in omega (arith, under, longer), pushed types.structs tag number ∙ one.1)) begun still.0, still.1)
 
 -- the struct that is new isn't being read
 pub new-apart : (types : Table) (begun : List ℕ) → AreOpen types begun → is_among (length types.structs) begun ≡ false
@@ -152,21 +139,22 @@ new-apart types [] still = refl
 new-apart types (number ∷ outer) still = go (length types.structs == number) refl
   where
     go : (test : Bool) → (length types.structs == number) ≡ test → (test || is_among (length types.structs) outer) ≡ false
-    go true e = let same = eqb-true (length types.structs) number e in let under = still.0 in absurd (omega (arith, same, under))
-    go false e = new-apart types outer still.3
+    go true e = let same = eqb-true (length types.structs) number e in let under = (open-parts types number outer still).0 in absurd (omega (arith, same, under))
+    go false e = new-apart types outer (open-parts types number outer still).3
 
 pub new-empty : (types : Table) (tag : Option (List ℕ)) → members_of (with_struct types tag) (length types.structs) ≡ None
 new-empty types tag = last-empty types.structs tag
 
 -- a struct outside these gets its members
 pub open-without : (types : Table) (number : ℕ) (content : Content) (begun : List ℕ) → is_among number begun ≡ false → AreOpen types begun → AreOpen (with_content types number content) begun
-open-without types number content [] apart still = tt
-open-without types number content (at ∷ outer) apart still = (
-  let under = still.0 in let same = length-set types.structs number (record { tag = tag_of types number; content = Some content }) in omega (arith, under, same),
-  set-other types.structs number (record { tag = tag_of types number; content = Some content }) at (λ e. other e) ∙ still.1,
-  still.2,
-  open-without types number content outer parts.1 still.3,
-)
+open-without types number content [] apart still = (All-nil (IsUnset (with_content types number content)), refl)
+open-without types number content (at ∷ outer) apart still =
+    let one = open-parts types at outer still in
+    let under = one.0 in
+    let same = length-set types.structs number (record { tag = tag_of types number; content = Some content }) in
+    open-with (with_content types number content) at outer (omega (arith, under, same))
+    (set-other types.structs number (record { tag = tag_of types number; content = Some content }) at (λ e. other e) ∙ one.1)
+    one.2 (open-without types number content outer parts.1 one.3)
   where
     parts : ((number == at) ≡ false) × (is_among number outer ≡ false)
     parts = or_parts (number == at) (is_among number outer) apart
@@ -313,3 +301,71 @@ struct-ends later old span number outer first members begins distinct all =
     ∙ ap (λ (layout : Option Layout). obeys (is_some layout) 5 span.first
     (given (ended (known_over later old) (with_content types number (record { members = first ∷ members; layout = layout })) outer) (struct number)))
     (struct-same old.types later begins (first ∷ members) all)
+
+-- ---- what holds behind a declaration
+
+pub below-longer : (entries : List Declared) (entry : Declared) (scopes : Scopes) → AreBelow (length entries) scopes → AreBelow (length (entries ++ entry ∷ [])) scopes
+below-longer entries entry scopes all = subst (λ count. AreBelow count scopes) (sym (length-append entries (entry ∷ []))) (all-below (length entries) scopes all)
+
+pub below-declared : (entries : List Declared) (entry : Declared) (scopes : Scopes) (name : List ℕ) → AreBelow (length entries) scopes
+    → AreBelow (length (entries ++ entry ∷ [])) (declared scopes name (length entries))
+below-declared entries entry scopes name all =
+    subst (λ count. AreBelow count (declared scopes name (length entries))) (sym (length-append entries (entry ∷ []))) (declared-below (length entries) scopes name all)
+
+-- ---- a struct that begins
+
+pub reverse-push : (numbers : List ℕ) (number : ℕ) → reverse (numbers ++ number ∷ []) ≡ number ∷ reverse numbers
+reverse-push numbers number = reverse-append numbers (number ∷ [])
+
+pub open-begun : (types : Table) (begun : List ℕ) (number : ℕ) → number < length types.structs → members_of types number ≡ None → is_among number (reverse begun) ≡ false
+    → AreOpen types (reverse begun) → AreOpen types (reverse (begun ++ number ∷ []))
+open-begun types begun number below empty apart still = subst (AreOpen types) (sym (reverse-push begun number)) (open-with types number (reverse begun) below empty apart still)
+
+pub begun-known : (later : List Shape) (held : Held) (begun : List ℕ) (number : ℕ) → begun ≡ held.begun.items ++ number ∷ []
+    → record (known_over later held) { begun = reverse begun } ≡ beginning (known_over later held) (Some number)
+begun-known later held begun number e =
+    ap (λ (numbers : List ℕ). record (known_over later held) { begun = numbers }) (ap reverse e ∙ reverse-push held.begun.items number)
+
+pub unopened-same : (old new : Held) (number : ℕ) → new.types ≡ old.types → new.begun.items ≡ old.begun.items → IsUnopened old number → IsUnopened new number
+unopened-same old new number types begun still = (
+  subst (λ (table : Table). number < length table.structs) (sym types) still.0,
+  ap (λ (table : Table). members_of table number) types ∙ still.1,
+  ap (λ (numbers : List ℕ). is_among number (reverse numbers)) begun ∙ still.2,
+)
+
+-- the struct of a declaration that is found
+pub struct-begun-later : (held : Held) (later : List Shape) (kind : ℕ) (entry : Declaration) → Begins held.types.shapes later → IsId held.types kind → type_over later kind ≡ entry.kind
+    → struct_begun (known_over later held) (Some entry) ≡ option_and_then (may_have_members (seen held)) (number_if_struct (type_of held.types kind))
+struct-begun-later held later kind entry begins inside is =
+    ap (λ type. option_and_then (may_have_members (seen held)) (number_if_struct type)) (sym is ∙ type-later held.types.shapes later kind begins inside)
+
+may-have : (known : Known) (at number : ℕ) → Some number ≡ may_have_members known at → at ≡ number
+may-have known at number h = go (is_some (members_of known.types at) || is_among at known.begun) h
+  where
+    go : (test : Bool) → Some number ≡ (if test then None else Some at) → at ≡ number
+    go true e = absurd (cc)
+    go false e = cc
+
+pub struct-of : (known : Known) (type : CType) (number : ℕ) → Some number ≡ option_and_then (may_have_members known) (number_if_struct type) → type ≡ struct number
+struct-of known (struct at) number h = ap struct (may-have known at number h)
+struct-of known type number h = absurd (cc)
+
+-- ---- what a tag means
+
+-- a declaration is found where its type is
+pub by-found : (P : Option Declaration → Type 0) (found : Option Declaration) (kind : CType) → Some kind ≡ type_meant found → ((entry : Declaration) → kind ≡ entry.kind → P (Some entry)) → P found
+by-found P None kind e then = absurd (cc)
+by-found P (Some entry) kind e then = then entry cc
+
+pub by-nothing : (P : Option Declaration → Type 0) (found : Option Declaration) → None ≡ type_meant found → P None → P found
+by-nothing P None e it = it
+by-nothing P (Some entry) e it = absurd (cc)
+
+-- the same of numbers of structs
+pub by-number : (P : Option ℕ → Type 0) (at : Option ℕ) (number : ℕ) → Some (struct number) ≡ struct_at at → P (Some number) → P at
+by-number P None number e it = absurd (cc)
+by-number P (Some other) number e it = let same : number ≡ other = cc in subst (λ n. P (Some n)) same it
+
+pub by-no-number : (P : Option ℕ → Type 0) (at : Option ℕ) → None ≡ struct_at at → P None → P at
+by-no-number P None e it = it
+by-no-number P (Some other) e it = absurd (cc)
