@@ -1,5 +1,5 @@
 -- What the code knows while tags are declared and the members of structs are read.
-use Rattle.std.specs.Prelude.{◌≡◌, ℕ, zero, suc, ◌+◌, ◌<◌, ◌==◌, Bool, true, false, ◌||◌, not, if◌then◌else◌, List, [], ◌∷◌, ◌++◌, length, map, reverse, drop, All, slice_get, slice_set, slice_index_or, Option, Some, None, is_some, option_and_then, option_map, Result, Ok, Err, refl}
+use Rattle.std.specs.Prelude.{◌≡◌, ℕ, zero, suc, ◌+◌, ◌<◌, ◌==◌, Bool, true, false, ◌||◌, not, if◌then◌else◌, List, [], ◌∷◌, ◌++◌, length, map, reverse, drop, All, slice_get, slice_set, slice_index_or, Option, Some, None, is_some, option_and_then, option_map, ℤ, IfNone, refl}
 use Rattle.std.proofs.Common.{sym, ap, ◌∙◌, subst, arith, cond, length-append}
 use Rattle.std.specs.Cmp.Lexicographic.{slice_cmp}
 use Rattle.std.specs.Ordering.{nat_cmp, eq_by_cmp}
@@ -18,17 +18,21 @@ use Rattle.dm_type.specs.Layouts.{layout_of, size_of, times, if_fits, padded, no
 use Rattle.dm_type.specs.TableLaws.{injected, length-types_of}
 use Rattle.dm_type.specs.Tables.{Table, types_of, type_of, IsId, AreDistinct, members_of, tag_of, with_struct, with_content}
 use Rattle.dm_scope.specs.Scopes.{Numbers, Scopes, number_of, is_declared, declared, or_else}
+use Rattle.dm_token.specs.declared.place.Place.{Place}
 use Rattle.dm_token.specs.declared.place.Span.{Span}
+use Rattle.dm_syn.specs.Sources.{spelling_at}
 use Rattle.dm_tree.specs.declared.tree.Core.{Core}
 use Rattle.dm_tree.specs.declared.unit.Declared.{Declared}
+use Rattle.dm_tree.specs.declared.unit.Linkage.TheVariants.{Absent}
+use Rattle.dm_tree.specs.declared.unit.Sort.TheVariants.{Enumerator as EnumeratorSort}
 use Rattle.dm_tree.specs.Units.{Declaration}
 use Rattle.dm_tree.specs.Views.{view_of_declared, entries_of}
 use Rattle.dm_typing.specs.declared.known.Known.{Known as Held}
 use Rattle.dm_typing.specs.Bounds.{IsBelow, AreBelow, IsUnset, AreOpen}
 use Rattle.dm_typing.specs.Conversions.{is_same}
-use Rattle.dm_typing.specs.Known.{Known, obeys, given, declaring}
+use Rattle.dm_typing.specs.Known.{Known, Setting, obeys, given, declaring, meaning_of, tag_key}
 use Rattle.dm_enames.specs.Tags.{ended, fields_over, IsUnopened, type_meant, struct_at}
-use Rattle.dm_typing.specs.Typing.{is_among, number_among, number_of_type, fields, struct_ended, beginning, struct_begun, may_have_members, number_if_struct}
+use Rattle.dm_typing.specs.Typing.{is_among, number_among, number_of_type, fields, struct_ended, tag_inside, beginning, struct_begun, may_have_members, number_if_struct}
 use Rattle.dm_typing.specs.Views.{Begins, type_over, table_over, view_over, known_over, seen}
 use Rattle.dm_typing.proofs.BoundLemmas.{open-parts, open-with}
 use Rattle.dm_typing.proofs.LaterLemmas.{begins-length, type-later}
@@ -369,3 +373,32 @@ by-number P (Some other) number e it = let same : number ≡ other = cc in subst
 pub by-no-number : (P : Option ℕ → Type 0) (at : Option ℕ) → None ≡ struct_at at → P None → P at
 by-no-number P None e it = it
 by-no-number P (Some other) e it = absurd (cc)
+
+-- ---- tags in scopes
+
+pub tag-inside-not : (setting : Setting) (known : Known) (at : ℕ) → is_declared known.scopes (tag_key (spelling_at setting.source at)) ≡ false → tag_inside setting known (Some at) ≡ None
+tag-inside-not setting known at h = ap (λ b. if b then meaning_of known (tag_key (spelling_at setting.source at)) else None) h
+
+pub tag-inside-is : (setting : Setting) (known : Known) (at : ℕ) → is_declared known.scopes (tag_key (spelling_at setting.source at)) ≡ true
+    → tag_inside setting known (Some at) ≡ meaning_of known (tag_key (spelling_at setting.source at))
+tag-inside-is setting known at h = ap (λ b. if b then meaning_of known (tag_key (spelling_at setting.source at)) else None) h
+
+pub nothing-then : {A : Type 0} {P Q : Type 0} (found : Option A) → IfNone found P → (P → Q) → IfNone found Q
+nothing-then None h f = f h
+nothing-then (Some it) h f = tt
+
+-- ---- enumerators
+
+abbrev enumerator : List ℕ → ℤ → CType → Place → Declaration
+enumerator name value kind place = record { name = name; sort = EnumeratorSort value; kind = kind; linkage = Absent; place = place }
+
+pub enumerates : (known behind new : Known) (key name spelled : List ℕ) (value : ℤ) (kind type : CType) (place here : Place) → known ≡ behind → key ≡ spelled → name ≡ spelled → kind ≡ type → place ≡ here
+    → new ≡ declaring behind key (record { name = name; sort = EnumeratorSort value; kind = kind; linkage = Absent; place = place })
+    → declaring known spelled (record { name = spelled; sort = EnumeratorSort value; kind = type; linkage = Absent; place = here }) ≡ new
+enumerates known behind new key name spelled value kind type place here k key-is name-is kind-is place-is new-is =
+    ap (λ x. declaring x spelled (enumerator spelled value type here)) k
+    ∙ sym (ap (λ x. declaring behind x (enumerator spelled value type here)) key-is)
+    ∙ sym (ap (λ x. declaring behind key (enumerator x value type here)) name-is)
+    ∙ sym (ap (λ x. declaring behind key (enumerator name value x here)) kind-is)
+    ∙ sym (ap (λ x. declaring behind key (enumerator name value kind x)) place-is)
+    ∙ sym new-is

@@ -1,6 +1,6 @@
 //! Tags of structs and enums (6.7.2.3), and enumerators (6.7.2.2).
 
-ghost use Rattle.std.specs.Prelude.{◌≡◌, ◌≢◌, ℕ, ◌<◌, false, ◌&&◌, All, List, [], ◌∷◌, ◌++◌, length, reverse, IsOk, IfOk, OnOk, IfSome, IfNone, option_map, option_and_then, Option, Some, None, pos, ◌+ℤ◌, bytes_eq, codes};
+ghost use Rattle.std.specs.Prelude.{◌≡◌, ◌≢◌, ℕ, ◌<◌, false, ◌&&◌, All, List, [], ◌∷◌, ◌++◌, drop, length, reverse, IsOk, IfOk, OnOk, IfSome, IfNone, option_map, option_and_then, Option, Some, None, pos, ◌+ℤ◌, bytes_eq, codes};
 ghost use Rattle.std.specs.Option.{option_copied};
 ghost use Rattle.dm_type.specs.declared.shape.Shape.{Shape as OneShape};
 ghost use Rattle.dm_type.specs.declared.shape.Shape.TheVariants.{Struct as StructShape};
@@ -145,6 +145,13 @@ fn add_constant(known: &mut Known, tree: Core) -> Result<(), Memory>
     Ok(())
 }
 
+/// The innermost struct's members are read.
+fn leave_innermost(begun: &mut Vec<u32>)
+    ensures { reverse begun.new.items ≡ drop 1 (reverse begun.old.items) }
+{
+    let _innermost = begun.pop();
+}
+
 /// The members of the innermost struct are read.
 fn end_struct(known: &mut Known, number: u32, members: List<Member>) -> Result<(), Memory>
     requires below { number < length known.old.types.structs }
@@ -156,7 +163,7 @@ fn end_struct(known: &mut Known, number: u32, members: List<Member>) -> Result<(
     ensures known { (later : List OneShape) (outer : List ℕ) → reverse known.old.begun.items ≡ number ∷ outer
         → known_over later known.new ≡ ended (known_over later known.old) (table_over later known.new.types) outer }
 {
-    let _innermost = known.begun.pop();
+    leave_innermost(&mut known.begun);
     known.types.set_members(number, members)?;
     Ok(())
 }
