@@ -11,7 +11,7 @@ pub returns-clause-value : goal.returns-clause-value
 returns-clause-value c = λ later begins.
     c.number.ensures.view (record { shapes = later; structs = [] })
     ∙ ap (λ type. made (source_of c.args.typer.now) c.args.at (label.number _) type []) (c.in_ok-kind.ensures.number.1 later begins)
-    ∙ sym (c.value_at.ensures c.args.at)
+    ∙ sym (c.value_at-value.ensures c.args.at)
 
 pub returns-clause-numbered : goal.returns-clause-numbered
 returns-clause-numbered c =

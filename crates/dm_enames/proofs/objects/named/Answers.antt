@@ -11,8 +11,8 @@ use Rattle.dm_enames.proofs.ObjectLemmas.{referred-as}
 use Rattle.dm_enames.proofs.objects.named.Goals as goal
 use Rattle.std.specs.Prelude.{Some, None}
 
-pub returns-in-None-clause-gives : goal.returns-in-None-clause-gives
-returns-in-None-clause-gives c = λ later begins.
+pub returns-clause-gives : goal.returns-clause-gives
+returns-clause-gives c = λ later begins.
     refused {A = Core} (view_over later) (source_of c.args.typer.now) (known_over later c.args.known.now) _ 1 c.args.at.inner.first c.broken.result
     (referred-as (setting_of c.args.typer.now) c.args.used (known_over later c.args.known.now) c.args.at c.in_ok-name.name None c.in_ok-name.ensures (c.in-None.ensures.none later))
     c.broken.ensures

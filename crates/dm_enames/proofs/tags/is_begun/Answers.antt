@@ -1,0 +1,7 @@
+-- The order makes no difference.
+use Rattle.std.proofs.Common.{sym, ◌∙◌}
+use Rattle.dm_enames.proofs.TagStepLemmas.{among-reverse}
+use Rattle.dm_enames.proofs.tags.is_begun.Goals as goal
+
+pub returns : goal.returns
+returns c = c.is_among.ensures ∙ sym (among-reverse c.args.number c.args.known.now.begun.items)
