@@ -31,7 +31,7 @@ use Rattle.dm_typing.specs.declared.known.Known.{Known as Held}
 use Rattle.dm_typing.specs.Bounds.{IsBelow, AreBelow, IsUnset, AreOpen}
 use Rattle.dm_typing.specs.Conversions.{is_same}
 use Rattle.dm_typing.specs.Known.{Known, Setting, obeys, given, declaring, meaning_of, tag_key}
-use Rattle.dm_enames.specs.Tags.{ended, fields_over, IsUnopened, type_meant, struct_at}
+use Rattle.dm_enames.specs.Tags.{ended, fields_over, IsInnermost, IsUnopened, type_meant, struct_at}
 use Rattle.dm_typing.specs.Typing.{is_among, number_among, number_of_type, fields, struct_ended, tag_inside, beginning, struct_begun, may_have_members, number_if_struct}
 use Rattle.dm_typing.specs.Views.{Begins, type_over, table_over, view_over, known_over, seen}
 use Rattle.dm_typing.proofs.BoundLemmas.{open-parts, open-with}
@@ -305,6 +305,30 @@ struct-ends later old span number outer first members begins distinct all =
     ∙ ap (λ (layout : Option Layout). obeys (is_some layout) 5 span.first
     (given (ended (known_over later old) (with_content types number (record { members = first ∷ members; layout = layout })) outer) (struct number)))
     (struct-same old.types later begins (first ∷ members) all)
+
+pub struct-ends-any : (later : List Shape) (old : Held) (span : Span) (number : ℕ) (outer : List ℕ) (members : List Member) → (members ≡ [] → ⊥) → Begins old.types.shapes later
+    → AreDistinct old.types → All (λ (member : Member). IsId old.types member.kind) members
+    → struct_ended (known_over later old) span (Some number) outer (fields_over later members)
+    ≡ obeys (is_some (struct_layout old.types members)) 5 span.first
+    (given (ended (known_over later old) (table_over later (with_content old.types number (contained old.types members))) outer) (struct number))
+struct-ends-any later old span number outer [] some begins distinct all = absurd (some refl)
+struct-ends-any later old span number outer (first ∷ members) some begins distinct all = struct-ends later old span number outer first members begins distinct all
+
+-- the innermost struct by its number
+same-some : (a b : ℕ) → ◌≡◌ {A = Option ℕ} (Some a) (Some b) → a ≡ b
+same-some a b e = cc
+
+pub innermost-of : (held : Held) (kind number : ℕ) → IsInnermost held kind → Some number ≡ number_if_struct (type_of held.types kind)
+    → (outer : List ℕ) × (reverse held.begun.items ≡ number ∷ outer)
+innermost-of held kind number inner is =
+    let same : number ≡ inner.0 = same-some number inner.0 (is ∙ ap number_if_struct inner.2) in (inner.1, inner.3 ∙ ap (λ n. n ∷ inner.1) (sym same))
+
+pub innermost-struct : (held : Held) (kind : ℕ) → IsInnermost held kind → None ≡ number_if_struct (type_of held.types kind) → ⊥
+innermost-struct held kind inner is = let no : None ≡ Some inner.0 = is ∙ ap number_if_struct inner.2 in absurd (cc)
+
+pub struct-numbered : (type : CType) (number : ℕ) → Some number ≡ number_if_struct type → type ≡ struct number
+struct-numbered (struct at) number is = ap struct (sym (same-some number at is))
+struct-numbered type number is = absurd (cc)
 
 -- ---- what holds behind a declaration
 

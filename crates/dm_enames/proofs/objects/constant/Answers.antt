@@ -10,7 +10,7 @@ use Rattle.dm_enames.proofs.objects.constant.Goals as goal
 pub returns-clause-value : goal.returns-clause-value
 returns-clause-value c = λ later begins.
     c.number.ensures.view (record { shapes = later; structs = [] })
-    ∙ ap (λ type. made (source_of c.args.typer.now) c.args.at (label.number _) type []) (c.in_ok-kind.ensures.number.1 later begins)
+    ∙ ap (λ type. made (source_of c.args.typer.now) c.args.at (label.number c.value_at-value.result.0) type []) (c.in_ok-kind.ensures.number.1 later begins)
     ∙ sym (c.value_at-value.ensures c.args.at)
 
 pub returns-clause-numbered : goal.returns-clause-numbered
