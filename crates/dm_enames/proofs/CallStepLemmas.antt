@@ -1,6 +1,6 @@
 -- Arguments and commas, one after the other.
 use Rattle.std.specs.Prelude.{◌≡◌, ℕ, Bool, true, false, if◌then◌else◌, List, [], ◌∷◌, ◌++◌, map, All, option_and_then, option_map, Option, Some, None, refl}
-use Rattle.std.proofs.Common.{sym, ap, ◌∙◌, append_assoc, append-nil}
+use Rattle.std.proofs.Common.{sym, ap, ◌∙◌, append_assoc}
 use Rattle.std.proofs.lemmas.List.Elements.{All-head, All-tail}
 use Rattle.dm_type.specs.declared.shape.Shape.{Shape}
 use Rattle.dm_type.specs.CTypes.{CType, CTypes, function, no_types, more_types, all_of, bare}
@@ -46,15 +46,10 @@ pub passed-not : (known : Known) (so_far : List Tree) (value : Tree) (values : L
 passed-not known so_far value values type types h =
     ap (behind_these so_far) (passed-next known value values type types ∙ ap (option_and_then (λ one. put_before one (passed known values types))) h)
 
--- too few parameters, too few arguments, or as many
-pub passed-many : (known : Known) (so_far : List Tree) (value : Tree) (values : List Tree) → behind_these so_far (passed known (value ∷ values) no_types) ≡ None
-passed-many known so_far value values = refl
-
-pub passed-few : (known : Known) (so_far : List Tree) (type : CType) (types : CTypes) → behind_these so_far (passed known [] (more_types type types)) ≡ None
-passed-few known so_far type types = refl
-
-pub passed-all : (known : Known) (so_far : List Tree) → behind_these so_far (passed known [] no_types) ≡ Some so_far
-passed-all known so_far = ap Some (append-nil so_far)
+-- too few arguments
+pub passed-left : (known : Known) (so_far : List Tree) (view : ℕ → CType) (rest : List ℕ) → (rest ≡ [] → ⊥) → behind_these so_far (passed known [] (all_of (map view rest))) ≡ None
+passed-left known so_far view [] some = absurd (some refl)
+passed-left known so_far view (id ∷ ids) some = refl
 
 -- ---- calls
 

@@ -1,5 +1,5 @@
 -- What the code knows while tags are declared and the members of structs are read.
-use Rattle.std.specs.Prelude.{◌≡◌, ℕ, zero, suc, ◌+◌, ◌<◌, ◌==◌, Bool, true, false, ◌||◌, not, if◌then◌else◌, List, [], ◌∷◌, ◌++◌, length, map, reverse, drop, All, slice_get, slice_set, slice_index_or, Option, Some, None, is_some, option_and_then, option_map, ℤ, IfNone, refl}
+use Rattle.std.specs.Prelude.{◌≡◌, ℕ, zero, suc, ◌+◌, ◌<◌, ◌==◌, Bool, true, false, ◌||◌, not, if◌then◌else◌, List, [], ◌∷◌, ◌++◌, length, map, reverse, drop, All, slice_get, slice_set, slice_index_or, Option, Some, None, is_some, option_and_then, option_map, ℤ, IfNone, IsSome, Result, Ok, Err, OnErr, refl}
 use Rattle.std.proofs.Common.{sym, ap, ◌∙◌, subst, arith, cond, length-append}
 use Rattle.std.specs.Cmp.Lexicographic.{slice_cmp}
 use Rattle.std.specs.Ordering.{nat_cmp, eq_by_cmp}
@@ -64,11 +64,12 @@ declared-below count (scope ∷ scopes) name all =
 -- a number of a name is below the count
 pub number-below : (count : ℕ) (scopes : Scopes) (name : List ℕ) (number : ℕ) → AreBelow count scopes → number_of scopes name ≡ Some number → number < count
 number-below count [] name number all h = absurd (cc)
-number-below count (scope ∷ scopes) name number all h = go (finite.get scope name) refl h
+number-below count (scope ∷ scopes) name number all h = go (number-below count scopes name number (All-tail (IsBelow count) scope scopes all)) (finite.get scope name) refl h
   where
-    go : (found : Option ℕ) → finite.get scope name ≡ found → or_else found (number_of scopes name) ≡ Some number → number < count
-    go (Some it) e h = All-head (IsBelow count) scope scopes all name number (e ∙ h)
-    go None e h = number-below count scopes name number (All-tail (IsBelow count) scope scopes all) h
+    go : (number_of scopes name ≡ Some number → number < count) → (found : Option ℕ) → finite.get scope name ≡ found → or_else found (number_of scopes name) ≡ Some number
+        → number < count
+    go further (Some it) e h = All-head (IsBelow count) scope scopes all name number (e ∙ h)
+    go further None e h = further h
 
 -- a name without a number is not declared in the innermost scope
 pub nowhere-declared : (scopes : Scopes) (name : List ℕ) → number_of scopes name ≡ None → is_declared scopes name ≡ false
@@ -140,11 +141,11 @@ open-more types tag begun still =
 -- the struct that is new isn't being read
 pub new-apart : (types : Table) (begun : List ℕ) → AreOpen types begun → is_among (length types.structs) begun ≡ false
 new-apart types [] still = refl
-new-apart types (number ∷ outer) still = go (length types.structs == number) refl
+new-apart types (number ∷ outer) still = go (new-apart types outer (open-parts types number outer still).3) (length types.structs == number) refl
   where
-    go : (test : Bool) → (length types.structs == number) ≡ test → (test || is_among (length types.structs) outer) ≡ false
-    go true e = let same = eqb-true (length types.structs) number e in let under = (open-parts types number outer still).0 in absurd (omega (arith, same, under))
-    go false e = new-apart types outer (open-parts types number outer still).3
+    go : is_among (length types.structs) outer ≡ false → (test : Bool) → (length types.structs == number) ≡ test → (test || is_among (length types.structs) outer) ≡ false
+    go further true e = let same = eqb-true (length types.structs) number e in let under = (open-parts types number outer still).0 in absurd (omega (arith, same, under))
+    go further false e = further
 
 pub new-empty : (types : Table) (tag : Option (List ℕ)) → members_of (with_struct types tag) (length types.structs) ≡ None
 new-empty types tag = last-empty types.structs tag
@@ -228,12 +229,13 @@ module _ (table : Table) (later : List Shape) where
         ap (option_and_then (λ layout. joined (table_over later table) (followed_by before layout) members))
         (layout-same (type_over later member.kind)
         ∙ ap (layout_of table) (type-later table.shapes later member.kind begins (All-head (λ (one : Member). IsId table one.kind) member members all)))
-        ∙ each (layout_of table (type_of table member.kind))
+        ∙ each (λ layout. joined-same members (followed_by before layout) (All-tail (λ (one : Member). IsId table one.kind) member members all))
+        (layout_of table (type_of table member.kind))
       where
-        each : (found : Option Layout) → option_and_then (λ layout. joined (table_over later table) (followed_by before layout) members) found
+        each : ((layout : Layout) → joined (table_over later table) (followed_by before layout) members ≡ joined table (followed_by before layout) members) → (found : Option Layout) → option_and_then (λ layout. joined (table_over later table) (followed_by before layout) members) found
             ≡ option_and_then (λ layout. joined table (followed_by before layout) members) found
-        each None = refl
-        each (Some layout) = joined-same members (followed_by before layout) (All-tail (λ (one : Member). IsId table one.kind) member members all)
+        each further None = refl
+        each further (Some layout) = further layout
 
     pub struct-same : (members : List Member) → All (λ (member : Member). IsId table member.kind) members → struct_layout (table_over later table) members ≡ struct_layout table members
     struct-same members all = ap (option_and_then (λ layout. if_fits (padded layout))) (joined-same members nothing all)
@@ -259,7 +261,10 @@ sized types number members below =
 -- ---- scopes that are entered and left
 
 pub entered-below : (count : ℕ) (scopes : Scopes) → AreBelow count scopes → AreBelow count (finite.empty ∷ scopes)
-entered-below count scopes all = All-cons (IsBelow count) finite.empty scopes (λ name number h. absurd (cc)) all
+entered-below count scopes all = All-cons (IsBelow count) finite.empty scopes (λ name number h. no-number number h) all
+  where
+    no-number : (number : ℕ) → ◌≡◌ {A = Option ℕ} None (Some number) → number < count
+    no-number number h = absurd (cc)
 
 pub left-below : (count : ℕ) (scopes : Scopes) → AreBelow count scopes → AreBelow count (drop 1 scopes)
 left-below count [] all = all
@@ -340,6 +345,16 @@ pub below-declared : (entries : List Declared) (entry : Declared) (scopes : Scop
 below-declared entries entry scopes name all =
     subst (λ count. AreBelow count (declared scopes name (length entries))) (sym (length-append entries (entry ∷ []))) (declared-below (length entries) scopes name all)
 
+pub declared-anyway : {E : Type 0} (answer : Result Bool E) (entries : List Declared) (entry : Declared) (old new : Scopes) (name : List ℕ) → AreBelow (length entries) old
+    → (answer ≡ Ok true → new ≡ declared old name (length entries)) → (answer ≡ Ok false → new ≡ old) → OnErr answer (new ≡ old) → AreBelow (length (entries ++ entry ∷ [])) new
+declared-anyway (Ok true) entries entry old new name all once twice err = subst (AreBelow (length (entries ++ entry ∷ []))) (sym (once refl)) (below-declared entries entry old name all)
+declared-anyway (Ok false) entries entry old new name all once twice err = subst (AreBelow (length (entries ++ entry ∷ []))) (sym (twice refl)) (below-longer entries entry old all)
+declared-anyway (Err fault) entries entry old new name all once twice err = subst (AreBelow (length (entries ++ entry ∷ []))) (sym err) (below-longer entries entry old all)
+
+pub some-nothing : {A : Type 0} {P : Type 0} (found : Option A) → IsSome found → IfNone found P
+some-nothing None h = absurd h
+some-nothing (Some it) h = tt
+
 -- ---- a struct that begins
 
 pub reverse-push : (numbers : List ℕ) (number : ℕ) → reverse (numbers ++ number ∷ []) ≡ number ∷ reverse numbers
@@ -349,10 +364,24 @@ pub open-begun : (types : Table) (begun : List ℕ) (number : ℕ) → number < 
     → AreOpen types (reverse begun) → AreOpen types (reverse (begun ++ number ∷ []))
 open-begun types begun number below empty apart still = subst (AreOpen types) (sym (reverse-push begun number)) (open-with types number (reverse begun) below empty apart still)
 
+pub begun-anyway : (test : Bool) (types : Table) (begun new : List ℕ) (number : ℕ) → new ≡ (if test then begun ++ number ∷ [] else begun)
+    → (number < length types.structs) × (members_of types number ≡ None) × (is_among number (reverse begun) ≡ false) → AreOpen types (reverse begun) → AreOpen types (reverse new)
+begun-anyway true types begun new number is one still = subst (λ numbers. AreOpen types (reverse numbers)) (sym is) (open-begun types begun number one.0 one.1 one.2 still)
+begun-anyway false types begun new number is one still = subst (λ numbers. AreOpen types (reverse numbers)) (sym is) still
+
 pub begun-known : (later : List Shape) (held : Held) (begun : List ℕ) (number : ℕ) → begun ≡ held.begun.items ++ number ∷ []
     → record (known_over later held) { begun = reverse begun } ≡ beginning (known_over later held) (Some number)
 begun-known later held begun number e =
     ap (λ (numbers : List ℕ). record (known_over later held) { begun = numbers }) (ap reverse e ∙ reverse-push held.begun.items number)
+
+pub added-unopened : (types : Table) (tag : Option (List ℕ)) (held : Held) (number : ℕ) (begun : List ℕ) → AreOpen types (reverse begun) → number ≡ length types.structs
+    → held.types.structs ≡ types.structs ++ record { tag = tag; content = None } ∷ [] → held.begun.items ≡ begun → IsUnopened held number
+added-unopened types tag held number begun still is structs same = (
+  let longer = length-append types.structs (record { tag = tag; content = None } ∷ []) in let long = ap length structs in omega (arith, longer, long, is),
+  ap (λ (entries : List StructEntry). members_in entries number) structs
+      ∙ ap (members_in (types.structs ++ record { tag = tag; content = None } ∷ [])) is ∙ last-empty types.structs tag,
+  ap (λ (numbers : List ℕ). is_among number (reverse numbers)) same ∙ ap (λ (n : ℕ). is_among n (reverse begun)) is ∙ new-apart types (reverse begun) still,
+)
 
 pub unopened-same : (old new : Held) (number : ℕ) → new.types ≡ old.types → new.begun.items ≡ old.begun.items → IsUnopened old number → IsUnopened new number
 unopened-same old new number types begun still = (
@@ -382,8 +411,8 @@ struct-of known type number h = absurd (cc)
 
 -- a declaration is found where its type is
 pub by-found : (P : Option Declaration → Type 0) (found : Option Declaration) (kind : CType) → Some kind ≡ type_meant found → ((entry : Declaration) → kind ≡ entry.kind → P (Some entry)) → P found
-by-found P None kind e then = absurd (cc)
-by-found P (Some entry) kind e then = then entry cc
+by-found P None kind e next = absurd (cc)
+by-found P (Some entry) kind e next = next entry cc
 
 pub by-nothing : (P : Option Declaration → Type 0) (found : Option Declaration) → None ≡ type_meant found → P None → P found
 by-nothing P None e it = it
@@ -416,13 +445,14 @@ nothing-then (Some it) h f = tt
 abbrev enumerator : List ℕ → ℤ → CType → Place → Declaration
 enumerator name value kind place = record { name = name; sort = EnumeratorSort value; kind = kind; linkage = Absent; place = place }
 
-pub enumerates : (known behind new : Known) (key name spelled : List ℕ) (value : ℤ) (kind type : CType) (place here : Place) → known ≡ behind → key ≡ spelled → name ≡ spelled → kind ≡ type → place ≡ here
-    → new ≡ declaring behind key (record { name = name; sort = EnumeratorSort value; kind = kind; linkage = Absent; place = place })
+pub enumerates : (known behind new : Known) (key name spelled : List ℕ) (value given_value : ℤ) (kind type : CType) (place here : Place) → known ≡ behind → key ≡ spelled → name ≡ spelled
+    → given_value ≡ value → kind ≡ type → place ≡ here → new ≡ declaring behind key (record { name = name; sort = EnumeratorSort given_value; kind = kind; linkage = Absent; place = place })
     → declaring known spelled (record { name = spelled; sort = EnumeratorSort value; kind = type; linkage = Absent; place = here }) ≡ new
-enumerates known behind new key name spelled value kind type place here k key-is name-is kind-is place-is new-is =
+enumerates known behind new key name spelled value given_value kind type place here k key-is name-is value-is kind-is place-is new-is =
     ap (λ x. declaring x spelled (enumerator spelled value type here)) k
     ∙ sym (ap (λ x. declaring behind x (enumerator spelled value type here)) key-is)
     ∙ sym (ap (λ x. declaring behind key (enumerator x value type here)) name-is)
-    ∙ sym (ap (λ x. declaring behind key (enumerator name value x here)) kind-is)
-    ∙ sym (ap (λ x. declaring behind key (enumerator name value kind x)) place-is)
+    ∙ sym (ap (λ x. declaring behind key (enumerator name x type here)) value-is)
+    ∙ sym (ap (λ x. declaring behind key (enumerator name given_value x here)) kind-is)
+    ∙ sym (ap (λ x. declaring behind key (enumerator name given_value kind x)) place-is)
     ∙ sym new-is

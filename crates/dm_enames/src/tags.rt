@@ -518,5 +518,12 @@ fn int_of(known: &Known, tree: &Core) -> Option<i32>
     ensures { (later : List OneShape) → Begins known.now.types.shapes later → result ≡ option_and_then if_int (constant_of (known_over later known.now) (view_over later tree.now)) }
 {
     let value = constant(tree, &known.declared, &known.types)?;
+    as_int(value)
+}
+
+/// The value if it fits int.
+fn as_int(value: i128) -> Option<i32>
+    ensures { result ≡ if_int value }
+{
     i32::try_from(value).ok()
 }

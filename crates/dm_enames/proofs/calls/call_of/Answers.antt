@@ -10,16 +10,16 @@ use Rattle.dm_typing.proofs.LaterLemmas.{type-later}
 use Rattle.dm_typing.proofs.ValueLemmas.{bare-later}
 use Rattle.dm_enames.proofs.calls.call_of.Goals as goal
 
-pub returns-in_ok-passed-in-Some-clause-call : goal.returns-in_ok-passed-in-Some-clause-call
-returns-in_ok-passed-in-Some-clause-call c = λ later begins.
+pub returns-in_ok-arguments-in-Some-clause-call : goal.returns-in_ok-arguments-in-Some-clause-call
+returns-in_ok-arguments-in-Some-clause-call c = λ later begins.
     let types = c.args.known.now.types in
     let known = known_over later c.args.known.now in
     let values = map (view_over later) c.args.values in
     let result = c.in-Some.parts.0 in
     let parameters = c.in-Some.parts.1.now in
     ap (option_map (call_over later)) c.called_with.ensures
-    ∙ call-pairs later c.bare.result (type_over later result) c.in_ok-passed-in-Some.passed (bare-later types later result c.bare.result begins c.in-Some.ensures.numbered.0 c.bare.ensures)
-    ∙ ap (option_map (λ (list : List Tree). (bare (type_over later result), list))) (c.in_ok-passed-in-Some.ensures.passed later begins)
+    ∙ call-pairs later c.bare.result (type_over later result) c.in_ok-arguments-in-Some.arguments (bare-later types later result c.bare.result begins c.in-Some.ensures.numbered.0 c.bare.ensures)
+    ∙ ap (option_map (λ (list : List Tree). (bare (type_over later result), list))) (c.in_ok-arguments-in-Some.ensures.passed later begins)
     ∙ sym (called-with known (type_over later c.args.kind) (type_over later result) (all_of (map (type_over later) parameters)) values
     (parts-later types later c.args.kind result parameters begins c.requires.kind c.in-Some.ensures.numbered.0 c.in-Some.ensures.numbered.1 c.in-Some.ensures.parts))
 

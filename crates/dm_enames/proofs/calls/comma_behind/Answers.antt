@@ -32,7 +32,7 @@ loop-second-preserved c =
           let all = subst (AreNumbered types) c.in-Some.ensures so_far.1 in
           let one = All-head (IsNumbered types) second rest all in
           let n = length types.shapes in (
-            node-known n (out-Core second).kind c.in_ok-tree.field-0 (are_known n c.loop-second.tree && are_known n second) (c.in_ok-tree.ensures.known n) (kind-known n second one)
+            node-known n (out-Core second).kind c.in_ok-tree.tree (are_known n c.loop-second.tree && are_known n second) (c.in_ok-tree.ensures.known n) (kind-known n second one)
                 (and_from (are_known n c.loop-second.tree) (are_known n second) so_far.0 one),
             All-tail (IsNumbered types) second rest all,
           );

@@ -31,13 +31,13 @@ returns-in-None-clause-gives c = λ later begins.
     let known = known_over later c.args.known.now in
     let tree = view_over later c.args.tree in
     let values = map (view_over later) c.args.values in
-    refused {A = Core} (view_over later) (source_of c.args.typer.now) known _ 10 c.args.at.inner.first c.broken.result
+    refused {A = Core} (view_over later) (source_of c.args.typer.now) known _ 10 c.args.at.inner.first c.broken-in-None.result
     (obeyed (is_name (expr c.args.callee.now) && is_function_label (label_of tree)) 10 c.args.at.inner.first _
     (sym (c.names_function.ensures (record { shapes = later; structs = [] })) ∙ c.if-not-names_function.false)
     ∙ found-none (called known (kind_of tree) values) 10 c.args.at.inner.first _
     (ap (λ type. called known type values) (kind-view (record { shapes = later; structs = [] }) c.args.tree)
     ∙ (sym (c.in_ok-found.ensures.call later begins) ∙ ap (option_map (call_over later)) c.in-None.is)))
-    c.broken.ensures
+    c.broken-in-None.ensures
 
 pub returns-in_ok-made-in-Some-clause-gives : goal.returns-in_ok-made-in-Some-clause-gives
 returns-in_ok-made-in-Some-clause-gives c = λ later begins.

@@ -1,8 +1,8 @@
 -- The struct is one whose members were still to come, and none outside it is it.
-use Rattle.std.specs.Prelude.{ℕ, List, ◌∷◌, drop, reverse, length}
+use Rattle.std.specs.Prelude.{ℕ, List, drop, reverse}
 use Rattle.std.proofs.Common.{ap, sym, subst, ◌∙◌}
 use Rattle.dm_type.specs.Layouts.{contained}
-use Rattle.dm_type.specs.Tables.{Table}
+use Rattle.dm_type.specs.Tables.{Table, with_content}
 use Rattle.dm_typing.specs.Bounds.{AreOpen}
 use Rattle.dm_typing.specs.Fitting.{HaveTypes, AreNumbered}
 use Rattle.dm_typing.specs.Views.{known_over, table_over}
@@ -11,8 +11,8 @@ use Rattle.dm_enames.specs.Tags.{ended}
 use Rattle.dm_enames.proofs.TagStepLemmas.{open-without}
 use Rattle.dm_enames.proofs.tags.end_struct.Goals as goal
 
-pub set_members-requires-unset : goal.set_members-requires-unset
-set_members-requires-unset c =
+pub set_members-requires-clause-unset : goal.set_members-requires-clause-unset
+set_members-requires-clause-unset c =
     let old = c.args.known.now in
     (open-parts old.types c.args.number c.requires.innermost.0 (subst (AreOpen old.types) c.requires.innermost.1 old.unfinished)).1
 
@@ -26,7 +26,7 @@ invariant_of-known c =
       trees = subst (λ (table : Table). AreNumbered table old.constants) is old.trees;
       numbers = old.numbers;
       unfinished = subst (λ (table : Table). AreOpen table (reverse c.leave_innermost.new.begun.items)) is
-          (subst (AreOpen _) (sym (c.leave_innermost.ensures ∙ ap (drop 1) c.requires.innermost.1))
+          (subst (AreOpen (with_content old.types c.args.number (contained old.types c.args.members))) (sym (c.leave_innermost.ensures ∙ ap (drop 1) c.requires.innermost.1))
           (open-without old.types c.args.number (contained old.types c.args.members) outer parts.2 parts.3));
     }
 

@@ -1,5 +1,5 @@
 -- The struct is added, and then its tag is declared.
-use Rattle.std.specs.Prelude.{◌≡◌, ℕ, List, false}
+use Rattle.std.specs.Prelude.{List}
 use Rattle.std.proofs.Common.{ap, sym, subst, ◌∙◌}
 use Rattle.dm_type.specs.CTypes.{struct}
 use Rattle.dm_type.specs.Tables.{Table, IsId}
@@ -10,8 +10,8 @@ use Rattle.dm_typing.specs.Views.{Begins, known_over, setting_of}
 use Rattle.dm_enames.proofs.TagStepLemmas.{unopened-same}
 use Rattle.dm_enames.proofs.tags.new_struct.Goals as goal
 
-pub tag_declared-requires-new : goal.tag_declared-requires-new
-tag_declared-requires-new c =
+pub tag_declared-requires-clause-new : goal.tag_declared-requires-clause-new
+tag_declared-requires-clause-new c =
     ap (λ (scopes : Scopes). is_tag_inside (setting_of c.args.typer.now) scopes c.args.tag) c.add_struct.ensures.scopes ∙ c.requires
 
 pub returns-clause-known : goal.returns-clause-known
@@ -20,11 +20,11 @@ returns-clause-known c = λ later begins.
     let old = c.args.known.now in
     let tag = c.args.tag in
     let begins-before = subst (λ (table : Table). Begins table.shapes later) c.tag_declared.ensures.types begins in
-    c.tag_declared.ensures.declared later
+    c.in_ok-tag_declared.ensures.declared later
     ∙ ap (λ type. tag_declared setting (known_over later c.add_struct.new.known) tag type)
     (c.in_ok-made.ensures.kind.1 later begins-before ∙ ap struct c.in_ok-made.ensures.number)
     ∙ ap (λ known. tag_declared setting known tag _)
-    (c.add_struct.ensures.known later ∙ ap (with_new (known_over later old)) c.in_ok-name.ensures)
+    (c.in_ok-made.ensures.known later ∙ ap (with_new (known_over later old)) c.in_ok-name.ensures)
 
 pub returns-clause-kind : goal.returns-clause-kind
 returns-clause-kind c = λ later begins. c.in_ok-made.ensures.kind.1 later (subst (λ (table : Table). Begins table.shapes later) c.tag_declared.ensures.types begins)

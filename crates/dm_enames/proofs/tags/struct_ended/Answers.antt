@@ -16,5 +16,12 @@ use Rattle.dm_enames.proofs.tags.struct_ended.Goals as goal
 pub returns-in_default-clause-gives : goal.returns-in_default-clause-gives
 returns-in_default-clause-gives c = λ later begins at outer is inside.
     let known = known_over later c.args.known.now in
-    by-no-number (λ it. Gives {A = ℕ} (type_over later) (source_of c.args.typer.now) known (Err c.broken.result) (struct_ended known c.args.span it outer (fields_over later c.args.members))) at is
+    by-no-number (λ it. Gives {A = ℕ} (type_over later) (source_of c.args.typer.now) known (Err c.broken.result) (struct_ended known c.args.span it outer (fields_over later c.args.members))) at
+    (ap (option_map (type_over later)) (sym c.in_default.is) ∙ is)
     (refused {A = ℕ} (type_over later) (source_of c.args.typer.now) known _ 4 c.args.span.first c.broken.result refl c.broken.ensures)
+
+pub returns-then-is_none-clause-gives : goal.returns-then-is_none-clause-gives
+returns-then-is_none-clause-gives c = ?
+
+pub returns-clause-gives : goal.returns-clause-gives
+returns-clause-gives c = ?

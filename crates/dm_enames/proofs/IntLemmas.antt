@@ -1,0 +1,19 @@
+-- Which numbers fit int.
+use Rattle.std.specs.Prelude.{◌≡◌, ℤ, Bool, true, false, if◌then◌else◌, Option, Some, None, FitsSigned}
+use Rattle.std.proofs.Common.{ap, sym, arith}
+use Rattle.std.proofs.lemmas.Int.{ints}
+use mir.Syntax.{w32}
+use Rattle.dm_typing.specs.Typing.{is_int}
+use Rattle.dm_enames.specs.Tags.{if_int}
+
+is-int : (z : ℤ) → FitsSigned w32 z → is_int z ≡ true
+is-int z fits = grind (arith, ints)
+
+is-no-int : (z : ℤ) → (FitsSigned w32 z → ⊥) → is_int z ≡ false
+is-no-int z wide = grind (arith, ints)
+
+pub int-fits : (z : ℤ) → FitsSigned w32 z → Some z ≡ if_int z
+int-fits z fits = ap (λ (test : Bool). if test then Some z else None) (sym (is-int z fits))
+
+pub int-wide : (z : ℤ) → (FitsSigned w32 z → ⊥) → None ≡ if_int z
+int-wide z wide = ap (λ (test : Bool). if test then Some z else None) (sym (is-no-int z wide))
