@@ -1,6 +1,7 @@
 -- Which numbers fit int.
-use Rattle.std.specs.Prelude.{◌≡◌, ℤ, Bool, true, false, if◌then◌else◌, Option, Some, None, FitsSigned}
-use Rattle.std.proofs.Common.{ap, sym, arith}
+use Rattle.std.specs.Prelude.{◌≡◌, ℤ, Bool, true, false, if◌then◌else◌, Option, Some, None, FitsSigned, Result, Ok, Err, OkIff}
+use Rattle.std.specs.Result.{result_ok}
+use Rattle.std.proofs.Common.{ap, sym, arith, ◌∙◌}
 use Rattle.std.proofs.lemmas.Int.{ints}
 use mir.Syntax.{w32}
 use Rattle.dm_typing.specs.Typing.{is_int}
@@ -12,8 +13,12 @@ is-int z fits = grind (arith, ints)
 is-no-int : (z : ℤ) → (FitsSigned w32 z → ⊥) → is_int z ≡ false
 is-no-int z wide = grind (arith, ints)
 
-pub int-fits : (z : ℤ) → FitsSigned w32 z → Some z ≡ if_int z
+int-fits : (z : ℤ) → FitsSigned w32 z → Some z ≡ if_int z
 int-fits z fits = ap (λ (test : Bool). if test then Some z else None) (sym (is-int z fits))
 
-pub int-wide : (z : ℤ) → (FitsSigned w32 z → ⊥) → None ≡ if_int z
+int-wide : (z : ℤ) → (FitsSigned w32 z → ⊥) → None ≡ if_int z
 int-wide z wide = ap (λ (test : Bool). if test then Some z else None) (sym (is-no-int z wide))
+
+pub from-ok : {E : Type 0} (answer : Result ℤ E) (z given : ℤ) → OkIff answer (FitsSigned w32 z) given → (FitsSigned w32 z → given ≡ z) → result_ok answer ≡ if_int z
+from-ok (Ok x) z given h same = ap Some (h.1 ∙ same h.0) ∙ int-fits z h.0
+from-ok (Err fault) z given h same = int-wide z h

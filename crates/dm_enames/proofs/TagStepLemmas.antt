@@ -20,7 +20,6 @@ use Rattle.dm_type.specs.Tables.{Table, types_of, type_of, IsId, AreDistinct, me
 use Rattle.dm_scope.specs.Scopes.{Numbers, Scopes, number_of, is_declared, declared, or_else}
 use Rattle.dm_token.specs.declared.place.Place.{Place}
 use Rattle.dm_token.specs.declared.place.Span.{Span}
-use Rattle.dm_syn.specs.Sources.{spelling_at}
 use Rattle.dm_tree.specs.declared.tree.Core.{Core}
 use Rattle.dm_tree.specs.declared.unit.Declared.{Declared}
 use Rattle.dm_tree.specs.declared.unit.Linkage.TheVariants.{Absent}
@@ -30,9 +29,9 @@ use Rattle.dm_tree.specs.Views.{view_of_declared, entries_of}
 use Rattle.dm_typing.specs.declared.known.Known.{Known as Held}
 use Rattle.dm_typing.specs.Bounds.{IsBelow, AreBelow, IsUnset, AreOpen}
 use Rattle.dm_typing.specs.Conversions.{is_same}
-use Rattle.dm_typing.specs.Known.{Known, Setting, obeys, given, declaring, meaning_of, tag_key}
-use Rattle.dm_enames.specs.Tags.{ended, fields_over, IsInnermost, IsUnopened, type_meant, struct_at}
-use Rattle.dm_typing.specs.Typing.{is_among, number_among, number_of_type, fields, struct_ended, tag_inside, beginning, struct_begun, may_have_members, number_if_struct}
+use Rattle.dm_typing.specs.Known.{Known, obeys, given, declaring}
+use Rattle.dm_enames.specs.Tags.{ended, fields_over, IsUnopened, type_meant, struct_at}
+use Rattle.dm_typing.specs.Typing.{is_among, number_among, number_of_type, fields, struct_ended, beginning, struct_begun, may_have_members, number_if_struct}
 use Rattle.dm_typing.specs.Views.{Begins, type_over, table_over, view_over, known_over, seen}
 use Rattle.dm_typing.proofs.BoundLemmas.{open-parts, open-with}
 use Rattle.dm_typing.proofs.LaterLemmas.{begins-length, type-later}
@@ -261,7 +260,7 @@ sized types number members below =
 -- ---- scopes that are entered and left
 
 pub entered-below : (count : ℕ) (scopes : Scopes) → AreBelow count scopes → AreBelow count (finite.empty ∷ scopes)
-entered-below count scopes all = All-cons (IsBelow count) finite.empty scopes (λ name number h. no-number number h) all
+entered-below count scopes all = All-cons (IsBelow count) finite.empty scopes (λ name number h. no-number number (sym (finite.get-empty (slice_cmp nat_cmp) name) ∙ h)) all
   where
     no-number : (number : ℕ) → ◌≡◌ {A = Option ℕ} None (Some number) → number < count
     no-number number h = absurd (cc)
@@ -319,17 +318,8 @@ pub struct-ends-any : (later : List Shape) (old : Held) (span : Span) (number : 
 struct-ends-any later old span number outer [] some begins distinct all = absurd (some refl)
 struct-ends-any later old span number outer (first ∷ members) some begins distinct all = struct-ends later old span number outer first members begins distinct all
 
--- the innermost struct by its number
 same-some : (a b : ℕ) → ◌≡◌ {A = Option ℕ} (Some a) (Some b) → a ≡ b
 same-some a b e = cc
-
-pub innermost-of : (held : Held) (kind number : ℕ) → IsInnermost held kind → Some number ≡ number_if_struct (type_of held.types kind)
-    → (outer : List ℕ) × (reverse held.begun.items ≡ number ∷ outer)
-innermost-of held kind number inner is =
-    let same : number ≡ inner.0 = same-some number inner.0 (is ∙ ap number_if_struct inner.2) in (inner.1, inner.3 ∙ ap (λ n. n ∷ inner.1) (sym same))
-
-pub innermost-struct : (held : Held) (kind : ℕ) → IsInnermost held kind → None ≡ number_if_struct (type_of held.types kind) → ⊥
-innermost-struct held kind inner is = let no : None ≡ Some inner.0 = is ∙ ap number_if_struct inner.2 in absurd (cc)
 
 pub struct-numbered : (type : CType) (number : ℕ) → Some number ≡ number_if_struct type → type ≡ struct number
 struct-numbered (struct at) number is = ap struct (sym (same-some number at is))
@@ -351,9 +341,9 @@ declared-anyway (Ok true) entries entry old new name all once twice err = subst 
 declared-anyway (Ok false) entries entry old new name all once twice err = subst (AreBelow (length (entries ++ entry ∷ []))) (sym (twice refl)) (below-longer entries entry old all)
 declared-anyway (Err fault) entries entry old new name all once twice err = subst (AreBelow (length (entries ++ entry ∷ []))) (sym err) (below-longer entries entry old all)
 
-pub some-nothing : {A : Type 0} {P : Type 0} (found : Option A) → IsSome found → IfNone found P
-some-nothing None h = absurd h
-some-nothing (Some it) h = tt
+pub some-nothing : {A : Type 0} (P : Type 0) (found : Option A) → IsSome found → IfNone found P
+some-nothing P None h = absurd (cc)
+some-nothing P (Some it) h = tt
 
 -- ---- a struct that begins
 
@@ -426,19 +416,6 @@ by-number P (Some other) number e it = let same : number ≡ other = cc in subst
 pub by-no-number : (P : Option ℕ → Type 0) (at : Option ℕ) → None ≡ struct_at at → P None → P at
 by-no-number P None e it = it
 by-no-number P (Some other) e it = absurd (cc)
-
--- ---- tags in scopes
-
-pub tag-inside-not : (setting : Setting) (known : Known) (at : ℕ) → is_declared known.scopes (tag_key (spelling_at setting.source at)) ≡ false → tag_inside setting known (Some at) ≡ None
-tag-inside-not setting known at h = ap (λ b. if b then meaning_of known (tag_key (spelling_at setting.source at)) else None) h
-
-pub tag-inside-is : (setting : Setting) (known : Known) (at : ℕ) → is_declared known.scopes (tag_key (spelling_at setting.source at)) ≡ true
-    → tag_inside setting known (Some at) ≡ meaning_of known (tag_key (spelling_at setting.source at))
-tag-inside-is setting known at h = ap (λ b. if b then meaning_of known (tag_key (spelling_at setting.source at)) else None) h
-
-pub nothing-then : {A : Type 0} {P Q : Type 0} (found : Option A) → IfNone found P → (P → Q) → IfNone found Q
-nothing-then None h f = f h
-nothing-then (Some it) h f = tt
 
 -- ---- enumerators
 

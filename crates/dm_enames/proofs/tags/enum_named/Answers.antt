@@ -18,7 +18,7 @@ returns-then-not-is_integer-clause-gives c = λ later begins found is.
     by-found (λ it. Gives {A = ℕ} (type_over later) (source_of c.args.typer.now) known (Err c.broken.result) (enum_named known span it)) found (type_over later c.in-Some.kind) (ap (option_map (type_over later)) (sym c.in-Some.is) ∙ is) (λ entry same.
     refused {A = ℕ} (type_over later) (source_of c.args.typer.now) known _ 4 span.first c.broken.result
     (disobeyed (is_integer entry.kind) 4 span.first _
-    (ap is_integer (sym same ∙ type-later c.args.known.now.types.shapes later c.in-Some.kind begins (subst (λ meant. IfSome meant (IsId c.args.known.now.types)) c.in-Some.is c.requires)) ∙ (sym c.is_integer.ensures ∙ c.if-not-is_integer.true)))
+    (ap is_integer (sym same ∙ type-later c.args.known.now.types.shapes later c.in-Some.kind begins (subst (λ meant. IfSome meant (IsId c.args.known.now.types)) c.in-Some.is c.requires.kind)) ∙ (sym c.is_integer.ensures ∙ c.if-not-is_integer.true)))
     c.broken.ensures)
 
 pub returns-in_ok-int-in-Some-clause-gives : goal.returns-in_ok-int-in-Some-clause-gives
@@ -29,7 +29,7 @@ returns-in_ok-int-in-Some-clause-gives c = λ later begins found is.
     let span = c.args.span in
     by-found (λ it. enum_named known span it ≡ given (known_over later new) (type_over later c.in_ok-int-in-Some.int)) found (type_over later c.in-Some.kind) (ap (option_map (type_over later)) (sym c.in-Some.is) ∙ is) (λ entry same.
     obeyed (is_integer entry.kind) 4 span.first _
-    (ap is_integer (sym same ∙ type-later old.types.shapes later c.in-Some.kind (begins-on old.types.shapes new.types.shapes later c.intern.ensures.grows.shapes begins) (subst (λ meant. IfSome meant (IsId old.types)) c.in-Some.is c.requires))
+    (ap is_integer (sym same ∙ type-later old.types.shapes later c.in-Some.kind (begins-on old.types.shapes new.types.shapes later c.intern.ensures.grows.shapes begins) (subst (λ meant. IfSome meant (IsId old.types)) c.in-Some.is c.requires.kind))
     ∙ (sym c.is_integer.ensures ∙ c.if-not-is_integer.false))
     ∙ given-so known (known_over later new) _ _ (grown later old new c.intern.ensures.grows) (sym (c.in_ok-int-in-Some.ensures.number.1 later begins)))
 

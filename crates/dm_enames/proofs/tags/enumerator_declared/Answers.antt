@@ -47,7 +47,7 @@ returns-clause-gives c = λ later begins.
     (ap (λ x. not (is_declared scopes x)) (sym c.in_ok-name.ensures) ∙ ap not (sym c.is_declared.ensures ∙ c.if-is_declared.false))
     ∙ obeyed (not (is_file_scope scopes && bytes_eq name (codes "main"))) 36 c.args.at _
     (ap (λ x. not (is_file_scope scopes && bytes_eq x (codes "main"))) (sym c.in_ok-name.ensures) ∙ ap not (sym c.is_main_in_file.ensures ∙ c.if-is_main_in_file.false))
-    ∙ ap (λ known. given known _)
+    ∙ ap (λ known. given known c.args.value)
     (enumerates (known_over later old) (known_over later mid) (known_over later c.declare.new.known) c.in_ok-key.key c.in_ok-name.name name c.args.value (to_z w128 (of_z w128 c.from.result))
     (type_over later c.in_ok-kind.kind) (integer k.Int) c.place.result (place_at source c.args.at)
     (grown later old mid c.intern.ensures.grows) (c.in_ok-key.ensures ∙ c.in_ok-name.ensures) c.in_ok-name.ensures value

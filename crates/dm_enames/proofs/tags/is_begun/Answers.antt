@@ -5,4 +5,4 @@ use Rattle.dm_enames.proofs.TagStepLemmas.{among-reverse}
 use Rattle.dm_enames.proofs.tags.is_begun.Goals as goal
 
 pub returns : goal.returns
-returns c = c.is_among.ensures ∙ (ap (is_among c.args.number) c.as_slice.ensures ∙ sym (among-reverse c.args.number c.args.known.now.begun.items))
+returns c = c.is_among.ensures ∙ (ap (is_among c.args.number) c.as_slice.ensures.value ∙ sym (among-reverse c.args.number c.args.known.now.begun.items))

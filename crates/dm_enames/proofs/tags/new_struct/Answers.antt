@@ -1,5 +1,5 @@
 -- The struct is added, and then its tag is declared.
-use Rattle.std.specs.Prelude.{List}
+use Rattle.std.specs.Prelude.{length}
 use Rattle.std.proofs.Common.{ap, sym, subst, ◌∙◌}
 use Rattle.dm_type.specs.CTypes.{struct}
 use Rattle.dm_type.specs.Tables.{Table, IsId}
@@ -12,7 +12,7 @@ use Rattle.dm_enames.proofs.tags.new_struct.Goals as goal
 
 pub tag_declared-requires-clause-new : goal.tag_declared-requires-clause-new
 tag_declared-requires-clause-new c =
-    ap (λ (scopes : Scopes). is_tag_inside (setting_of c.args.typer.now) scopes c.args.tag) c.add_struct.ensures.scopes ∙ c.requires
+    ap (λ (scopes : Scopes). is_tag_inside (setting_of c.args.typer.now) scopes c.args.tag) c.add_struct.ensures.scopes ∙ c.requires.new
 
 pub returns-clause-known : goal.returns-clause-known
 returns-clause-known c = λ later begins.
@@ -23,7 +23,7 @@ returns-clause-known c = λ later begins.
     c.in_ok-tag_declared.ensures.declared later
     ∙ ap (λ type. tag_declared setting (known_over later c.add_struct.new.known) tag type)
     (c.in_ok-made.ensures.kind.1 later begins-before ∙ ap struct c.in_ok-made.ensures.number)
-    ∙ ap (λ known. tag_declared setting known tag _)
+    ∙ ap (λ known. tag_declared setting known tag (struct (length old.types.structs)))
     (c.in_ok-made.ensures.known later ∙ ap (with_new (known_over later old)) c.in_ok-name.ensures)
 
 pub returns-clause-kind : goal.returns-clause-kind
