@@ -19,6 +19,6 @@ int-fits z fits = ap (λ (test : Bool). if test then Some z else None) (sym (is-
 int-wide : (z : ℤ) → (FitsSigned w32 z → ⊥) → None ≡ if_int z
 int-wide z wide = ap (λ (test : Bool). if test then Some z else None) (sym (is-no-int z wide))
 
-pub from-ok : {E : Type 0} (answer : Result ℤ E) (z given : ℤ) → OkIff answer (FitsSigned w32 z) given → (FitsSigned w32 z → given ≡ z) → result_ok answer ≡ if_int z
-from-ok (Ok x) z given h same = ap Some (h.1 ∙ same h.0) ∙ int-fits z h.0
-from-ok (Err fault) z given h same = int-wide z h
+pub from-ok : {E : Type 0} (answer : Result ℤ E) (z : ℤ) → OkIff answer (FitsSigned w32 z) z → result_ok answer ≡ if_int z
+from-ok (Ok x) z h = ap Some h.1 ∙ int-fits z h.0
+from-ok (Err fault) z h = int-wide z h

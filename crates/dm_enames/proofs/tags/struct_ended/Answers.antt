@@ -40,7 +40,7 @@ returns-then-is_none-clause-gives c = λ later begins at outer is inside.
     ∙ ap is_some (ap (size_of (with_content old.types number (contained old.types members))) (sym is-struct)
     ∙ (ap (λ (types : Table). size_of types (type_of types kind)) (sym c.end_struct.ensures.types) ∙ sym c.size.ensures.size)) in
     by-number (λ it. IfSome it (λ n. reverse old.begun.items ≡ n ∷ outer)
-        → Gives {A = ℕ} (type_over later) (source_of c.args.typer.now) (known_over later new) (Err c.broken-then-is_none.result) (struct_ended known span it outer (fields_over later members)))
+    → Gives {A = ℕ} (type_over later) (source_of c.args.typer.now) (known_over later new) (Err c.broken-then-is_none.result) (struct_ended known span it outer (fields_over later members)))
     at number (ap Some (sym struct-later) ∙ (ap (option_map (type_over later)) (sym c.in-Some.is) ∙ is))
     (λ here. refused {A = ℕ} (type_over later) (source_of c.args.typer.now) (known_over later new) _ 5 span.first c.broken-then-is_none.result
     (struct-ends-any later old span number outer members some begins-before found.distinct c.requires.members
