@@ -1,12 +1,12 @@
 -- A member with another name is passed over.
-use Rattle.std.specs.Prelude.{◌≡◌, true, false, suc, drop, bytes_eq, All, length}
-use Rattle.std.proofs.Common.{ap, sym, ◌∙◌, rules, arith, subst}
+use Rattle.std.specs.Prelude.{◌≡◌, true, suc, drop, bytes_eq}
+use Rattle.std.proofs.Common.{ap, sym, ◌∙◌, rules, subst}
 use Rattle.std.proofs.lemmas.List.{drop_all}
 use Rattle.std.proofs.lemmas.List.Elements.{All-get_or}
 use Rattle.dm_type.specs.declared.shape.Member.{Member}
 use Rattle.dm_type.specs.Tables.{IsId}
 use Rattle.dm_typing.specs.Rules.{found_in}
-use Rattle.dm_enames.proofs.MemberStepLemmas.{found-here, found-on, cut-at}
+use Rattle.dm_enames.proofs.MemberStepLemmas.{found-here, cut-at}
 use Rattle.dm_enames.proofs.members.found_in.Goals as goal
 
 pub returns-then-eq-clause-found : goal.returns-then-eq-clause-found

@@ -1,8 +1,8 @@
 -- The whole decides what its member is.
-use Rattle.std.specs.Prelude.{length, [], Some, None, option_map, IfSome}
-use Rattle.std.proofs.Common.{ap, sym, subst, ◌∙◌}
+use Rattle.std.specs.Prelude.{length, [], Some, None, option_map}
+use Rattle.std.proofs.Common.{ap, sym, ◌∙◌}
 use Rattle.dm_type.specs.CTypes.{bare}
-use Rattle.dm_type.specs.Tables.{type_of, IsId}
+use Rattle.dm_type.specs.Tables.{type_of}
 use Rattle.dm_tree.specs.declared.tree.Core.{out-Core}
 use Rattle.dm_enames.specs.Meanings.{member_over}
 use Rattle.dm_typing.specs.Rules.{member_of_struct}

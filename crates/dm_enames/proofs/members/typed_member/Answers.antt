@@ -1,5 +1,5 @@
 -- A member is found by its name.
-use Rattle.std.specs.Prelude.{length, [], ◌∷◌, Some, None, option_map, IfSome}
+use Rattle.std.specs.Prelude.{length, [], option_map, IfSome}
 use Rattle.std.proofs.Common.{ap, sym, subst, ◌∙◌}
 use Rattle.dm_type.specs.Tables.{IsId}
 use Rattle.dm_tree.specs.TypeNumbers.{are_known}

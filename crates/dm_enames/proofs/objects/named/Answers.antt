@@ -1,12 +1,10 @@
 -- What the name means decides.
-use Rattle.std.proofs.Common.{sym, subst, ap, ◌∙◌}
+use Rattle.std.proofs.Common.{sym, subst}
 use Rattle.dm_tree.specs.Trees.{Tree}
 use Rattle.dm_tree.specs.declared.tree.Core.{Core}
-use Rattle.dm_typing.specs.Known.{Outcome, meaning_of}
-use Rattle.dm_typing.specs.Typing.{named}
+use Rattle.dm_typing.specs.Known.{Outcome}
 use Rattle.dm_typing.specs.Views.{view_over, known_over, source_of, setting_of, Gives}
 use Rattle.dm_typing.proofs.GivesLemmas.{refused}
-use Rattle.dm_typing.proofs.LaterLemmas.{begins-on}
 use Rattle.dm_enames.proofs.ObjectLemmas.{referred-as}
 use Rattle.dm_enames.proofs.objects.named.Goals as goal
 use Rattle.std.specs.Prelude.{Some, None}
