@@ -20,10 +20,6 @@ pub found-here : (table : Table) (name : List ℕ) (n : ℕ) (member : Member) (
     → found_in table name n (member ∷ members) ≡ Some (n, type_of table member.kind)
 found-here table name n member members h = ap (λ b. if b then Some (n, type_of table member.kind) else found_in table name (n + 1) members) h
 
-pub found-on : (table : Table) (name : List ℕ) (n : ℕ) (member : Member) (members : List Member) → bytes_eq member.name name ≡ false
-    → found_in table name n (member ∷ members) ≡ found_in table name (n + 1) members
-found-on table name n member members h = ap (λ b. if b then Some (n, type_of table member.kind) else found_in table name (n + 1) members) h
-
 pub cut-at : (members : List Member) (k : ℕ) (member : Member) → k < length members → member ≡ get_or members k member → drop k members ≡ member ∷ drop (suc k) members
 cut-at members k member below is = drop-cons members k member below ∙ ap (λ m. m ∷ drop (suc k) members) (sym is)
 
@@ -52,12 +48,6 @@ by-name known name tree type whole_is_lvalue whole_is_const found k l c f =
     ∙ ap (λ t. option_and_then (member_in whole_is_lvalue (is_const t)) (member_of_struct known name (bare t))) k
     ∙ ap (λ b. option_and_then (member_in whole_is_lvalue b) (member_of_struct known name (bare type))) c
     ∙ ap (option_and_then (member_in whole_is_lvalue whole_is_const)) f
-
-pub member-const : (n : ℕ) (type : CType) → member_in true true (n, type) ≡ Some (n, with_const type)
-member-const n type = refl
-
-pub member-plain : (n : ℕ) (type : CType) → member_in true false (n, type) ≡ Some (n, type)
-member-plain n type = refl
 
 pub member-array : (whole_is_const : Bool) (n : ℕ) (type : CType) → is_array type ≡ true → member_in false whole_is_const (n, type) ≡ None
 member-array whole_is_const n type h = ap (λ b. if b then None else Some (n, bare type)) h

@@ -34,25 +34,9 @@ meaning-at held later name n h =
     ap (option_and_then (slice_get (entries_of (table_over later held.types) held.declared))) h
     ∙ slice_get-map (view_of_declared (table_over later held.types)) held.declared n
 
-pub meaning-nothing : (held : Held) (later : List Shape) (name : List ℕ) → number_of held.scopes name ≡ None → meaning_of (known_over later held) name ≡ None
-meaning-nothing held later name h = ap (option_and_then (slice_get (entries_of (table_over later held.types) held.declared))) h
-
 pub meaning-entry : (held : Held) (later : List Shape) (name : List ℕ) (n : ℕ) (entry : Declared) → number_of held.scopes name ≡ Some n → slice_get held.declared n ≡ Some entry
     → meaning_of (known_over later held) name ≡ Some (view_of_declared (table_over later held.types) entry)
 meaning-entry held later name n entry h is = meaning-at held later name n h ∙ ap (option_map (view_of_declared (table_over later held.types))) is
-
-pub meaning-missing : (held : Held) (later : List Shape) (name : List ℕ) (n : ℕ) → number_of held.scopes name ≡ Some n → slice_get held.declared n ≡ None
-    → meaning_of (known_over later held) name ≡ None
-meaning-missing held later name n h is = meaning-at held later name n h ∙ ap (option_map (view_of_declared (table_over later held.types))) is
-
--- what all have, what is found has
-pub found-has : {A : Type 0} (P : A → Type 0) (items : List A) (n : ℕ) (item : A) → All P items → slice_get items n ≡ Some item → P item
-found-has P items n item all is = subst P (get_or_from_slice_get items n item item is) (all n item (slice_get_within items n item is))
-
-pub found-below : {A : Type 0} (items : List A) (n : ℕ) → n < length items → slice_get items n ≡ None → ⊥
-found-below [] n below none = absurd (omega (arith, below))
-found-below (item ∷ items) zero below none = absurd (cc)
-found-below (item ∷ items) (suc n) below none = found-below items n (omega (arith, below)) none
 
 -- ---- names in expressions
 
@@ -105,8 +89,3 @@ module _ (setting : Setting) (used : Bool) (known : Known) (extent : Extent) (na
   named-lacking sort n form kind s h is may =
       found-it (named_by_sort entry.sort (unwrap_or (number_of known.scopes name) 0) entry.kind) (form, kind) 1 extent.inner.first _ (sorted sort n s h ∙ is)
       ∙ disobeyed (may_be_used setting used name entry) 37 extent.inner.first _ may
-
-  pub named-not : (sort : Sort) (n : ℕ) → entry.sort ≡ sort → number_of known.scopes name ≡ Some n → named_by_sort sort n entry.kind ≡ None
-      → named setting used known extent name (Some entry) ≡ broken 1 extent.inner.first
-  named-not sort n s h is =
-      found-none (named_by_sort entry.sort (unwrap_or (number_of known.scopes name) 0) entry.kind) 1 extent.inner.first _ (sorted sort n s h ∙ is)

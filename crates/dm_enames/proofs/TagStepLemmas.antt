@@ -70,15 +70,6 @@ number-below count (scope ∷ scopes) name number all h = go (number-below count
     go further (Some it) e h = All-head (IsBelow count) scope scopes all name number (e ∙ h)
     go further None e h = further h
 
--- a name without a number is not declared in the innermost scope
-pub nowhere-declared : (scopes : Scopes) (name : List ℕ) → number_of scopes name ≡ None → is_declared scopes name ≡ false
-nowhere-declared [] name h = refl
-nowhere-declared (scope ∷ scopes) name h = go (finite.get scope name) refl h
-  where
-    go : (found : Option ℕ) → finite.get scope name ≡ found → or_else found (number_of scopes name) ≡ None → finite.contains_key scope name ≡ false
-    go (Some it) e h = absurd (cc)
-    go None e h = ap is_some e
-
 -- ---- numbers among others
 
 or-assoc : (a b c : Bool) → ((a || b) || c) ≡ (a || (b || c))
@@ -114,12 +105,6 @@ abbrev members_in : List StructEntry → ℕ → Option (List Member)
 members_in structs number =
     option_map (λ (content : Content). content.members) (option_and_then (λ (entry : StructEntry). entry.content) (slice_get structs number))
 
-pushed : (structs : List StructEntry) (tag : Option (List ℕ)) (number : ℕ) → members_in (structs ++ record { tag = tag; content = None } ∷ []) number ≡ members_in structs number
-pushed [] tag zero = refl
-pushed [] tag (suc number) = refl
-pushed (entry ∷ structs) tag zero = refl
-pushed (entry ∷ structs) tag (suc number) = pushed structs tag number
-
 last-empty : (structs : List StructEntry) (tag : Option (List ℕ)) → members_in (structs ++ record { tag = tag; content = None } ∷ []) (length structs) ≡ None
 last-empty [] tag = refl
 last-empty (entry ∷ structs) tag = last-empty structs tag
@@ -131,12 +116,6 @@ set-other (other ∷ structs) zero entry (suc at) apart = refl
 set-other (other ∷ structs) (suc number) entry zero apart = refl
 set-other (other ∷ structs) (suc number) entry (suc at) apart = set-other structs number entry at (λ e. apart (ap suc e))
 
--- one struct more
-pub open-more : (types : Table) (tag : Option (List ℕ)) (begun : List ℕ) → AreOpen types begun → AreOpen (with_struct types tag) begun
-open-more types tag begun still =
-    let longer = length-append types.structs (record { tag = tag; content = None } ∷ []) in
-    (All-weaker (IsUnset types) (IsUnset (with_struct types tag)) (λ number one. (let under = one.0 in omega (arith, under, longer), pushed types.structs tag number ∙ one.1)) begun still.0, still.1)
-
 -- the struct that is new isn't being read
 pub new-apart : (types : Table) (begun : List ℕ) → AreOpen types begun → is_among (length types.structs) begun ≡ false
 new-apart types [] still = refl
@@ -145,9 +124,6 @@ new-apart types (number ∷ outer) still = go (new-apart types outer (open-parts
     go : is_among (length types.structs) outer ≡ false → (test : Bool) → (length types.structs == number) ≡ test → (test || is_among (length types.structs) outer) ≡ false
     go further true e = let same = eqb-true (length types.structs) number e in let under = (open-parts types number outer still).0 in absurd (omega (arith, same, under))
     go further false e = further
-
-pub new-empty : (types : Table) (tag : Option (List ℕ)) → members_of (with_struct types tag) (length types.structs) ≡ None
-new-empty types tag = last-empty types.structs tag
 
 -- a struct outside these gets its members
 pub open-without : (types : Table) (number : ℕ) (content : Content) (begun : List ℕ) → is_among number begun ≡ false → AreOpen types begun → AreOpen (with_content types number content) begun

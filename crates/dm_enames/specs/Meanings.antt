@@ -1,8 +1,10 @@
 -- What names mean, as the code finds it.
 --     referred setting used known extent      a name that stands in an expression
 --     Says later entity entry      what the code takes of an entry is what the entry says
---     member_over later found      a member that is found, with its type written out
+--     member_over later found      a member that is found, with its type written out; written_member table found likewise
 --     argument known value type      an argument after its conversion, if it may be passed
+--     parts_of type      the types of the result and of the parameters of a function type
+--     call_over later call      the type of a call's result, and its arguments
 use Rattle.std.specs.Prelude.{◌≡◌, ℕ, Bool, if◌then◌else◌, List, map, Option, Some, None}
 use Rattle.dm_type.specs.declared.shape.Shape.{Shape}
 use Rattle.dm_type.specs.CTypes.{CType, CTypes, function}

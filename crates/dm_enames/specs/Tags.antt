@@ -1,7 +1,9 @@
 -- Tags and what they declare, as the code has them.
 --     is_tag_inside setting scopes tag      the innermost scope declares the tag
 --     type_meant found      the type of a declaration that is found
+--     struct_at number      the struct of a number
 --     with_new known tag      a struct more, of which nothing is known but its tag
+--     ended known types outer      what is known where the members of a struct are read
 --     IsInnermost held kind      the type is that of the innermost struct whose members are being read
 --     IsUnopened held number      the struct hasn't its members, and they aren't being read
 --     if_int value      the value if it fits int
