@@ -3,7 +3,7 @@ use Rattle.std.specs.Prelude.{◌≡◌, ℕ, Bool, true, false, if◌then◌els
 use Rattle.std.proofs.Common.{sym, ap, ◌∙◌, append_assoc}
 use Rattle.std.proofs.lemmas.List.Elements.{All-head, All-tail}
 use Rattle.dm_type.specs.declared.shape.Shape.{Shape}
-use Rattle.dm_type.specs.CTypes.{CType, CTypes, function, no_types, more_types, all_of, bare}
+use Rattle.dm_type.specs.CTypes.{CType, CTypes, function, more_types, all_of, bare}
 use Rattle.dm_type.specs.Tables.{Table, type_of, IsId}
 use Rattle.dm_tree.specs.declared.tree.Core.{Core}
 use Rattle.dm_tree.specs.Trees.{Tree}

@@ -1,5 +1,5 @@
 -- Which numbers fit int.
-use Rattle.std.specs.Prelude.{◌≡◌, ℤ, Bool, true, false, if◌then◌else◌, Option, Some, None, FitsSigned, Result, Ok, Err, OkIff}
+use Rattle.std.specs.Prelude.{◌≡◌, ℤ, Bool, true, false, if◌then◌else◌, Some, None, FitsSigned, Result, Ok, Err, OkIff}
 use Rattle.std.specs.Result.{result_ok}
 use Rattle.std.proofs.Common.{ap, sym, arith, ◌∙◌}
 use Rattle.std.proofs.lemmas.Int.{ints}

@@ -1,15 +1,14 @@
 -- The look-up of a member, step by step.
-use Rattle.std.specs.Prelude.{◌≡◌, ℕ, suc, ◌<◌, ◌+◌, Bool, true, false, if◌then◌else◌, List, [], ◌∷◌, length, drop, bytes_eq, option_and_then, option_map, Option, Some, None, refl}
+use Rattle.std.specs.Prelude.{◌≡◌, ℕ, suc, ◌<◌, ◌+◌, Bool, true, false, if◌then◌else◌, List, ◌∷◌, length, drop, bytes_eq, option_and_then, Option, Some, None, refl}
 use Rattle.std.proofs.Common.{sym, ap, ◌∙◌, get_or, drop-cons}
 use Rattle.dm_type.specs.declared.shape.Member.{Member}
 use Rattle.dm_type.specs.declared.shape.Shape.{Shape}
-use Rattle.dm_type.specs.CTypes.{CType, CTypes, void, integer, pointer, array, struct, function, const, bare, is_const, with_const}
+use Rattle.dm_type.specs.CTypes.{CType, struct, bare, is_const}
 use Rattle.dm_type.specs.Tables.{Table, type_of, IsId}
 use Rattle.dm_tree.specs.Scenes.{is_lvalue, is_array}
 use Rattle.dm_tree.specs.Trees.{Tree, kind_of}
 use Rattle.dm_typing.specs.Known.{Known}
 use Rattle.dm_typing.specs.Conversions.{members_in}
-use Rattle.dm_enames.specs.Meanings.{written_member, member_over}
 use Rattle.dm_typing.specs.Rules.{found_in, member_of_struct, member_in, member_by_name}
 use Rattle.dm_typing.specs.Views.{Begins, type_over, table_over}
 use Rattle.dm_typing.proofs.LaterLemmas.{type-later}

@@ -1,30 +1,28 @@
 -- What names mean, and what their sorts come to.
-use Rattle.std.specs.Prelude.{◌≡◌, ℕ, zero, suc, ◌<◌, All, ◌∷◌, ℤ, Bool, true, false, ◌&&◌, not, is_some, List, [], option_and_then, option_map, unwrap_or, slice_get, length, Option, Some, None, refl}
-use Rattle.std.proofs.Common.{sym, ap, ◌∙◌, arith, subst}
-use Rattle.std.proofs.lemmas.Option.{slice_get-map, slice_get_within, get_or_from_slice_get}
-use Rattle.dm_int.specs.declared.Kind.TheVariants as k
+use Rattle.std.specs.Prelude.{◌≡◌, ℕ, Bool, true, false, ◌&&◌, not, List, [], option_and_then, option_map, unwrap_or, slice_get, Option, Some, refl}
+use Rattle.std.proofs.Common.{sym, ap, ◌∙◌}
+use Rattle.std.proofs.lemmas.Option.{slice_get-map}
 use Rattle.dm_type.specs.declared.shape.Shape.{Shape}
-use Rattle.dm_type.specs.CTypes.{CType, integer}
+use Rattle.dm_type.specs.CTypes.{CType}
 use Rattle.dm_scope.specs.Scopes.{number_of}
 use Rattle.dm_syn.specs.Sources.{spelling_at}
 use Rattle.dm_tree.specs.declared.unit.Declared.{Declared}
 use Rattle.dm_tree.specs.declared.unit.Linkage.{Linkage}
 use Rattle.dm_tree.specs.declared.unit.Sort.{Sort}
-use Rattle.dm_tree.specs.declared.unit.Sort.TheVariants.{Object, Function, Typedef, Enumerator, Tag}
+use Rattle.dm_tree.specs.declared.unit.Sort.TheVariants.{Function}
 use Rattle.dm_tree.specs.Initialisers.{is_function_sort}
-use Rattle.dm_tree.specs.Trees as label
-use Rattle.dm_tree.specs.Trees.{Label, Tree}
+use Rattle.dm_tree.specs.Trees.{Label}
 use Rattle.dm_tree.specs.Units.{Declaration}
 use Rattle.dm_tree.specs.Views.{view_of_declared, entries_of}
 use Rattle.dm_typing.specs.declared.extent.Extent.{Extent}
 use Rattle.dm_typing.specs.declared.known.Known.{Known as Held}
 use Rattle.dm_typing.specs.Conversions.{made}
-use Rattle.dm_typing.specs.Known.{Known, Setting, Outcome, given, broken, meaning_of}
+use Rattle.dm_typing.specs.Known.{Known, Setting, given, broken, meaning_of}
 use Rattle.dm_enames.specs.Meanings.{referred}
 use Rattle.dm_typing.specs.Rules.{named_by_sort}
 use Rattle.dm_typing.specs.Typing.{named, may_be_used, is_internal}
 use Rattle.dm_typing.specs.Views.{table_over, known_over}
-use Rattle.dm_typing.proofs.GivesLemmas.{obeyed, disobeyed, found-it, found-none}
+use Rattle.dm_typing.proofs.GivesLemmas.{obeyed, disobeyed, found-it}
 
 -- ---- what a name means
 

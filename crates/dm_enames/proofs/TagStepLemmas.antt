@@ -1,5 +1,5 @@
 -- What the code knows while tags are declared and the members of structs are read.
-use Rattle.std.specs.Prelude.{◌≡◌, ℕ, zero, suc, ◌+◌, ◌<◌, ◌==◌, Bool, true, false, ◌||◌, not, if◌then◌else◌, List, [], ◌∷◌, ◌++◌, length, map, reverse, drop, All, slice_get, slice_set, slice_index_or, Option, Some, None, is_some, option_and_then, option_map, ℤ, IfNone, IsSome, Result, Ok, Err, OnErr, refl}
+use Rattle.std.specs.Prelude.{◌≡◌, ℕ, zero, suc, ◌+◌, ◌<◌, ◌==◌, Bool, true, false, ◌||◌, if◌then◌else◌, List, [], ◌∷◌, ◌++◌, length, map, reverse, drop, All, slice_get, slice_set, slice_index_or, Option, Some, None, is_some, option_and_then, option_map, ℤ, IfNone, IsSome, Result, Ok, Err, OnErr, refl}
 use Rattle.std.proofs.Common.{sym, ap, ◌∙◌, subst, arith, cond, length-append}
 use Rattle.std.specs.Cmp.Lexicographic.{slice_cmp}
 use Rattle.std.specs.Ordering.{nat_cmp, eq_by_cmp}
@@ -16,8 +16,8 @@ use Rattle.dm_type.specs.declared.layout.Layout.{Layout}
 use Rattle.dm_type.specs.CTypes.{CType, void, integer, pointer, array, struct, function, const}
 use Rattle.dm_type.specs.Layouts.{layout_of, size_of, times, if_fits, padded, nothing, joined, followed_by, struct_layout, contained}
 use Rattle.dm_type.specs.TableLaws.{injected, length-types_of}
-use Rattle.dm_type.specs.Tables.{Table, types_of, type_of, IsId, AreDistinct, members_of, tag_of, with_struct, with_content}
-use Rattle.dm_scope.specs.Scopes.{Numbers, Scopes, number_of, is_declared, declared, or_else}
+use Rattle.dm_type.specs.Tables.{Table, types_of, type_of, IsId, AreDistinct, members_of, tag_of, with_content}
+use Rattle.dm_scope.specs.Scopes.{Numbers, Scopes, number_of, declared, or_else}
 use Rattle.dm_token.specs.declared.place.Place.{Place}
 use Rattle.dm_token.specs.declared.place.Span.{Span}
 use Rattle.dm_tree.specs.declared.tree.Core.{Core}

@@ -2,7 +2,7 @@
 use Rattle.std.specs.Prelude.{Some, None, if◌then◌else◌}
 use Rattle.std.proofs.Common.{ap, sym, ◌∙◌}
 use Rattle.dm_typing.specs.Conversions.{as_type}
-use Rattle.dm_typing.specs.Views.{view_over, known_over, type_over}
+use Rattle.dm_typing.specs.Views.{view_over, type_over}
 use Rattle.dm_enames.proofs.calls.argument.Goals as goal
 
 pub returns-then-not-is_assignable-clause-argument : goal.returns-then-not-is_assignable-clause-argument

@@ -1,5 +1,5 @@
 -- The parts of the type decide.
-use Rattle.std.specs.Prelude.{map, option_map, Some, List}
+use Rattle.std.specs.Prelude.{map, option_map, List}
 use Rattle.std.proofs.Common.{ap, sym, ◌∙◌}
 use Rattle.dm_type.specs.CTypes.{all_of, bare}
 use Rattle.dm_tree.specs.Trees.{Tree}

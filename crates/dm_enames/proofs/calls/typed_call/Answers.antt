@@ -1,10 +1,10 @@
 -- What is called is a function's name, and its arguments may be passed.
-use Rattle.std.specs.Prelude.{length, [], ◌∷◌, ◌&&◌, map, option_map, IfSome, Some, None}
+use Rattle.std.specs.Prelude.{length, [], ◌&&◌, map, option_map, IfSome}
 use Rattle.std.proofs.Common.{ap, sym, subst, ◌∙◌}
 use Rattle.std.proofs.lemmas.Bool.{and_from}
 use Rattle.dm_syn.specs.Views.{expr}
 use Rattle.dm_type.specs.Tables.{IsId}
-use Rattle.dm_tree.specs.declared.tree.Core.{Core, out-Core}
+use Rattle.dm_tree.specs.declared.tree.Core.{Core}
 use Rattle.dm_tree.specs.Trees.{label_of, kind_of}
 use Rattle.dm_tree.specs.TypeNumbers.{are_known, all_pass}
 use Rattle.dm_typing.specs.Fitting.{AreNumbered}
@@ -12,7 +12,7 @@ use Rattle.dm_typing.specs.Known.{given}
 use Rattle.dm_enames.specs.Meanings.{call_over}
 use Rattle.dm_typing.specs.Rules.{called}
 use Rattle.dm_typing.specs.Typing.{is_name, is_function_label}
-use Rattle.dm_typing.specs.Views.{view_over, known_over, source_of, type_over}
+use Rattle.dm_typing.specs.Views.{view_over, known_over, source_of}
 use Rattle.dm_typing.proofs.GivesLemmas.{obeyed, disobeyed, found-it, found-none, refused}
 use Rattle.dm_typing.proofs.LaterLemmas.{trees-known}
 use Rattle.dm_typing.proofs.ValueLemmas.{kind-view, node-known}
