@@ -1,0 +1,5 @@
+pub mod ObjectLemmas
+pub mod MemberStepLemmas
+pub mod CallStepLemmas
+pub mod TagStepLemmas
+pub mod IntLemmas
