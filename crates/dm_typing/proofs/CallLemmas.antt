@@ -65,7 +65,7 @@ assigned-fits known type tree sound proper h =
 
 -- ---- calls
 
-listed-trees : (all : List Tree) → listed (trees all) ≡ all
+pub listed-trees : (all : List Tree) → listed (trees all) ≡ all
 listed-trees [] = refl
 listed-trees (first ∷ rest) = ap (λ others. first ∷ others) (listed-trees rest)
 

@@ -88,12 +88,12 @@ agree-other None (Some n) h = numbers-same n n refl
 agree-other (Some m) None h = refl
 agree-other (Some m) (Some n) h = numbers-same n m (sym (same-numbers m n h))
 
-plain-part : (one other : Bool) → not (one || other) ≡ true → not one ≡ true
+pub plain-part : (one other : Bool) → not (one || other) ≡ true → not one ≡ true
 plain-part true other h = absurd (cc)
 plain-part false other h = refl
 
 -- a composite type is as plain as its first
-composite-bare : (a b : CType) → not (is_const a) ≡ true → bare (composite a b) ≡ composite a b
+pub composite-bare : (a b : CType) → not (is_const a) ≡ true → bare (composite a b) ≡ composite a b
 composite-bare (const a) b h = absurd (cc)
 composite-bare void b h = refl
 composite-bare (integer kind) b h = refl
@@ -103,7 +103,7 @@ composite-bare (array a m) (array b n) h = refl
 composite-bare (function_type a parameters) (function_type b others) h = refl
 composite-bare a b h = refl
 
-composite-plain : (a b : CType) → not (is_const a || is_array a) ≡ true → not (is_const (composite a b) || is_array (composite a b)) ≡ true
+pub composite-plain : (a b : CType) → not (is_const a || is_array a) ≡ true → not (is_const (composite a b) || is_array (composite a b)) ≡ true
 composite-plain (const a) b h = absurd (cc)
 composite-plain (array a n) b h = absurd (cc)
 composite-plain (pointer a) (pointer b) h = refl
@@ -118,7 +118,7 @@ plain-back (const a) b h p = absurd (cc)
 plain-back (array a m) b h p = absurd (cc)
 plain-back a b h p = refl
 
-const-plain : (type : CType) → not (is_const type || is_array type) ≡ true → with_const type ≡ const type
+pub const-plain : (type : CType) → not (is_const type || is_array type) ≡ true → with_const type ≡ const type
 const-plain (const type) h = absurd (cc)
 const-plain (array type n) h = absurd (cc)
 const-plain void h = refl
@@ -205,7 +205,7 @@ mutual
   parameters-right types others p q h = absurd (cc)
 
 mutual
-  composite-proper : (a b : CType) → IsProper a → IsProper b → IsProper (composite a b)
+  pub composite-proper : (a b : CType) → IsProper a → IsProper b → IsProper (composite a b)
   composite-proper (pointer a) (pointer b) p q = composite-proper a b p q
   composite-proper (array a m) (array b n) p q = composite-proper a b p q
   composite-proper (function_type a parameters) (function_type b others) p q = (composite-proper a b p.0 q.0, composites-proper parameters others p.1 q.1)

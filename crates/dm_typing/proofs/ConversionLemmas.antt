@@ -62,7 +62,7 @@ integer-of : (type : CType) → is_some (kind_if_integer type) ≡ true → (kin
 integer-of (integer kind) h = (kind, refl)
 integer-of type h = absurd (cc)
 
-no-pointer : (type : CType) → is_some (kind_if_integer type) ≡ true → if_pointer type ≡ None
+pub no-pointer : (type : CType) → is_some (kind_if_integer type) ≡ true → if_pointer type ≡ None
 no-pointer (integer kind) h = refl
 no-pointer type h = absurd (cc)
 
@@ -117,17 +117,17 @@ complete-pointer known type e h =
 not-below : (n : ℕ) → int_le (pos (suc n)) (pos 0) ≡ true → ⊥
 not-below n h = grind arith
 
-zero-value : (value : Option ℤ) → is_zero_value value ≡ true → value ≡ Some (pos 0)
+pub zero-value : (value : Option ℤ) → is_zero_value value ≡ true → value ≡ Some (pos 0)
 zero-value (Some (pos zero)) h = refl
 zero-value (Some (pos (suc n))) h = absurd (not-below n (both-hold (int_le (pos (suc n)) (pos 0)) (int_le (pos 0) (pos (suc n))) h).0)
 zero-value (Some (negsuc n)) h = absurd (cc)
 zero-value None h = absurd (cc)
 
-formed : (test : Bool) (value : Option ℤ) (it : ℤ) → (if test then value else None) ≡ Some it → test ≡ true
+pub formed : (test : Bool) (value : Option ℤ) (it : ℤ) → (if test then value else None) ≡ Some it → test ≡ true
 formed true value it h = refl
 formed false value it h = absurd (cc)
 
-constant-integer : (tree : Tree) → is_constant_form tree ≡ true → is_integer (kind_of tree) ≡ true
+pub constant-integer : (tree : Tree) → is_constant_form tree ≡ true → is_integer (kind_of tree) ≡ true
 constant-integer (node label kind spans parts) h = (both-hold (is_some (integer_kind kind)) (is_constant_part label (constant_forms parts)) h).0
 
 zero-becomes : (known : Known) (tree : Tree) (to : CType) → is_zero known tree ≡ true → BecomesPointer (scene_of known) tree to (target (kind_of tree))

@@ -1,5 +1,5 @@
--- What is well typed stays so as more becomes known.
-use Rattle.std.specs.Prelude.{◌≡◌, ℕ, zero, suc, ◌<◌, ℤ, pos, Bool, true, false, not, if◌then◌else◌, List, [], ◌∷◌, length, All, Option, Some, None, is_some, IsSome, IfSome, option_and_then, option_map, slice_get, refl}
+-- What is well typed stays so as more becomes known, and in every scene that comes later.
+use Rattle.std.specs.Prelude.{◌≡◌, ℕ, zero, suc, ◌<◌, ℤ, pos, Bool, true, false, ◌&&◌, not, if◌then◌else◌, IsTrue, List, [], ◌∷◌, length, All, Option, Some, None, is_some, IsSome, IfSome, option_and_then, option_map, slice_get, refl}
 use Rattle.std.proofs.Common.{sym, ap, ◌∙◌, subst, arith}
 use Rattle.std.proofs.lemmas.List.Elements.{All-head, All-tail, All-weaker}
 use Rattle.dm_int.specs.declared.Kind.{Kind}
@@ -14,18 +14,24 @@ use Rattle.dm_type.specs.Layouts.{layout_of, size_of, times, if_fits, repeated}
 use Rattle.dm_type.specs.Tables.{Table, at, type_of, content_of, members_of}
 use Rattle.dm_type.specs.TableLaws.{length-types_of}
 use Rattle.dm_tree.specs.declared.tree.Sign.TheVariants as s
-use Rattle.dm_tree.specs.Constants.{is_constant_form, constant_value, constant, value_if_enumerator, converted_to, signed_value, operated_value, truth_of}
+use Rattle.dm_tree.specs.declared.unit.Sort.{Sort}
+use Rattle.dm_tree.specs.Composites.{covers}
+use Rattle.dm_tree.specs.Constants.{is_constant_form, constant_value, constant, value_if_enumerator, enumerator_value, converted_to, signed_value, operated_value, truth_of}
 use Rattle.dm_tree.specs.Evaluation.{is_true}
+use Rattle.dm_tree.specs.Initialisers.{is_object, is_enumerator, is_function_sort}
 use Rattle.dm_tree.specs.Operands.{Becomes, BecomesPointer, FitsBinary, FitsPointers, UpdateFits, FitsMember}
-use Rattle.dm_tree.specs.Scenes.{HasConst, itself, of_element, of_member, member_type, part_type, target, IsComplete, IsModifiable, IsConstant}
+use Rattle.dm_tree.specs.Scenes.{Scene, Names, HasConst, itself, of_element, of_member, member_type, part_type, target, IsComplete, IsModifiable, IsConstant}
 use Rattle.dm_tree.specs.Trees.{Label, Tree, Trees, node, no_trees, more_trees, label_of, kind_of, listed, trees, is_statement}
 use Rattle.dm_tree.specs.Trees as label
-use Rattle.dm_tree.specs.Typing.{FitsExpression, IsWellTyped, AreWellTyped}
+use Rattle.dm_tree.specs.Typing.{FitsExpression, IsWellTyped, AreWellTyped, inside}
 use Rattle.dm_tree.specs.Units.{Declaration}
 use Rattle.dm_typing.specs.Known.{Known}
+use Rattle.dm_typing.specs.Later.{IsCompletion, IsLater}
 use Rattle.dm_typing.specs.Sound.{AreComplete, KnowsMore, scene_of, IsSound, IsSoundValue, AreSound, AreConstants}
 use Rattle.dm_typing.proofs.ExpressionLemmas.{AreExpressions, value-expression, expressions-in, expression-fits, fits-expression, inside-expression}
+use Rattle.dm_typing.proofs.CoverLemmas.{covers-itself, covers-through}
 use Rattle.dm_typing.proofs.RuleLemmas.{value-sound}
+use Rattle.dm_typing.proofs.TypeLemmas.{both-hold, both-true}
 
 -- ---- answers
 
@@ -56,7 +62,7 @@ pub some-of : {A : Type 0} (one : Option A) → IsSome one → (it : A) × (one 
 some-of (Some it) h = (it, refl)
 some-of None h = absurd (cc)
 
-times-stays : (n : Option ℕ) (one other : Option Layout) → Stays one other → Stays (times n one) (times n other)
+pub times-stays : (n : Option ℕ) (one other : Option Layout) → Stays one other → Stays (times n one) (times n other)
 times-stays None one other stays answer h = absurd (cc)
 times-stays (Some count) one other stays answer h =
     then-stays (λ layout. if_fits (repeated count layout)) (λ layout. if_fits (repeated count layout)) (λ it answer h. h) one other stays answer h
@@ -82,7 +88,7 @@ element-complete table (Some count) type h = go (layout_of table type) refl h
     go None e h = absurd (cc)
 element-complete table None type h = absurd (cc)
 
-module _ (old new : Known) (more : KnowsMore old new) (complete : AreComplete old.types) where
+module _ (old : Known) (new : Scene) (more : IsLater old new) (complete : AreComplete old.types) where
   -- ---- types
 
   pub layout-stays : (type : CType) → Stays (layout_of old.types type) (layout_of new.types type)
@@ -99,7 +105,7 @@ module _ (old new : Known) (more : KnowsMore old new) (complete : AreComplete ol
   pub size-stays : (type : CType) → Stays (size_of old.types type) (size_of new.types type)
   size-stays type = map-stays (λ (layout : Layout). layout.size) (layout_of old.types type) (layout_of new.types type) (layout-stays type)
 
-  pub complete-stays : (type : CType) → IsComplete (scene_of old) type → IsComplete (scene_of new) type
+  pub complete-stays : (type : CType) → IsComplete (scene_of old) type → IsComplete new type
   complete-stays type h = some-stays (size_of old.types type) (size_of new.types type) (size-stays type) h
 
   members-stay : (number : ℕ) → Stays (members_of old.types number) (members_of new.types number)
@@ -133,7 +139,7 @@ module _ (old new : Known) (more : KnowsMore old new) (complete : AreComplete ol
       of_member number members n one e s
       (subst (HasConst old.types) kept (const-was inner (subst (λ type. IsSome (size_of old.types type)) (sym kept) (complete number members e n one s))))
 
-  pub modifiable-stays : (tree : Tree) → IsModifiable (scene_of old) tree → IsModifiable (scene_of new) tree
+  pub modifiable-stays : (tree : Tree) → IsModifiable (scene_of old) tree → IsModifiable new tree
   modifiable-stays tree h = (h.0, h.1, complete-stays (kind_of tree) h.2, λ c. h.3 (const-was c h.2))
 
   -- ---- members
@@ -155,7 +161,7 @@ module _ (old new : Known) (more : KnowsMore old new) (complete : AreComplete ol
       go None e h = absurd (cc)
   member-stays type n it h = absurd (cc)
 
-  part-stays : (type : CType) (n : ℕ) → Stays (part_type old.types type n) (part_type new.types type n)
+  pub part-stays : (type : CType) (n : ℕ) → Stays (part_type old.types type n) (part_type new.types type n)
   part-stays (array type (Some many)) n it h = h
   part-stays (const type) n it h = map-stays with_const (member_type old.types type n) (member_type new.types type n) (member-stays type n) it h
   part-stays type n it h = member-stays type n it h
@@ -164,13 +170,44 @@ module _ (old new : Known) (more : KnowsMore old new) (complete : AreComplete ol
   fits-member-stays true whole n kind h = (part-stays whole n kind h.0, h.1)
   fits-member-stays false whole n kind h = if-stays _ (member_type old.types whole n) (member_type new.types whole n) (member-stays whole n) h
 
+  -- ---- declarations
+
+  -- what is so of an entry however it is completed
+  names-stay : (P : Declaration → Type 0) → ((entry later : Declaration) → IsCompletion entry later → P entry → P later) → (number : ℕ)
+      → Names (scene_of old) number P → Names new number P
+  names-stay P keep number h = go (slice_get old.declared number) refl h
+    where
+      go : (found : Option Declaration) → slice_get old.declared number ≡ found → IfSome found P × IsSome found → Names new number P
+      go (Some entry) e h =
+          let later = more.declared number entry e in
+          let Q : Option Declaration → Type 0 = λ found. IfSome found P × IsSome found in
+          subst Q (sym later.1) (keep entry later.0 later.2 h.0, refl)
+      go None e h = absurd (cc)
+
+  named-stays : (test : Sort → Bool) (number : ℕ) (kind : CType) → Names (scene_of old) number (λ entry. IsTrue (test entry.sort && covers entry.kind kind))
+      → Names new number (λ entry. IsTrue (test entry.sort && covers entry.kind kind))
+  named-stays test number kind =
+      names-stay (λ entry. IsTrue (test entry.sort && covers entry.kind kind))
+      (λ entry later by h.
+      let parts = both-hold (test entry.sort) (covers entry.kind kind) h in
+      both-true (test later.sort) (covers later.kind kind) (ap test by.sort ∙ parts.0) (covers-through later.kind entry.kind kind by.kind parts.1))
+      number
+
+  enumerator-stays : (number : ℕ) → Stays (enumerator_value old.declared number) (enumerator_value new.declared number)
+  enumerator-stays number it h = go (slice_get old.declared number) refl h
+    where
+      go : (found : Option Declaration) → slice_get old.declared number ≡ found → option_and_then (λ (entry : Declaration). value_if_enumerator entry.sort) found ≡ Some it
+          → enumerator_value new.declared number ≡ Some it
+      go (Some entry) e h =
+          let later = more.declared number entry e in
+          ap (option_and_then (λ (one : Declaration). value_if_enumerator one.sort)) later.1 ∙ (ap value_if_enumerator later.2.sort ∙ h)
+      go None e h = absurd (cc)
+
   -- ---- constants
 
   pub value-stays : (tree : Tree) → Stays (constant_value old.types old.declared tree) (constant_value new.types new.declared tree)
   value-stays (node (label.number value) kind spans parts) it h = h
-  value-stays (node (label.enumerator number) kind spans parts) it h =
-      then-stays (λ (entry : Declaration). value_if_enumerator entry.sort) (λ (entry : Declaration). value_if_enumerator entry.sort) (λ one answer h. h)
-      (slice_get old.declared number) (slice_get new.declared number) (more.declared number) it h
+  value-stays (node (label.enumerator number) kind spans parts) it h = enumerator-stays number it h
   value-stays (node label.sizeof_tree kind spans (more_trees a no_trees)) it h =
       map-stays pos (size_of old.types (kind_of a)) (size_of new.types (kind_of a)) (size-stays (kind_of a)) it h
   value-stays (node (label.sizeof_kind type) kind spans parts) it h = map-stays pos (size_of old.types type) (size_of new.types type) (size-stays type) it h
@@ -209,31 +246,31 @@ module _ (old new : Known) (more : KnowsMore old new) (complete : AreComplete ol
       go true = value-stays tree
       go false = λ it h. h
 
-  is-constant-stays : (tree : Tree) → IsConstant (scene_of old) tree → IsConstant (scene_of new) tree
+  pub is-constant-stays : (tree : Tree) → IsConstant (scene_of old) tree → IsConstant new tree
   is-constant-stays tree h = (h.0, some-stays _ _ (constant-stays tree) h.1)
 
-  pub constants-stay : (all : List Tree) → All (IsConstant (scene_of old)) all → All (IsConstant (scene_of new)) all
-  constants-stay all h = All-weaker (IsConstant (scene_of old)) (IsConstant (scene_of new)) is-constant-stays all h
+  pub constants-stay : (all : List Tree) → All (IsConstant (scene_of old)) all → All (IsConstant new) all
+  constants-stay all h = All-weaker (IsConstant (scene_of old)) (IsConstant new) is-constant-stays all h
 
   -- ---- operands
 
-  pointer-stays : (operand : Tree) (to : CType) (found : Option CType) → BecomesPointer (scene_of old) operand to found → BecomesPointer (scene_of new) operand to found
+  pointer-stays : (operand : Tree) (to : CType) (found : Option CType) → BecomesPointer (scene_of old) operand to found → BecomesPointer new operand to found
   pointer-stays operand to (Some from) h = h
   pointer-stays operand to None h = constant-stays operand (pos 0) h
 
-  becomes-stays : (operand : Tree) (type : CType) → Becomes (scene_of old) operand type → Becomes (scene_of new) operand type
+  becomes-stays : (operand : Tree) (type : CType) → Becomes (scene_of old) operand type → Becomes new operand type
   becomes-stays operand void h = h
   becomes-stays operand (integer k.Bool) h = h
   becomes-stays operand (integer kind) h = h
   becomes-stays operand (pointer to) h = pointer-stays operand to (target (kind_of operand)) h
   becomes-stays operand type h = absurd h
 
-  pointers-stay : (op : Op) (a b kind : CType) → FitsPointers (scene_of old) op a b kind → FitsPointers (scene_of new) op a b kind
+  pointers-stay : (op : Op) (a b kind : CType) → FitsPointers (scene_of old) op a b kind → FitsPointers new op a b kind
   pointers-stay o.Sub a b kind h = (h.0, complete-stays a h.1, complete-stays b h.2, h.3)
   pointers-stay op a b kind h = h
 
   binary-stays : (op : Op) (left right kind : CType) (a b : Option Kind) (from to : Option CType)
-      → FitsBinary (scene_of old) op left right kind a b from to → FitsBinary (scene_of new) op left right kind a b from to
+      → FitsBinary (scene_of old) op left right kind a b from to → FitsBinary new op left right kind a b from to
   binary-stays op left right kind (Some a) (Some b) from to h = h
   binary-stays op left right kind None None (Some a) (Some b) h = pointers-stay op a b kind h
   binary-stays o.Add left right kind None (Some b) (Some a) to h = (complete-stays a h.0, h.1)
@@ -241,23 +278,24 @@ module _ (old new : Known) (more : KnowsMore old new) (complete : AreComplete ol
   binary-stays o.Add left right kind (Some a) None from (Some b) h = (complete-stays b h.0, h.1)
   binary-stays op left right kind a b from to h = absurd h
 
-  if-complete-stays : (found : Option CType) → IfSome found (IsComplete (scene_of old)) → IfSome found (IsComplete (scene_of new))
+  if-complete-stays : (found : Option CType) → IfSome found (IsComplete (scene_of old)) → IfSome found (IsComplete new)
   if-complete-stays (Some type) h = complete-stays type h
   if-complete-stays None h = h
 
-  update-stays : (op : Op) (kind works : CType) (a b : Option Kind) → UpdateFits (scene_of old) op kind works a b → UpdateFits (scene_of new) op kind works a b
+  update-stays : (op : Op) (kind works : CType) (a b : Option Kind) → UpdateFits (scene_of old) op kind works a b → UpdateFits new op kind works a b
   update-stays op kind works (Some a) (Some b) h = h
   update-stays op kind works None (Some b) h = (h.0, if-complete-stays (target kind) h.1, h.2, h.3)
   update-stays op kind works a b h = absurd h
 
   -- ---- nodes
 
-  fits-stays : (form : Label) (kind : CType) (parts : List Tree) → FitsExpression (scene_of old) form kind parts → FitsExpression (scene_of new) form kind parts
+  pub fits-stays : (form : Label) (kind : CType) (parts : List Tree) → FitsExpression (scene_of old) form kind parts → FitsExpression new form kind parts
   fits-stays (label.number value) kind [] h = h
-  fits-stays (label.enumerator number) kind [] h = (if-stays _ _ _ (more.declared number) h.0, h.1)
+  fits-stays (label.enumerator number) kind [] h =
+      (names-stay (λ entry. IsTrue (is_enumerator entry.sort)) (λ entry later by is. ap is_enumerator by.sort ∙ is) number h.0, h.1)
   fits-stays (label.literal bytes unit) kind [] h = h
-  fits-stays (label.object number) kind [] h = if-stays _ _ _ (more.declared number) h
-  fits-stays (label.function number) kind [] h = if-stays _ _ _ (more.declared number) h
+  fits-stays (label.object number) kind [] h = named-stays is_object number kind h
+  fits-stays (label.function number) kind [] h = named-stays is_function_sort number kind h
   fits-stays label.read kind (a ∷ []) h = h
   fits-stays label.decay kind (a ∷ []) h = h
   fits-stays label.convert kind (a ∷ lengths) h = (h.0, becomes-stays a kind h.1, constants-stay lengths h.2)
@@ -279,21 +317,54 @@ module _ (old new : Known) (more : KnowsMore old new) (complete : AreComplete ol
   fits-stays (label.sizeof_kind type) kind lengths h = (complete-stays type h.0, constants-stay lengths h.1, h.2)
   fits-stays form kind parts h = absurd h
 
-  -- ---- trees
+-- ---- trees
 
+-- the same where no labels of a switch may stand
+unlabelled : Scene → Scene
+unlabelled scene = record scene { labels = None }
+
+later-unlabelled : (old : Known) (new : Scene) → IsLater old new → IsLater old (unlabelled new)
+unfolding unlabelled
+later-unlabelled old new more = record { types = more.types; contents = more.contents; declared = more.declared }
+
+inside-unlabelled : (scene : Scene) (form : Label) (parts : List Tree) → not (is_statement form) ≡ true → inside scene form parts ≡ unlabelled scene
+unfolding unlabelled
+inside-unlabelled scene label.switch parts is = absurd (cc)
+inside-unlabelled scene label.case parts is = absurd (cc)
+inside-unlabelled scene label.default parts is = absurd (cc)
+inside-unlabelled scene label.while_loop parts is = absurd (cc)
+inside-unlabelled scene label.do_loop parts is = absurd (cc)
+inside-unlabelled scene (label.for_loop first second third) parts is = absurd (cc)
+inside-unlabelled scene form parts is = refl
+
+module _ (old : Known) (complete : AreComplete old.types) where
   mutual
-    pub typed-stays : (tree : Tree) → not (is_statement (label_of tree)) ≡ true → IsWellTyped (scene_of old) tree → IsWellTyped (scene_of new) tree
-    typed-stays (node form kind spans parts) is h =
+    -- a well-typed expression stays so in any scene that comes later
+    pub typed-later : (new : Scene) → IsLater old new → (tree : Tree) → not (is_statement (label_of tree)) ≡ true → IsWellTyped (scene_of old) tree → IsWellTyped new tree
+    typed-later new more (node form kind spans parts) is h =
         let fits = fits-expression (scene_of old) form kind (listed parts) is h.0 in (
-          expression-fits (scene_of new) form kind (listed parts) is (fits-stays form kind (listed parts) fits),
-          subst (λ scene. AreWellTyped scene parts) (sym (inside-expression new form (listed parts) is))
-              (all-typed-stay parts (expressions-in (scene_of old) form kind (listed parts) fits)
+          expression-fits new form kind (listed parts) is (fits-stays old new more complete form kind (listed parts) fits),
+          subst (λ scene. AreWellTyped scene parts) (sym (inside-unlabelled new form (listed parts) is))
+              (all-typed-later (unlabelled new) (later-unlabelled old new more) parts (expressions-in (scene_of old) form kind (listed parts) fits)
               (subst (λ scene. AreWellTyped scene parts) (inside-expression old form (listed parts) is) h.1)),
         )
 
-    all-typed-stay : (parts : Trees) → AreExpressions (listed parts) → AreWellTyped (scene_of old) parts → AreWellTyped (scene_of new) parts
-    all-typed-stay no_trees are h = tt
-    all-typed-stay (more_trees first rest) are h = (typed-stays first are.0 h.0, all-typed-stay rest are.1 h.1)
+    all-typed-later : (new : Scene) → IsLater old new → (parts : Trees) → AreExpressions (listed parts) → AreWellTyped (scene_of old) parts → AreWellTyped new parts
+    all-typed-later new more no_trees are h = tt
+    all-typed-later new more (more_trees first rest) are h = (typed-later new more first are.0 h.0, all-typed-later new more rest are.1 h.1)
+
+-- ---- more is known
+
+pub known-later : (old new : Known) → KnowsMore old new → IsLater old (scene_of new)
+known-later old new more = record {
+  types = more.types;
+  contents = more.contents;
+  declared = λ at entry h. (entry, more.declared at entry h, record { name = refl; sort = refl; linkage = refl; kind = covers-itself entry.kind });
+}
+
+module _ (old new : Known) (more : KnowsMore old new) (complete : AreComplete old.types) where
+  pub typed-stays : (tree : Tree) → not (is_statement (label_of tree)) ≡ true → IsWellTyped (scene_of old) tree → IsWellTyped (scene_of new) tree
+  typed-stays tree is h = typed-later old complete (scene_of new) (known-later old new more) tree is h
 
   -- ---- what is sound
 
@@ -315,4 +386,4 @@ module _ (old new : Known) (more : KnowsMore old new) (complete : AreComplete ol
   )
 
   pub constants-sound-stay : (all : List Tree) → AreConstants old all → AreConstants new all
-  constants-sound-stay all h = (constants-stay all h.0, typed-list-stays all h.0 h.1)
+  constants-sound-stay all h = (constants-stay old (scene_of new) (known-later old new more) complete all h.0, typed-list-stays all h.0 h.1)

@@ -83,12 +83,12 @@ if-more known P None rule at next h = tt
 
 -- ---- declarations
 
-get-pushed : {A : Type 0} (xs : List A) (y : A) (at : ℕ) (x : A) → slice_get xs at ≡ Some x → slice_get (xs ++ y ∷ []) at ≡ Some x
+pub get-pushed : {A : Type 0} (xs : List A) (y : A) (at : ℕ) (x : A) → slice_get xs at ≡ Some x → slice_get (xs ++ y ∷ []) at ≡ Some x
 get-pushed [] y at x h = absurd (cc)
 get-pushed (first ∷ xs) y zero x h = h
 get-pushed (first ∷ xs) y (suc at) x h = get-pushed xs y at x h
 
-pushed-get : {A : Type 0} (xs : List A) (y : A) (at : ℕ) (x : A) → slice_get (xs ++ y ∷ []) at ≡ Some x → (slice_get xs at ≡ Some x) ⊎ (y ≡ x)
+pub pushed-get : {A : Type 0} (xs : List A) (y : A) (at : ℕ) (x : A) → slice_get (xs ++ y ∷ []) at ≡ Some x → (slice_get xs at ≡ Some x) ⊎ (y ≡ x)
 pushed-get [] y zero x h = inr (injected y x h)
 pushed-get [] y (suc at) x h = absurd (cc)
 pushed-get (first ∷ xs) y zero x h = inl h

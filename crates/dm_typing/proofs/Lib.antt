@@ -1,6 +1,7 @@
 pub mod CallLemmas
 pub mod ChoiceLemmas
 pub mod ConversionLemmas
+pub mod CoverLemmas
 pub mod DerivedLemmas
 pub mod ExampleLemmas
 pub mod ExpressionLemmas

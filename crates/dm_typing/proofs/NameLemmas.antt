@@ -3,11 +3,11 @@ use Rattle.std.specs.Prelude.{◌≡◌, ℕ, Bool, true, ◌&&◌, IsTrue, List
 use Rattle.std.proofs.Common.{sym, ap, ◌∙◌, subst}
 use Rattle.dm_token.specs.declared.token.CToken.{CToken}
 use Rattle.dm_int.specs.declared.Kind.TheVariants as k
-use Rattle.dm_type.specs.Alike.{are_compatible}
 use Rattle.dm_type.specs.CTypes.{CType, integer, function as function_type, bare}
 use Rattle.dm_scope.specs.Scopes.{number_of}
 use Rattle.dm_tree.specs.declared.unit.Sort.{Sort}
 use Rattle.dm_tree.specs.declared.unit.Sort.TheVariants.{Object, Function, Typedef, Enumerator, Tag}
+use Rattle.dm_tree.specs.Composites.{covers}
 use Rattle.dm_tree.specs.Initialisers.{is_object, is_enumerator, is_function_sort}
 use Rattle.dm_tree.specs.Scenes.{Names, is_function}
 use Rattle.dm_tree.specs.Trees.{Label}
@@ -20,7 +20,7 @@ use Rattle.dm_typing.specs.Conversions.{made}
 use Rattle.dm_typing.specs.Rules.{named_by_sort}
 use Rattle.dm_typing.specs.Typing.{named, may_be_used, constant_tree, literal_tree}
 use Rattle.dm_typing.specs.Sound.{IsProper, AreEntries, IsSoundToken, scene_of, IsSound, IsSoundValue, Gives}
-use Rattle.dm_typing.proofs.TypeLemmas.{compatible-itself}
+use Rattle.dm_typing.proofs.CoverLemmas.{covers-itself}
 use Rattle.dm_typing.proofs.ConversionLemmas.{obeyed, given-if}
 
 function-bare : (type : CType) → is_function type ≡ true → type ≡ bare type
@@ -47,21 +47,21 @@ module _ (setting : Setting) (known : Known) (span : Extent) where
   unfolding IsName
   sort-sound entry at e (Object fixed) s fits proper one h =
       let same : (label.object at, entry.kind) ≡ one = cc in
-      let is : (is_object entry.sort && are_compatible entry.kind entry.kind) ≡ true = ap (λ it. is_object it && are_compatible entry.kind entry.kind) s ∙ compatible-itself entry.kind in
+      let is : (is_object entry.sort && covers entry.kind entry.kind) ≡ true = ap (λ it. is_object it && covers entry.kind entry.kind) s ∙ covers-itself entry.kind in
       subst IsName same (
         refl,
         (λ no. absurd (cc)),
         proper,
-        (names-it known at entry (λ it. IsTrue (is_object it.sort && are_compatible it.kind entry.kind)) e is, tt),
+        (names-it known at entry (λ it. IsTrue (is_object it.sort && covers it.kind entry.kind)) e is, tt),
       )
   sort-sound entry at e Function s fits proper one h =
       let same : (label.function at, entry.kind) ≡ one = cc in
-      let is : (is_function_sort entry.sort && are_compatible entry.kind entry.kind) ≡ true = ap (λ it. is_function_sort it && are_compatible entry.kind entry.kind) s ∙ compatible-itself entry.kind in
+      let is : (is_function_sort entry.sort && covers entry.kind entry.kind) ≡ true = ap (λ it. is_function_sort it && covers entry.kind entry.kind) s ∙ covers-itself entry.kind in
       subst IsName same (
         refl,
         (λ no. function-bare entry.kind fits.0),
         proper,
-        (names-it known at entry (λ it. IsTrue (is_function_sort it.sort && are_compatible it.kind entry.kind)) e is, tt),
+        (names-it known at entry (λ it. IsTrue (is_function_sort it.sort && covers it.kind entry.kind)) e is, tt),
       )
   sort-sound entry at e (Enumerator value) s fits proper one h =
       let same : (label.enumerator at, integer k.Int) ≡ one = cc in

@@ -14,8 +14,8 @@ use Rattle.dm_type.specs.TableLaws.{injected}
 use Rattle.dm_typing.specs.Known.{Known}
 use Rattle.dm_typing.specs.Conversions.{element}
 use Rattle.dm_typing.specs.Typing.{is_among}
-use Rattle.dm_typing.specs.Sound.{AreLayeredWithin, AreLayered, how_many_complete, IsSoundKnown, KnowsMore}
-use Rattle.dm_typing.proofs.GrowthLemmas.{complete-stays, element-complete, constants-sound-stay}
+use Rattle.dm_typing.specs.Sound.{AreLayeredWithin, AreLayered, how_many_complete, IsSoundKnown, KnowsMore, scene_of}
+use Rattle.dm_typing.proofs.GrowthLemmas.{complete-stays, element-complete, known-later, constants-sound-stay}
 
 -- ---- the content of a struct among structs
 
@@ -156,7 +156,7 @@ module _ (known : Known) (sound : IsSoundKnown known) (tag : Option (List ℕ)) 
   sound-new = record {
     entries = λ at entry h. let it = sound.entries at entry h in (it.0, (it.1.0, λ number e. let below = it.1.1 number e in omega (arith, longer, below)));
     complete = λ at members e n one s.
-        complete-stays known with-new knows-new sound.complete (type_of known.types one.kind) (sound.complete at members (members-new at members e) n one s);
+        complete-stays known (scene_of with-new) (known-later known with-new knows-new) sound.complete (type_of known.types one.kind) (sound.complete at members (members-new at members e) n one s);
     layered = (
       sound.layered.0,
       (λ at members n one inner others e s is f. sound.layered.1 at members n one inner others (members-new at members e) s is (members-new inner others f)),
@@ -256,7 +256,7 @@ module _ (known : Known) (sound : IsSoundKnown known) (number : ℕ) (below : nu
       record {
         entries = λ at one h. let it = sound.entries at one h in (it.0, (it.1.0, λ n e. let low = it.1.1 n e in omega (arith, same, low)));
         complete = λ at members e n one s.
-            complete-stays known with-members knows-members sound.complete (type_of known.types one.kind) (were-complete at members e n one s);
+            complete-stays known (scene_of with-members) (known-later known with-members knows-members) sound.complete (type_of known.types one.kind) (were-complete at members e n one s);
         layered = (layer, inner-below, (λ at members e. all-below at));
         begun = λ at h. let it = others at h in let low = it.1 in (omega (arith, same, low), set-other known.types.structs number entry at it.0 ∙ it.2);
         constants = constants-sound-stay known with-members knows-members sound.complete known.constants sound.constants;

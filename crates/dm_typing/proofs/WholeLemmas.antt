@@ -331,7 +331,7 @@ module _ (setting : Setting) (tokens : AreSoundTokens setting.source.tokens) whe
         (words-more used known _ _ _ alone nothing_said (tree.more_words first others) h.0 sound tt)
         (λ behind said more still fits. said-more behind stands span.first said still fits)
 
-    words-more : (used : Bool) (known : Known) (names : List Declared) (at : ℕ) (types : Types) (alone : Bool) (said : Said) (words : Words)
+    pub words-more : (used : Bool) (known : Known) (names : List Declared) (at : ℕ) (types : Types) (alone : Bool) (said : Said) (words : Words)
         → AreWords setting.source names at types words → IsSoundKnown known → SaidFits known said → GivesMore known SaidFits (words_said setting used alone known said words)
     words-more used known names at types alone said tree.no_words h sound fits = stays-so known SaidFits said sound fits
     words-more used known names at types alone said (tree.more_words first others) h sound fits =
@@ -415,7 +415,7 @@ module _ (setting : Setting) (tokens : AreSoundTokens setting.source.tokens) whe
         (direct-more used known _ of_parameter _ (direct_at span.first consts) direct h.1 sound)
         (λ behind steps more still fit. pointers-fit behind span.first consts steps fit)
 
-    direct-more : (used : Bool) (known : Known) (names : List Declared) (of_parameter : Bool) (at here : ℕ) (direct : Direct) → IsDirect setting.source names of_parameter at direct
+    pub direct-more : (used : Bool) (known : Known) (names : List Declared) (of_parameter : Bool) (at here : ℕ) (direct : Direct) → IsDirect setting.source names of_parameter at direct
         → IsSoundKnown known → GivesMore known AreSteps (direct_steps setting used known here direct)
     direct-more used known names of_parameter at here tree.absent h sound = stays-so known AreSteps [] sound tt
     direct-more used known names of_parameter at here (tree.declared name) h sound = stays-so known AreSteps [] sound tt
@@ -431,7 +431,7 @@ module _ (setting : Setting) (tokens : AreSoundTokens setting.source.tokens) whe
         (direct-more used known _ of_parameter _ here direct h.0 sound) (λ then_known still. parameters-more used then_known _ _ parameters h.2 still)
 
     -- 6.7.6.3
-    parameters-more : (used : Bool) (known : Known) (names : List Declared) (at : ℕ) (parameters : Parameters) → AreParameters setting.source names at parameters
+    pub parameters-more : (used : Bool) (known : Known) (names : List Declared) (at : ℕ) (parameters : Parameters) → AreParameters setting.source names at parameters
         → IsSoundKnown known → GivesMore known AreParameterTypes (parameters_of setting used known parameters)
     parameters-more used known names at tree.no_parameters h sound = stays-so known AreParameterTypes [] sound tt
     parameters-more used known names at (tree.more_parameters first others) h sound =
@@ -445,7 +445,7 @@ module _ (setting : Setting) (tokens : AreSoundTokens setting.source.tokens) whe
         parameters-give known (parameter_of setting used known first) (λ then_known. parameters_of setting used then_known others) (parameter-more used known _ first h.2 sound)
         (λ then_known still. more-parameters-more used then_known _ _ others h.3 still)
 
-    parameter-more : (used : Bool) (known : Known) (names : List Declared) (parameter : Parameter) → IsParameter setting.source names parameter
+    pub parameter-more : (used : Bool) (known : Known) (names : List Declared) (parameter : Parameter) → IsParameter setting.source names parameter
         → IsSoundKnown known → GivesMore known IsParameterType (parameter_of setting used known parameter)
     parameter-more used known names (tree.parameter span specifiers declarator) h sound =
         after-more known IsType IsParameterType (typed_specifiers setting used elsewhere false known specifiers) _ (specifiers-more used known _ elsewhere false specifiers h.1 sound)

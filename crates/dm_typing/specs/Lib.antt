@@ -4,6 +4,7 @@ pub mod Conversions
 pub mod Rules
 pub mod Specifiers
 pub mod Typing
+pub mod Later
 pub mod Sound
 pub mod Examples
 pub mod Fitting
