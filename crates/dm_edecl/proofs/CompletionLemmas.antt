@@ -1,7 +1,6 @@
 -- What a type has of a type that it covers.
-use Rattle.std.specs.Prelude.{◌≡◌, ℕ, zero, suc, Bool, true, false, ◌&&◌, ◌||◌, not, ◌==◌, if◌then◌else◌, nat_lt, IsTrue, Option, Some, None, is_some, IsSome, option_map, refl}
+use Rattle.std.specs.Prelude.{◌≡◌, ℕ, Bool, true, false, ◌||◌, not, ◌==◌, if◌then◌else◌, nat_lt, IsTrue, Option, Some, None, is_some, refl}
 use Rattle.std.proofs.Common.{sym, ap, ◌∙◌, subst, ⊎_elim}
-use Rattle.dm_int.specs.declared.Kind.{Kind}
 use Rattle.dm_int.specs.declared.Kind.TheVariants as k
 use Rattle.dm_type.specs.declared.layout.Layout.{Layout}
 use Rattle.dm_int.specs.Kinds.{number_of}
@@ -13,8 +12,7 @@ use Rattle.dm_tree.specs.declared.unit.Sort.{Sort}
 use Rattle.dm_tree.specs.declared.unit.Sort.TheVariants.{Object, Function, Typedef, Enumerator, Tag}
 use Rattle.dm_tree.specs.Composites.{covers, covers_length, cover_parameters}
 use Rattle.dm_tree.specs.Constants.{kind_if_integer, integer_kind}
-use Rattle.dm_tree.specs.Initialisers.{is_character}
-use Rattle.dm_tree.specs.Scenes.{Scene, if_pointer, is_integer, is_pointer, is_scalar, is_array, is_function, is_void, part_type, IsComplete}
+use Rattle.dm_tree.specs.Scenes.{Scene, if_pointer, is_scalar, is_array, is_function, is_void, part_type, IsComplete}
 use Rattle.dm_tree.specs.Typing.{FitsSort, IsTagType, is_main_type}
 use Rattle.dm_typing.specs.Known.{Known}
 use Rattle.dm_typing.specs.Later.{IsLater}

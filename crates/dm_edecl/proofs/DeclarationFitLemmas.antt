@@ -1,5 +1,5 @@
 -- Declarations fit: what they declare, their lengths and their initialisers.
-use Rattle.std.specs.Prelude.{◌≡◌, ◌==◌, ℕ, ◌<◌, ◌≤◌, Bool, true, false, ◌&&◌, ◌||◌, not, if◌then◌else◌, IsTrue, List, [], ◌∷◌, ◌++◌, length, take, drop, All, Option, Some, None, is_some, IsSome, IfSome, unwrap_or, slice_get, refl}
+use Rattle.std.specs.Prelude.{◌≡◌, ℕ, ◌≤◌, Bool, true, false, ◌&&◌, ◌||◌, not, if◌then◌else◌, List, [], ◌∷◌, ◌++◌, length, take, drop, All, Option, Some, None, is_some, IsSome, IfSome, unwrap_or, slice_get, refl}
 use Rattle.std.proofs.Common.{sym, ap, ◌∙◌, subst, arith}
 use Rattle.std.proofs.Math.Seq.{take-append_seam, drop-append_seam}
 use Rattle.std.proofs.lemmas.List.Elements.{All-nil, All-cons, All-head, All-tail, All-append}
@@ -8,15 +8,15 @@ use Rattle.dm_type.specs.Alike.{are_compatible}
 use Rattle.dm_type.specs.CTypes.{CType, array, function as function_type}
 use Rattle.dm_type.specs.TableLaws.{injected}
 use Rattle.dm_syn.specs.declared.declared.Declared.{Declared as Seen}
-use Rattle.dm_syn.specs.Spans.{declarator_span, specifiers_span}
+use Rattle.dm_syn.specs.Spans.{declarator_span}
 use Rattle.dm_syn.specs.Grammar.{IsSpecifiers, IsDeclarator}
 use Rattle.dm_syn.specs.Statements.{IsInitialiser, IsItem, AreItems, AreMoreItems, IsDeclaration}
 use Rattle.dm_syn.specs.Trees.{Specifiers, Declarator, Initialiser, Item}
 use Rattle.dm_syn.specs.Trees as tree
 use Rattle.dm_tree.specs.declared.unit.Sort.{Sort}
-use Rattle.dm_tree.specs.declared.unit.Sort.TheVariants.{Object, Function, Typedef, Enumerator, Tag}
+use Rattle.dm_tree.specs.declared.unit.Sort.TheVariants.{Object, Function}
 use Rattle.dm_tree.specs.Composites.{covers}
-use Rattle.dm_tree.specs.Initialisers.{is_fixed, is_object, is_function_sort, targets, AllInitialise, Initialises, FitsEntry, DeclaratorFits, DeclaratorsFit, expressions_of as expressions_in_declarator}
+use Rattle.dm_tree.specs.Initialisers.{is_fixed, is_object, is_function_sort, targets, AllInitialise, FitsEntry, DeclaratorFits, DeclaratorsFit, expressions_of as expressions_in_declarator}
 use Rattle.dm_tree.specs.Scenes.{Scene, Names, IsConstant, IsComplete, is_array, is_function}
 use Rattle.dm_tree.specs.Trees.{Tree, trees, expressions_in}
 use Rattle.dm_tree.specs.Trees as label
@@ -25,32 +25,32 @@ use Rattle.dm_tree.specs.Units.{Declaration}
 use Rattle.dm_typing.specs.Known.{Known, Setting, Outcome, given, broken}
 use Rattle.dm_typing.specs.Later.{IsLater}
 use Rattle.dm_typing.specs.Conversions.{is_complete, is_same}
-use Rattle.dm_typing.specs.Specifiers.{Said, nothing_said, Where, of_declaration}
-use Rattle.dm_typing.specs.Sound.{IsProper, IsType, AreComplete, AreSoundTokens, AreConstants, IsSound, IsSoundKnown, KnowsMore, GivesMore, scene_of}
-use Rattle.dm_typing.specs.Typing.{is_file_scope, words_said, typed_said, steps_of, derived}
+use Rattle.dm_typing.specs.Specifiers.{nothing_said, Where, of_declaration}
+use Rattle.dm_typing.specs.Sound.{IsType, AreSoundTokens, AreConstants, IsSoundKnown, KnowsMore, GivesMore, scene_of}
+use Rattle.dm_typing.specs.Typing.{is_file_scope, words_said, typed_said, steps_of}
 use Rattle.dm_typing.proofs.CoverLemmas.{covers-itself}
 use Rattle.dm_typing.proofs.DerivedLemmas.{SaidFits, said-more, type-gives}
 use Rattle.dm_typing.proofs.ExpressionLemmas.{value-expression}
 use Rattle.dm_typing.proofs.GrowthLemmas.{typed-later, constants-stay, complete-stays}
 use Rattle.dm_typing.proofs.KindLemmas.{numbers-same}
 use Rattle.dm_typing.proofs.KnownLemmas.{type-stays, after-more, with-more}
-use Rattle.dm_typing.proofs.TypeLemmas.{both-hold, both-true}
+use Rattle.dm_typing.proofs.TypeLemmas.{both-hold}
 use Rattle.dm_typing.proofs.WholeLemmas.{words-more, declarator-more}
-use Rattle.dm_edecl.specs.Standing.{Linked, Standing, Progress, goes_on, stops, further, knowing, typing, collecting, keeps}
-use Rattle.dm_edecl.specs.Linkages.{Storage, is_extern, entry_of, kind_seen, whole_kind, meaning_here, is_typedef, is_same_typedef, may_be_declared, number_before, number_here, with_kind, with_link_if, declared_here, object_here, is_defined}
+use Rattle.dm_edecl.specs.Standing.{Linked, Standing, Progress, goes_on, stops, further, knowing, typing}
+use Rattle.dm_edecl.specs.Linkages.{is_extern, entry_of, kind_seen, whole_kind, meaning_here, is_typedef, is_same_typedef, may_be_declared, number_here, with_kind, with_link_if, declared_here, is_defined}
 use Rattle.dm_edecl.specs.Initialising.{Initial, completed, expressions_alone, typed_initialiser}
-use Rattle.dm_edecl.specs.Declaring.{Specified, specified_by, specified, is_alone, typed_declarator, name_at, is_misplaced_static, may_be_object, may_be_main, declarable, Local, local_plain, local_initialised, with_lengths, may_be_initialised, may_define, object_defined, initialised, defines_object, item_plain, item_initialised, item_with, typed_item, typed_items, Declared, declarators_of, constants_of, expressions_of, may_be_inline, declared_by, typed_declaration}
+use Rattle.dm_edecl.specs.Declaring.{Specified, specified_by, specified, is_alone, typed_declarator, name_at, is_misplaced_static, may_be_object, may_be_main, declarable, Local, local_plain, local_initialised, with_lengths, may_be_initialised, may_define, object_defined, initialised, defines_object, item_plain, item_initialised, item_with, typed_item, typed_items, declarators_of, constants_of, expressions_of, may_be_inline, declared_by, typed_declaration}
 use Rattle.dm_edecl.specs.Sound.{AllSound, IsSoundInitial}
-use Rattle.dm_edecl.specs.Settled.{IsBound, is_linked, IsSoundStanding, IsSameEntry, Keeps, is_open, IsFinalEntry, IsFinal, Settles}
+use Rattle.dm_edecl.specs.Settled.{IsBound, is_linked, IsSoundStanding, Keeps, is_open, IsFinal, Settles}
 use Rattle.dm_edecl.specs.Fit.{InitialFits, AllConstants, DeclaresWell, LocalFits, LocalsFit, DeclarationFits}
 use Rattle.dm_edecl.proofs.CompletionLemmas.{covers-complete, covers-function, covers-sort}
 use Rattle.dm_edecl.proofs.EntryLemmas.{entry-fits}
 use Rattle.dm_edecl.proofs.InitialFitLemmas.{Fitting, initialiser-fits}
 use Rattle.dm_edecl.proofs.InitialLemmas.{initialiser-gives}
-use Rattle.dm_edecl.proofs.KeepsLemmas.{keeps-itself, keeps-through, keeps-final, final-later, knowing-keeps, knowing-sound, settles-from, settles-further, settles-keeps, settles-typing, settles-collecting}
+use Rattle.dm_edecl.proofs.KeepsLemmas.{keeps-itself, keeps-through, keeps-final, final-later, knowing-keeps, knowing-sound, settles-further, settles-keeps, settles-collecting}
 use Rattle.dm_edecl.proofs.LinkLemmas.{linked-last}
 use Rattle.dm_edecl.proofs.NamingLemmas.{declarator-declared}
-use Rattle.dm_edecl.proofs.RetypingLemmas.{IsChanged, kind-put, changed-at, IsDeclared, pushing-sound, pushing-keeps, completing-sound, completing-keeps, completing-final}
+use Rattle.dm_edecl.proofs.RetypingLemmas.{kind-put, changed-at, IsDeclared, pushing-sound, pushing-keeps, completing-sound, completing-keeps, completing-final}
 
 -- ---- lists of trees
 

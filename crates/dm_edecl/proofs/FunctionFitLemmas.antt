@@ -1,58 +1,56 @@
 -- Function definitions fit.
-use Rattle.std.specs.Prelude.{◌≡◌, ◌==◌, ℕ, ◌<◌, ◌≤◌, Bool, true, false, ◌&&◌, ◌||◌, not, if◌then◌else◌, IsTrue, List, [], ◌∷◌, ◌++◌, length, All, Option, Some, None, is_some, IsSome, IfSome, slice_get, bytes_eq, codes, refl}
+use Rattle.std.specs.Prelude.{◌≡◌, ◌==◌, ℕ, ◌<◌, ◌≤◌, Bool, true, false, ◌||◌, not, if◌then◌else◌, IsTrue, List, [], ◌∷◌, ◌++◌, length, Option, Some, None, IsSome, slice_get, bytes_eq, codes, refl}
 use Rattle.std.proofs.Common.{sym, ap, ◌∙◌, subst, arith, ⊎_elim}
 use Rattle.std.proofs.lemmas.List.Elements.{All-append}
 use Rattle.std.proofs.lemmas.Slice.Eq.{bytes_eq-Decides}
 use Rattle.dm_token.specs.declared.place.Span.{Span}
 use Rattle.dm_type.specs.Alike.{are_compatible}
-use Rattle.dm_type.specs.CTypes.{CType, CTypes, void, function as function_type, const, no_types, more_types, all_of, bare}
+use Rattle.dm_type.specs.CTypes.{CType, CTypes, function as function_type, const, no_types, more_types, all_of, bare}
 use Rattle.dm_type.specs.TableLaws.{injected}
 use Rattle.dm_type.specs.Tables.{type_of, content_of}
-use Rattle.dm_scope.specs.Scopes.{Numbers, Scopes}
+use Rattle.dm_scope.specs.Scopes.{Numbers}
 use Rattle.dm_syn.specs.declared.declared.Declared.{Declared as Seen}
 use Rattle.dm_syn.specs.Spans.{declarator_span}
 use Rattle.dm_syn.specs.Grammar.{IsSpecifiers, IsDeclarator, IsDirect, AreParameters}
 use Rattle.dm_syn.specs.Statements.{own_in_pointers, own_parameters, own_in_direct, IsBlock, IsStmt, IsExternal}
 use Rattle.dm_syn.specs.Trees.{Specifiers, Declarator, Direct, Parameters, Stmt, External}
 use Rattle.dm_syn.specs.Trees as tree
-use Rattle.dm_tree.specs.declared.unit.Sort.{Sort}
-use Rattle.dm_tree.specs.declared.unit.Sort.TheVariants.{Object, Function, Typedef, Enumerator, Tag}
+use Rattle.dm_tree.specs.declared.unit.Sort.TheVariants.{Function}
 use Rattle.dm_tree.specs.declared.unit.Linkage.{Linkage}
 use Rattle.dm_tree.specs.declared.unit.Linkage.TheVariants.{External as Outer}
 use Rattle.dm_tree.specs.Composites.{covers, cover_parameters}
 use Rattle.dm_tree.specs.Initialisers.{is_function_sort}
-use Rattle.dm_tree.specs.Scenes.{Scene, Names, IsConstant, IsComplete, is_function, are_alike}
+use Rattle.dm_tree.specs.Scenes.{Scene, Names, IsConstant, is_function}
 use Rattle.dm_tree.specs.Trees.{Tree, node, trees, label_of}
 use Rattle.dm_tree.specs.Trees as label
-use Rattle.dm_tree.specs.Typing.{FitsSort, IsEntry, IsWellTyped, AllWellTyped, has_linkage, body_scene, ParameterFits, ParametersFit, DefinitionFits, FunctionFits, is_main_type, ExternalFits}
+use Rattle.dm_tree.specs.Typing.{FitsSort, IsEntry, IsWellTyped, has_linkage, body_scene, ParameterFits, ParametersFit, DefinitionFits, FunctionFits, is_main_type, ExternalFits}
 use Rattle.dm_tree.specs.Units.{Declaration, defines_function}
 use Rattle.dm_tree.specs.Units as unit
 use Rattle.dm_typing.specs.Known.{Known, Setting, Outcome, given, broken, after, with_it, obeys, if_given}
-use Rattle.dm_typing.specs.Conversions.{is_complete}
 use Rattle.dm_typing.specs.Specifiers.{Said, nothing_said, type_said, Where, of_definition, are_allowed, with_said_const, is_one_at_most, is_static_alone, is_typedef_alone}
-use Rattle.dm_typing.specs.Sound.{IsProper, IsType, AreSoundTokens, AreSteps, IsSoundKnown, KnowsMore, GivesMore, AreConstants}
-use Rattle.dm_typing.specs.Typing.{TypedParameter, Step, calling, kinds_of, is_no_parameters, without_void, entered, words_said, typed_said, steps_of, derived, parameters_of}
+use Rattle.dm_typing.specs.Sound.{IsProper, IsType, AreSoundTokens, IsSoundKnown, KnowsMore, GivesMore}
+use Rattle.dm_typing.specs.Typing.{TypedParameter, Step, kinds_of, is_no_parameters, without_void, entered, words_said, typed_said, steps_of, derived, parameters_of}
 use Rattle.dm_typing.proofs.ConversionLemmas.{bare-again, bare-proper}
 use Rattle.dm_typing.proofs.CoverLemmas.{covers-itself, covers-compatible}
 use Rattle.dm_typing.proofs.DerivedLemmas.{SaidFits, said-more, entered-sound}
 use Rattle.dm_typing.proofs.KindLemmas.{numbers-same}
 use Rattle.dm_typing.proofs.KnownLemmas.{after-more, with-more}
 use Rattle.dm_typing.proofs.TypeLemmas.{both-hold, compatible-back}
-use Rattle.dm_typing.proofs.WholeLemmas.{words-more, declarator-more}
-use Rattle.dm_edecl.specs.Standing.{Linked, Standing, Progress, goes_on, stops, further, knowing, collecting, keeps, opened, closed}
-use Rattle.dm_edecl.specs.Linkages.{Storage, unsaid, typedef, extern, static, storage_of, is_extern, is_static, is_same_linkage, linkage_of, sort_of, entry_of, kind_seen, number_before, number_here, with_link_if, named_here, function_here, is_defined}
-use Rattle.dm_edecl.specs.Declaring.{Specified, specified_by, specified, typed_declarator, name_at, fits_main, declarable, declarators_of, expressions_of, typed_declaration}
+use Rattle.dm_typing.proofs.WholeLemmas.{words-more}
+use Rattle.dm_edecl.specs.Standing.{Linked, Standing, goes_on, further, knowing, keeps}
+use Rattle.dm_edecl.specs.Linkages.{Storage, unsaid, typedef, extern, static, storage_of, is_same_linkage, sort_of, entry_of, kind_seen, number_here, with_link_if, named_here, function_here, is_defined}
+use Rattle.dm_edecl.specs.Declaring.{Specified, specified_by, specified, typed_declarator, name_at, fits_main, declarators_of, expressions_of, typed_declaration}
 use Rattle.dm_edecl.specs.Statements.{Within, statement, typed_items_in}
-use Rattle.dm_edecl.specs.Units.{defined_parameters, own_defined, Heading, innermost, typed_heading, put_before, numbers_of, result_of, body_within, typed_body, external_of, function_defined, typed_external}
+use Rattle.dm_edecl.specs.Units.{defined_parameters, own_defined, Heading, innermost, typed_heading, put_before, numbers_of, body_within, typed_body, external_of, function_defined, typed_external}
 use Rattle.dm_edecl.specs.Settled.{is_linked, IsSoundStanding, Keeps, is_open, IsFinal, Settles}
 use Rattle.dm_edecl.specs.Fit.{AllConstants, DeclarationFits, IsSoundWithin, StandsIn, StmtFits, StmtsFit}
-use Rattle.dm_edecl.proofs.CompletionLemmas.{covers-bare, covers-function, covers-main}
-use Rattle.dm_edecl.proofs.DeclarationFitLemmas.{constants-final, declarator-typed, declared-final, complete-final, declarable-settles, names-final, IsAtEnd, not-true, declaration-settles}
+use Rattle.dm_edecl.proofs.CompletionLemmas.{covers-bare, covers-main}
+use Rattle.dm_edecl.proofs.DeclarationFitLemmas.{constants-final, declarator-typed, declared-final, complete-final, declarable-settles, names-final, declaration-settles}
 use Rattle.dm_edecl.proofs.EntryLemmas.{entry-fits}
 use Rattle.dm_edecl.proofs.KeepsLemmas.{keeps-itself, keeps-final, knowing-keeps, settles-from, settles-further, settles-keeps, settles-collecting, settles-scope}
 use Rattle.dm_edecl.proofs.LinkLemmas.{bound-last}
 use Rattle.dm_edecl.proofs.NamingLemmas.{declarator-declared, three-hold, linkages-same}
-use Rattle.dm_edecl.proofs.ParameterLemmas.{HasEntry, IsDefinedOne, AllDefined, IsOwnList, all-later, own-defined, SameAs, list-same, Found, OwnIn, own-declarator, IsFunctionOf, FunctionIn, derived-call}
+use Rattle.dm_edecl.proofs.ParameterLemmas.{IsDefinedOne, AllDefined, IsOwnList, all-later, own-defined, SameAs, list-same, Found, OwnIn, own-declarator, FunctionIn, derived-call}
 use Rattle.dm_edecl.proofs.RetypingLemmas.{IsDeclared}
 use Rattle.dm_edecl.proofs.StatementFitLemmas.{block-settles, block-fits}
 use Rattle.dm_edecl.proofs.StatementStepLemmas.{At, made-settles}

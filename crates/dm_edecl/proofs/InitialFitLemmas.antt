@@ -1,9 +1,8 @@
 -- The expressions of an initialiser initialise the parts that it names.
-use Rattle.std.specs.Prelude.{◌≡◌, ℕ, zero, suc, ◌+◌, ◌≤◌, ℤ, Bool, true, false, ◌&&◌, ◌||◌, not, nat_lt, nat_le, if◌then◌else◌, IsTrue, List, [], ◌∷◌, ◌++◌, length, Option, Some, None, is_some, option_map, option_and_then, unwrap_or, refl}
+use Rattle.std.specs.Prelude.{◌≡◌, ℕ, zero, suc, ◌+◌, ◌≤◌, Bool, true, false, ◌&&◌, ◌||◌, not, nat_lt, nat_le, if◌then◌else◌, IsTrue, List, [], ◌∷◌, ◌++◌, length, Option, Some, None, option_map, option_and_then, refl}
 use Rattle.std.proofs.Common.{sym, ap, ap₂, ◌∙◌, subst, arith}
 use Rattle.std.proofs.lemmas.List.{length-append}
 use Rattle.dm_token.specs.declared.place.Span.{Span}
-use Rattle.dm_int.specs.declared.Kind.{Kind}
 use Rattle.dm_type.specs.CTypes.{CType, void, integer, pointer, array, struct, function as function_type, const, bare}
 use Rattle.dm_type.specs.Tables.{Table}
 use Rattle.dm_syn.specs.declared.declared.Declared.{Declared}
@@ -21,14 +20,13 @@ use Rattle.dm_tree.specs.Trees.{Tree, kind_of, one_expression, in_braces, no_ite
 use Rattle.dm_tree.specs.Trees as label
 use Rattle.dm_typing.specs.Known.{Known, Setting, Outcome, given, broken, after}
 use Rattle.dm_typing.specs.Later.{IsLater}
-use Rattle.dm_typing.specs.Conversions.{as_value, as_type, is_same}
+use Rattle.dm_typing.specs.Conversions.{as_value, as_type}
 use Rattle.dm_typing.specs.Rules.{is_assignable}
 use Rattle.dm_typing.specs.Sound.{IsProper, AreComplete, AreSoundTokens, IsSound, IsSoundValue, IsSoundKnown, KnowsMore, GivesMore}
 use Rattle.dm_typing.specs.Typing.{typed, typed_within, literal_tree, extent}
 use Rattle.dm_typing.proofs.CallLemmas.{assigned-fits}
-use Rattle.dm_typing.proofs.CoverLemmas.{covers-itself, covers-through}
 use Rattle.dm_typing.proofs.KnownLemmas.{stays-so, after-more, obeys-more, if-more, knows-through}
-use Rattle.dm_typing.proofs.TypeLemmas.{both-hold, both-true}
+use Rattle.dm_typing.proofs.TypeLemmas.{both-hold}
 use Rattle.dm_typing.proofs.WholeLemmas.{expr-more}
 use Rattle.dm_typing.proofs.WriteLemmas.{as-value-sound}
 use Rattle.dm_edecl.specs.Initialising.{Initial, Initials, no_initials, with_first, enclosed, single, is_static_value, has_value, scalar_initialised, is_string_for, initialised_by, First, deeper, first_if_scalar, first_in_array, first_in_struct, first_within, first_scalar, in_each_brace, braced, all_expressions_alone, misplaced, scalar_in_braces, is_zero_list, all_zero, zero_initialised, if_part, typed_initialiser, typed_initialisers}

@@ -1,10 +1,8 @@
 -- What is known is kept from part to part of a unit, and up to its end.
-use Rattle.std.specs.Prelude.{◌≡◌, ℕ, zero, suc, ◌⊎◌, ◌<◌, ◌≤◌, Bool, true, false, IsTrue, List, [], ◌∷◌, ◌++◌, length, drop, Option, Some, None, slice_get, refl, All}
+use Rattle.std.specs.Prelude.{◌≡◌, ℕ, zero, suc, ◌⊎◌, ◌<◌, ◌≤◌, Bool, true, false, IsTrue, List, [], ◌∷◌, ◌++◌, length, drop, Some, slice_get, refl}
 use Rattle.std.proofs.Common.{get_or, sym, ap, ◌∙◌, subst, arith, inl, inr, ⊎_elim}
 use Rattle.std.proofs.lemmas.List.Elements.{All-nil}
 use Rattle.std.proofs.lemmas.Option.{slice_get_within, slice_get-get_or}
-use Rattle.std.specs.FinMap as map
-use Rattle.dm_type.specs.CTypes.{CType}
 use Rattle.dm_type.specs.TableLaws.{injected}
 use Rattle.dm_scope.specs.Scopes.{Numbers, Scopes}
 use Rattle.dm_tree.specs.Composites.{covers}
@@ -16,8 +14,8 @@ use Rattle.dm_typing.specs.Known.{Known, Outcome, given, broken}
 use Rattle.dm_typing.specs.Later.{IsLater}
 use Rattle.dm_typing.specs.Sound.{IsSoundKnown, KnowsMore, GivesMore, AreConstants, IsSound, scene_of}
 use Rattle.dm_typing.proofs.GrowthLemmas.{typed-later}
-use Rattle.dm_edecl.specs.Standing.{Standing, Progress, goes_on, stops, further, knowing, typing, collecting, keeps, opened, closed, known_behind, in_scope}
-use Rattle.dm_edecl.specs.Settled.{IsBound, is_linked, IsSoundStanding, IsSameEntry, Keeps, is_open, IsFinalEntry, IsFinal, Settles}
+use Rattle.dm_edecl.specs.Standing.{Standing, Progress, goes_on, stops, further, knowing, typing, collecting, keeps, opened, closed, known_behind}
+use Rattle.dm_edecl.specs.Settled.{is_linked, IsSoundStanding, IsSameEntry, Keeps, is_open, IsFinalEntry, IsFinal, Settles}
 
 -- ---- entries
 

@@ -1,8 +1,7 @@
 -- The labels of a switch differ.
-use Rattle.std.specs.Prelude.{◌≡◌, ℤ, Bool, true, false, not, ◌||◌, int_le, List, [], ◌∷◌, ◌++◌, Option, Some, None, refl}
+use Rattle.std.specs.Prelude.{◌≡◌, ℤ, Bool, true, false, ◌||◌, int_le, List, [], ◌∷◌, ◌++◌, Option, Some, None, refl}
 use Rattle.std.specs.List.{IsDistinct, AllByRecursion}
 use Rattle.std.proofs.Common.{sym, ap, subst, arith}
-use Rattle.dm_int.specs.Operators.{int_eq}
 use Rattle.dm_typing.proofs.TypeLemmas.{both-hold, both-true}
 use Rattle.dm_tree.specs.Typing.{is_same_label}
 use Rattle.dm_edecl.specs.Statements.{is_label_among}

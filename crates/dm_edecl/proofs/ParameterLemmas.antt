@@ -1,10 +1,9 @@
 -- The parameters of a function definition: each has an entry of its own, and the type of the function has their types.
-use Rattle.std.specs.Prelude.{◌≡◌, ℕ, ◌<◌, ◌≤◌, ◌⊎◌, Bool, true, false, ◌&&◌, not, if◌then◌else◌, IsTrue, List, [], ◌∷◌, ◌++◌, length, Option, Some, None, is_some, IsSome, slice_get, refl}
+use Rattle.std.specs.Prelude.{◌≡◌, ℕ, ◌≤◌, ◌⊎◌, Bool, true, false, ◌&&◌, not, if◌then◌else◌, List, [], ◌∷◌, ◌++◌, length, Option, Some, None, is_some, slice_get, refl}
 use Rattle.std.proofs.Common.{sym, ap, ◌∙◌, subst, arith, append_assoc, inl, inr, ⊎_elim}
-use Rattle.dm_token.specs.declared.place.Span.{Span}
 use Rattle.dm_type.specs.CTypes.{CType, array, function as function_type, all_of}
 use Rattle.dm_type.specs.TableLaws.{injected}
-use Rattle.dm_scope.specs.Scopes.{Scopes, is_declared}
+use Rattle.dm_scope.specs.Scopes.{is_declared}
 use Rattle.dm_syn.specs.declared.declared.Declared.{Declared as Seen}
 use Rattle.dm_syn.specs.Sources.{spelling_at}
 use Rattle.dm_syn.specs.Spans.{expr_span}
@@ -25,10 +24,10 @@ use Rattle.dm_typing.proofs.DerivedLemmas.{IsParameterType, AreParameterTypes, d
 use Rattle.dm_typing.proofs.GrowthLemmas.{complete-stays, known-later}
 use Rattle.dm_typing.proofs.KnownLemmas.{Any, knows-itself, knows-through, type-stays, stays-so, after-more, with-more, obeys-more, length-more}
 use Rattle.dm_typing.proofs.TypeLemmas.{both-hold}
-use Rattle.dm_typing.proofs.WholeLemmas.{expr-more, specifiers-more, declarator-more, direct-more, parameters-more, parameter-more}
+use Rattle.dm_typing.proofs.WholeLemmas.{expr-more, specifiers-more, declarator-more, direct-more, parameters-more}
 use Rattle.dm_typing.proofs.WriteLemmas.{as-value-sound}
 use Rattle.dm_edecl.specs.Settled.{is_open}
-use Rattle.dm_edecl.specs.Units.{is_only, may_be_defined, defined_parameter, defined_parameters, own_defined}
+use Rattle.dm_edecl.specs.Units.{is_only, may_be_defined, defined_parameter, defined_parameters}
 use Rattle.dm_edecl.proofs.KeepsLemmas.{lengths-grow}
 use Rattle.dm_edecl.proofs.NamingLemmas.{last-get}
 use Rattle.dm_edecl.proofs.StatementLemmas.{weaker-more}

@@ -24,7 +24,7 @@ use Rattle.dm_typing.proofs.GrowthLemmas.{some-of}
 use Rattle.dm_typing.proofs.PlaceLemmas.{Places, Plain, wider, after-places, obeys-places, if-places, derived-places}
 use Rattle.dm_typing.proofs.WholePlaceLemmas.{PlacedDeclarator, trailing-on, expr-placed, specifiers-placed, declarator-placed}
 use Rattle.dm_edecl.specs.Standing.{Standing, Progress, goes_on, stops, further, knowing, typing, collecting, keeps, closed}
-use Rattle.dm_edecl.specs.Linkages.{entry_of, may_be_declared, declared_here, number_here, kind_seen, is_defined, object_here}
+use Rattle.dm_edecl.specs.Linkages.{entry_of, may_be_declared, declared_here, number_here, kind_seen, object_here}
 use Rattle.dm_edecl.specs.Initialising.{Initial, single, is_static_value, has_value, scalar_initialised, is_string_for, initialised_by, First, first_scalar, zero_initialised, braced, completed, expressions_alone, all_expressions_alone, misplaced, scalar_in_braces, is_zero_list, all_zero, if_part, typed_initialiser, typed_initialisers, enclosed}
 use Rattle.dm_edecl.specs.Declaring.{Specified, specified_by, specified, is_alone, typed_declarator, name_at, is_misplaced_static, may_be_object, may_be_main, declarable, Local, local_initialised, with_lengths, may_be_initialised, may_define, object_defined, initialised, item_with, item_plain, item_initialised, typed_item, typed_items, may_be_inline, typed_declaration, declared_by}
 use Rattle.dm_edecl.specs.Placing.{StopsWithin}

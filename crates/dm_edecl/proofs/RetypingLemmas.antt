@@ -1,37 +1,26 @@
 -- An entry gets another type: what is known then is sound, and kept.
-use Rattle.std.specs.Prelude.{◌≡◌, ◌==◌, ℕ, zero, suc, ◌⊎◌, ◌+◌, ◌<◌, ◌≤◌, Bool, true, false, ◌&&◌, ◌||◌, not, if◌then◌else◌, IsTrue, List, [], ◌∷◌, ◌++◌, length, Option, Some, None, is_some, unwrap_or, option_and_then, slice_get, refl, All, bytes_eq}
+use Rattle.std.specs.Prelude.{◌≡◌, ℕ, zero, suc, ◌⊎◌, ◌<◌, ◌≤◌, true, false, IsTrue, List, [], ◌∷◌, ◌++◌, length, Some, slice_get, refl}
 use Rattle.std.proofs.Common.{sym, ap, ◌∙◌, subst, arith, inl, inr, ⊎_elim}
 use Rattle.std.proofs.lemmas.List.{length-append}
 use Rattle.std.proofs.lemmas.List.Elements.{All-nil}
 use Rattle.std.proofs.lemmas.Option.{slice_get_within}
-use Rattle.std.proofs.lemmas.Slice.Eq.{bytes_eq-Decides}
-use Rattle.dm_type.specs.Alike.{are_compatible, composite}
-use Rattle.dm_type.specs.CTypes.{CType, void, integer, pointer, array, struct, function as function_type, const, with_const}
+use Rattle.dm_type.specs.Alike.{are_compatible}
+use Rattle.dm_type.specs.CTypes.{CType}
 use Rattle.dm_type.specs.TableLaws.{injected}
-use Rattle.dm_scope.specs.Scopes.{Scopes, number_of, is_declared, declared as declared_in}
-use Rattle.dm_tree.specs.declared.unit.Sort.{Sort}
-use Rattle.dm_tree.specs.declared.unit.Sort.TheVariants.{Object, Function, Typedef, Enumerator, Tag}
-use Rattle.dm_tree.specs.declared.unit.Linkage.{Linkage}
-use Rattle.dm_tree.specs.declared.unit.Linkage.TheVariants.{External, Internal, Absent}
+use Rattle.dm_scope.specs.Scopes.{Scopes}
 use Rattle.dm_tree.specs.Composites.{covers}
-use Rattle.dm_tree.specs.Initialisers.{is_object, is_function_sort}
-use Rattle.dm_tree.specs.Scenes.{Scene, IsConstant, is_function}
-use Rattle.dm_tree.specs.Typing.{FitsSort, IsEntry, has_linkage}
+use Rattle.dm_tree.specs.Scenes.{Scene, IsConstant}
+use Rattle.dm_tree.specs.Typing.{IsEntry, has_linkage}
 use Rattle.dm_tree.specs.Units.{Declaration}
-use Rattle.dm_typing.specs.Known.{Known, meaning_of, declaring}
-use Rattle.dm_typing.specs.Conversions.{is_same}
-use Rattle.dm_typing.specs.Typing.{number_if_struct}
+use Rattle.dm_typing.specs.Known.{Known}
 use Rattle.dm_typing.specs.Sound.{IsProper, IsType, IsSoundKnown, AreConstants, scene_of}
-use Rattle.dm_typing.proofs.ChoiceLemmas.{composite-proper}
-use Rattle.dm_typing.proofs.CoverLemmas.{covers-joined, covers-through}
+use Rattle.dm_typing.proofs.CoverLemmas.{covers-through}
 use Rattle.dm_typing.proofs.KindLemmas.{same-numbers, numbers-same}
-use Rattle.dm_typing.proofs.KnownLemmas.{get-pushed, pushed-get, sound-entry}
-use Rattle.dm_typing.proofs.TypeLemmas.{both-hold, same-types}
 use Rattle.dm_edecl.specs.Standing.{Linked, Standing}
-use Rattle.dm_edecl.specs.Linkages.{whole_kind, is_called, number_linked, number_shared, is_number, kind_with, kind_from_here, kind_seen, meaning_here, is_typedef, is_same_typedef, is_linked_if_there, is_same_linkage, agree, agrees_with, agrees_if_there, may_be_declared, number_before, with_kind, known_kind, naming, number_here, with_link, with_link_if}
-use Rattle.dm_edecl.specs.Settled.{IsBound, is_linked, AreProperLinks, IsSoundStanding, IsSameEntry, Keeps, is_open, IsFinalEntry, IsFinal}
-use Rattle.dm_edecl.proofs.KeepsLemmas.{same-itself, split, there, front-kept, seeing-sound, seeing-keeps, keeps-through}
-use Rattle.dm_edecl.proofs.LinkLemmas.{unlinked-bound, bound-push, bound-front, bound-last, proper-push, some-then, some-now, linked-push, linked-last, linked-back, agree-push}
+use Rattle.dm_edecl.specs.Linkages.{whole_kind, with_kind, known_kind}
+use Rattle.dm_edecl.specs.Settled.{IsBound, is_linked, IsSoundStanding, IsSameEntry, Keeps, is_open, IsFinal}
+use Rattle.dm_edecl.proofs.KeepsLemmas.{same-itself}
+use Rattle.dm_edecl.proofs.LinkLemmas.{bound-front, bound-last, proper-push, linked-push, linked-last, linked-back, agree-push}
 
 -- ---- entries of which one has another type
 

@@ -1,48 +1,16 @@
 -- What statements are typed with, part by part, settles with its parts.
-use Rattle.std.specs.Prelude.{◌≡◌, ◌≤◌, ℕ, ℤ, Bool, true, false, not, IsTrue, List, [], ◌∷◌, ◌++◌, length, take, drop, All, flat_map, Option, Some, None, is_some, IsSome, IfSome, refl}
+use Rattle.std.specs.Prelude.{Bool, true, Option, Some, None, refl}
 use Rattle.std.specs.FinMap as map
-use Rattle.std.specs.List.{IsDistinct}
-use Rattle.std.proofs.Common.{sym, ap, ap₂, ◌∙◌, subst, arith, append-nil}
-use Rattle.std.proofs.lemmas.List.{length-append}
-use Rattle.std.proofs.lemmas.List.Elements.{All-nil, All-cons, All-head, All-tail, All-append}
-use Rattle.std.proofs.Math.Seq.{take-append_seam, drop-append_seam}
-use Rattle.dm_token.specs.declared.place.Span.{Span}
 use Rattle.dm_int.specs.declared.Kind.{Kind}
-use Rattle.dm_type.specs.CTypes.{CType, void, integer, bare}
-use Rattle.dm_scope.specs.Scopes.{Numbers}
-use Rattle.dm_syn.specs.declared.declared.Declared.{Declared as Seen}
-use Rattle.dm_syn.specs.Spans.{expr_span, declaration_span}
-use Rattle.dm_syn.specs.Grammar.{IsExpr}
-use Rattle.dm_syn.specs.Statements.{IsOptional, IsDeclaration, IsStart, IsStmt, AreBlockItems, IsBlockItem, AreSwitchItems, IsSwitchItem}
-use Rattle.dm_syn.specs.Trees.{Expr, ForStart, Stmt, BlockItems, BlockItem, SwitchItems, SwitchItem}
-use Rattle.dm_syn.specs.Trees as tree
-use Rattle.dm_tree.specs.Composites.{covers}
-use Rattle.dm_tree.specs.Constants.{integer_kind}
-use Rattle.dm_tree.specs.Initialisers.{DeclaratorsFit}
-use Rattle.dm_tree.specs.Operands.{IsPromoted}
-use Rattle.dm_tree.specs.Scenes.{Scene, IsValue, IsStatement, IsConstant, is_integer, is_scalar, is_void, constant_of as constant_in}
-use Rattle.dm_tree.specs.Trees.{Label, Spans, Tree, Trees, node, no_trees, more_trees, trees, listed, label_of, kind_of, is_statement}
-use Rattle.dm_tree.specs.Trees as label
-use Rattle.dm_tree.specs.Typing.{IsCondition, IsStart as MayStart, FitsLoop, FitsSwitch, FitsReturn, FitsStatement, Fits, inside, IsWellTyped, AreWellTyped, AllWellTyped, labels_of, labels_at, labels_below, is_same_label}
-use Rattle.dm_typing.specs.Known.{Known, Setting, Outcome, given, broken}
-use Rattle.dm_typing.specs.Conversions.{constant_of}
-use Rattle.dm_typing.specs.Sound.{AreSoundTokens, IsSound, IsSoundValue, IsSoundKnown, GivesMore}
-use Rattle.dm_typing.proofs.CallLemmas.{listed-trees}
-use Rattle.dm_typing.proofs.CoverLemmas.{covers-through}
-use Rattle.dm_typing.proofs.GrowthLemmas.{typed-later, constant-stays}
-use Rattle.dm_typing.proofs.KnownLemmas.{stays-so, with-more}
-use Rattle.dm_typing.proofs.RuleLemmas.{value-sound}
-use Rattle.dm_edecl.specs.Standing.{Standing, Progress, goes_on, stops, further, knowing, typing, keeps, opened, closed, in_scope}
-use Rattle.dm_edecl.specs.Declaring.{Declared, declarators_of, expressions_of, typed_declaration}
-use Rattle.dm_edecl.specs.Statements.{Within, in_loop, in_switch, statement, Subject, CaseValue, Labelled, AllLabelled, is_label_among, typed_value, typed_optional, typed_condition, typed_optional_condition, typed_subject, typed_case, typed_return, full_statement, declaration_tree, declared_in, typed_start, is_there, for_statement, typed_stmt, typed_items_in, typed_item_in, typed_switch_items, typed_switch_item}
-use Rattle.dm_edecl.specs.Sound.{AllSound, IsSoundCondition, IsSoundSubject, IsSoundReturn}
+use Rattle.dm_type.specs.CTypes.{CType}
+use Rattle.dm_tree.specs.Scenes.{Scene}
+use Rattle.dm_typing.specs.Known.{Known, Outcome, given, broken}
+use Rattle.dm_typing.specs.Sound.{GivesMore}
+use Rattle.dm_edecl.specs.Standing.{Standing, Progress, goes_on, stops, further, knowing, typing, in_scope}
+use Rattle.dm_edecl.specs.Statements.{Within, in_loop, in_switch}
 use Rattle.dm_edecl.specs.Settled.{IsSoundStanding, Keeps, IsFinal, Settles}
-use Rattle.dm_edecl.specs.Fit.{AllConstants, DeclarationFits, IsSoundWithin, StandsIn, StmtFits, StmtsFit}
-use Rattle.dm_edecl.proofs.CompletionLemmas.{covers-void}
-use Rattle.dm_edecl.proofs.DeclarationFitLemmas.{declaration-settles, not-true}
-use Rattle.dm_edecl.proofs.KeepsLemmas.{keeps-itself, keeps-final, final-later, knowing-keeps, knowing-sound, expression-final, settles-from, settles-further, settles-keeps, settles-scope}
-use Rattle.dm_edecl.proofs.LabelLemmas.{Adds, adds-nothing, adds-both, adds-one, adds-distinct}
-use Rattle.dm_edecl.proofs.StatementLemmas.{IsNewCase, value-gives, condition-gives, subject-gives, new-case-gives, return-gives, void-is}
+use Rattle.dm_edecl.specs.Fit.{StandsIn}
+use Rattle.dm_edecl.proofs.KeepsLemmas.{keeps-final, knowing-keeps, knowing-sound, settles-from, settles-further, settles-scope}
 
 -- ---- scenes
 

@@ -1,29 +1,29 @@
 -- What initialises an object with static storage is such as 6.6 and 6.7.9p4 say, at the end of the unit too.
-use Rattle.std.specs.Prelude.{◌≡◌, ◌==◌, ℕ, ℤ, pos, ◌⊎◌, Bool, true, false, ◌&&◌, ◌||◌, not, if◌then◌else◌, IsTrue, List, [], ◌∷◌, Option, Some, None, is_some, IsSome, IfSome, option_map, option_and_then, slice_get, refl}
+use Rattle.std.specs.Prelude.{◌≡◌, ◌==◌, ℕ, ℤ, pos, ◌⊎◌, Bool, true, false, ◌&&◌, ◌||◌, not, if◌then◌else◌, List, [], ◌∷◌, Option, Some, None, is_some, IsSome, option_and_then, slice_get, refl}
 use Rattle.std.proofs.Common.{sym, ap, ◌∙◌, subst, inl, inr, ⊎_elim}
 use Rattle.dm_token.specs.declared.place.Span.{Span}
 use Rattle.dm_int.specs.declared.Kind.{Kind}
 use Rattle.dm_int.specs.declared.Op.TheVariants as o
-use Rattle.dm_type.specs.CTypes.{CType, void, integer, pointer, array, struct, function as function_type, const, bare}
+use Rattle.dm_type.specs.CTypes.{CType, void, integer, pointer, array, struct, bare}
 use Rattle.dm_tree.specs.Constants.{integer_kind, is_constant_form, is_constant_part, constant_value, converted_to}
 use Rattle.dm_tree.specs.Initialisers.{is_fixed, is_same_span, shares_tokens, unconverted, Reach, nowhere, place, start, element_address, reach_of_object, subscripted, reach_at, reach, reaches, IsAddressConstant, IsNullConstant, IsStaticValue, FitsDecay}
 use Rattle.dm_tree.specs.Operands.{FitsBinary}
-use Rattle.dm_tree.specs.Scenes.{Scene, constant_of as constant_in, IsZero, target, is_integer, is_pointer, IsValue}
+use Rattle.dm_tree.specs.Scenes.{Scene, constant_of as constant_in, IsZero, target}
 use Rattle.dm_tree.specs.Trees.{Label, Spans, Tree, Trees, node, no_trees, more_trees, kind_of, spans_of, listed, label_of, is_statement}
 use Rattle.dm_tree.specs.Trees as label
 use Rattle.dm_tree.specs.Typing.{FitsExpression, IsWellTyped, AreWellTyped}
 use Rattle.dm_tree.specs.Units.{Declaration}
 use Rattle.dm_typing.specs.Known.{Known}
 use Rattle.dm_typing.specs.Later.{IsLater}
-use Rattle.dm_typing.specs.Conversions.{over, is_same, as_type, constant_of, is_zero, is_zero_value, is_null}
+use Rattle.dm_typing.specs.Conversions.{over, is_same, as_type, constant_of, is_zero, is_null}
 use Rattle.dm_typing.specs.Rules.{is_assignable, assignable_to, pointer_assignable}
-use Rattle.dm_typing.specs.Sound.{IsProper, AreComplete, scene_of, IsSoundValue}
+use Rattle.dm_typing.specs.Sound.{AreComplete, scene_of, IsSoundValue}
 use Rattle.dm_typing.proofs.ConversionLemmas.{zero-value, formed, constant-integer, no-pointer}
 use Rattle.dm_typing.proofs.ExpressionLemmas.{AreExpressions, value-expression, expressions-in, fits-expression, inside-expression}
-use Rattle.dm_typing.proofs.GrowthLemmas.{Stays, constant-stays, some-stays, fits-stays}
+use Rattle.dm_typing.proofs.GrowthLemmas.{constant-stays, some-stays}
 use Rattle.dm_typing.proofs.KindLemmas.{numbers-same}
-use Rattle.dm_typing.proofs.TypeLemmas.{both-hold, both-true}
-use Rattle.dm_edecl.specs.Initialising.{is_constant_expression, has_comma, is_place, is_start, is_address_constant, is_static_value, has_value}
+use Rattle.dm_typing.proofs.TypeLemmas.{both-true}
+use Rattle.dm_edecl.specs.Initialising.{is_constant_expression, is_place, is_start, is_address_constant, is_static_value, has_value}
 
 -- ---- conversions that are implied
 

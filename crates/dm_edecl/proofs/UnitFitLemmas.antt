@@ -1,5 +1,5 @@
 -- A typed unit is well typed.
-use Rattle.std.specs.Prelude.{◌≡◌, ℕ, zero, suc, ◌+◌, Bool, true, false, IsTrue, List, [], ◌∷◌, ◌++◌, All, Option, Some, None, is_some, unwrap_or, slice_get, refl}
+use Rattle.std.specs.Prelude.{◌≡◌, ℕ, zero, suc, ◌+◌, true, false, IsTrue, List, [], ◌∷◌, ◌++◌, All, Option, Some, None, is_some, unwrap_or, slice_get, refl}
 use Rattle.std.specs.FinMap as map
 use Rattle.std.proofs.Common.{sym, ap, ◌∙◌, subst, arith}
 use Rattle.std.proofs.lemmas.List.Elements.{All-nil, All-cons}
@@ -13,7 +13,7 @@ use Rattle.dm_syn.specs.Scopes.{external_declares}
 use Rattle.dm_syn.specs.Trees.{External}
 use Rattle.dm_tree.specs.Composites.{covers}
 use Rattle.dm_tree.specs.Scenes.{Scene}
-use Rattle.dm_tree.specs.Typing.{FitsSort, IsEntry, has_linkage, file_scene, ExternalFits, IsWellTypedUnit}
+use Rattle.dm_tree.specs.Typing.{IsEntry, has_linkage, file_scene, ExternalFits, IsWellTypedUnit}
 use Rattle.dm_tree.specs.Units.{Declaration, TypedUnit}
 use Rattle.dm_tree.specs.Units as unit
 use Rattle.dm_typing.specs.Known.{Known, Setting, Outcome, given, broken}
@@ -23,11 +23,11 @@ use Rattle.dm_typing.proofs.WholeLemmas.{sound-start}
 use Rattle.dm_edecl.specs.Standing.{Linked, Standing, Progress, goes_on, stops, further}
 use Rattle.dm_edecl.specs.Linkages.{whole_kind, with_whole_kinds}
 use Rattle.dm_edecl.specs.Placing.{AreExternals}
-use Rattle.dm_edecl.specs.Settled.{IsBound, is_linked, IsSoundStanding, is_open, IsFinalEntry, IsFinal, Settles}
+use Rattle.dm_edecl.specs.Settled.{IsBound, is_linked, IsSoundStanding, IsFinalEntry, IsFinal, Settles}
 use Rattle.dm_edecl.specs.Units.{unit_setting, beginning, typed_external, typed_externals, unit_of, typed_unit}
 use Rattle.dm_edecl.proofs.CompletionLemmas.{covers-sort}
 use Rattle.dm_edecl.proofs.FunctionFitLemmas.{external-settles}
-use Rattle.dm_edecl.proofs.KeepsLemmas.{same-itself, keeps-itself, keeps-final, settles-further}
+use Rattle.dm_edecl.proofs.KeepsLemmas.{keeps-itself, keeps-final, settles-further}
 use Rattle.dm_edecl.proofs.LinkLemmas.{unlinked-bound, whole-is}
 use Rattle.dm_edecl.proofs.OnceLemmas.{functions-once}
 

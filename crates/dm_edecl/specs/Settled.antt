@@ -10,7 +10,6 @@ use Rattle.dm_type.specs.Tables.{type_of, content_of}
 use Rattle.dm_tree.specs.Composites.{covers}
 use Rattle.dm_tree.specs.Scenes.{Scene}
 use Rattle.dm_tree.specs.Units.{Declaration}
-use Rattle.dm_typing.specs.Later.{IsCompletion}
 use Rattle.dm_typing.specs.Sound.{IsProper, IsSoundKnown}
 use Rattle.dm_edecl.specs.Standing.{Linked, Standing, Progress, goes_on, stops}
 use Rattle.dm_edecl.specs.Linkages.{whole_kind}
