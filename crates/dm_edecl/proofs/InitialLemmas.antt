@@ -15,7 +15,7 @@ use Rattle.dm_syn.specs.Trees as tree
 use Rattle.dm_tree.specs.Scenes.{is_scalar, member_type, part_type}
 use Rattle.dm_tree.specs.Trees.{Tree}
 use Rattle.dm_typing.specs.Known.{Known, Setting, Outcome, given, broken}
-use Rattle.dm_typing.specs.Conversions.{as_value, as_type, element}
+use Rattle.dm_typing.specs.Conversions.{as_value, as_type}
 use Rattle.dm_typing.specs.Rules.{is_assignable}
 use Rattle.dm_typing.specs.Sound.{IsProper, AreComplete, AreSoundTokens, IsSound, IsSoundValue, IsSoundKnown, KnowsMore, GivesMore}
 use Rattle.dm_typing.specs.Typing.{typed}
@@ -27,7 +27,7 @@ use Rattle.dm_typing.proofs.RuleLemmas.{value-sound}
 use Rattle.dm_typing.proofs.TableLemmas.{table-proper}
 use Rattle.dm_typing.proofs.WholeLemmas.{expr-more}
 use Rattle.dm_typing.proofs.WriteLemmas.{as-value-sound}
-use Rattle.dm_edecl.specs.Initialising.{Initial, Initials, no_initials, with_first, enclosed, single, is_static_value, has_value, scalar_initialised, is_string_for, initialised_by, First, dimensions, within, first_if_scalar, first_within, first_scalar, braced, expressions_alone, all_expressions_alone, misplaced, scalar_in_braces, is_zero_list, all_zero, zero_initialised, if_part, typed_initialiser, typed_initialisers}
+use Rattle.dm_edecl.specs.Initialising.{Initial, Initials, no_initials, with_first, enclosed, single, is_static_value, has_value, scalar_initialised, is_string_for, initialised_by, First, deeper, first_if_scalar, first_in_array, first_in_struct, first_within, first_scalar, braced, expressions_alone, all_expressions_alone, misplaced, scalar_in_braces, is_zero_list, all_zero, zero_initialised, if_part, typed_initialiser, typed_initialisers}
 use Rattle.dm_edecl.specs.Sound.{AllSound, IsSoundInitial}
 
 -- ---- trees
@@ -50,15 +50,6 @@ either-gives known P true one other h g = h
 either-gives known P false one other h g = g
 
 -- ---- types
-
-element-proper : (type : CType) → IsProper type → IsProper (element type)
-element-proper (array type n) h = element-proper type h
-element-proper void h = h
-element-proper (integer kind) h = h
-element-proper (pointer type) h = h
-element-proper (struct at) h = h
-element-proper (function_type result parameters) h = h
-element-proper (const type) h = h
 
 -- a member of a struct has a type of the table
 found-proper : (table : Table) (n : ℕ) (members : List Member) (found : Option Member) (part : CType)
@@ -83,7 +74,7 @@ item-proper : (test : Bool) (type part : CType) → IsProper type → (if test t
 item-proper true type part h e = subst IsProper (injected type part e) h
 item-proper false type part h e = absurd (cc)
 
-part-proper : (table : Table) (type : CType) (n : ℕ) → IsProper type → (part : CType) → part_type table type n ≡ Some part → IsProper part
+pub part-proper : (table : Table) (type : CType) (n : ℕ) → IsProper type → (part : CType) → part_type table type n ≡ Some part → IsProper part
 part-proper table (array type (Some many)) n h part e = item-proper (nat_lt n many) type part h e
 part-proper table (const type) n h part e = const-proper (member_type table type n) (λ inner f. member-proper table type n inner f) part e
 part-proper table type n h part e = member-proper table type n part e
@@ -97,10 +88,10 @@ unfolding AreFirst
 scalar-first true type h first e = subst (λ (it : First). IsProper it.kind) (injected (record { depth = 0; kind = type }) first e) h
 scalar-first false type h first e = absurd (cc)
 
-within-first : (n : ℕ) (found : Option First) → AreFirst found → AreFirst (option_map (within n) found)
+deeper-first : (found : Option First) → AreFirst found → AreFirst (option_map deeper found)
 unfolding AreFirst
-within-first n (Some one) h first e = subst (λ (it : First). IsProper it.kind) (injected (within n one) first e) (h one refl)
-within-first n None h first e = absurd (cc)
+deeper-first (Some one) h first e = subst (λ (it : First). IsProper it.kind) (injected (deeper one) first e) (h one refl)
+deeper-first None h first e = absurd (cc)
 
 then-first : (found : Option CType) (next : CType → Option First) → ((part : CType) → found ≡ Some part → AreFirst (next part)) → AreFirst (option_and_then next found)
 unfolding AreFirst
@@ -111,19 +102,34 @@ either-first : (test : Bool) (one other : Option First) → AreFirst one → Are
 either-first true one other h g = h
 either-first false one other h g = g
 
+no-first : AreFirst None
+unfolding AreFirst
+no-first first e = absurd (cc)
+
+array-first : (inner : CType → Option First) → ((type : CType) → IsProper type → AreFirst (inner type)) → (type : CType) → IsProper type → AreFirst (first_in_array inner type)
+array-first inner step (array type (Some n)) h =
+    either-first (nat_lt 0 n) (option_map deeper (first_in_array inner type)) None (deeper-first (first_in_array inner type) (array-first inner step type h)) no-first
+array-first inner step (array type None) h = step (array type None) h
+array-first inner step void h = step void h
+array-first inner step (integer kind) h = step (integer kind) h
+array-first inner step (pointer type) h = step (pointer type) h
+array-first inner step (struct at) h = step (struct at) h
+array-first inner step (function_type result parameters) h = step (function_type result parameters) h
+array-first inner step (const type) h = step (const type) h
+
+struct-first : (inner : CType → Option First) → ((type : CType) → IsProper type → AreFirst (inner type)) → (table : Table) (type : CType) → IsProper type
+    → AreFirst (first_in_struct inner table type)
+struct-first inner step table type h =
+    either-first (is_scalar type) (first_if_scalar type) (option_map deeper (option_and_then inner (part_type table type 0))) (scalar-first (is_scalar type) type h)
+    (deeper-first (option_and_then inner (part_type table type 0)) (then-first (part_type table type 0) inner (λ part e. step part (part-proper table type 0 h part e))))
+
 first-proper : (depth : ℕ) (table : Table) (type : CType) → IsProper type → AreFirst (first_within depth table type)
 unfolding first_within
-first-proper zero table type h =
-    within-first (dimensions type) (first_if_scalar (element type)) (scalar-first (is_scalar (element type)) (element type) (element-proper type h))
+first-proper zero table type h = array-first first_if_scalar (λ one is. scalar-first (is_scalar one) one is) type h
 first-proper (suc depth) table type h =
-    let inner = element-proper type h in
-    either-first (is_scalar (element type)) (option_map (within (dimensions type)) (first_if_scalar (element type)))
-    (option_map (within (dimensions type + 1)) (option_and_then (first_within depth table) (part_type table (element type) 0)))
-    (within-first (dimensions type) (first_if_scalar (element type)) (scalar-first (is_scalar (element type)) (element type) inner))
-    (within-first (dimensions type + 1) (option_and_then (first_within depth table) (part_type table (element type) 0))
-    (then-first (part_type table (element type) 0) (first_within depth table) (λ part e. first-proper depth table part (part-proper table (element type) 0 inner part e))))
+    array-first (first_in_struct (first_within depth table) table) (λ one is. struct-first (first_within depth table) (first-proper depth table) table one is) type h
 
-first-of : (known : Known) (type : CType) → IsProper type → (first : First) → first_scalar known.types type ≡ Some first → IsProper first.kind
+pub first-of : (known : Known) (type : CType) → IsProper type → (first : First) → first_scalar known.types type ≡ Some first → IsProper first.kind
 unfolding AreFirst
 first-of known type h first e = first-proper _ known.types type h first e
 

@@ -7,3 +7,17 @@ pub mod InitialLemmas
 pub mod EntryLemmas
 pub mod StatementLemmas
 pub mod ExampleLemmas
+pub mod LinkLemmas
+pub mod KeepsLemmas
+pub mod RetypingLemmas
+pub mod NamingLemmas
+pub mod CompletionLemmas
+pub mod StaticLemmas
+pub mod InitialFitLemmas
+pub mod DeclarationFitLemmas
+pub mod LabelLemmas
+pub mod StatementStepLemmas
+pub mod StatementFitLemmas
+pub mod ParameterLemmas
+pub mod FunctionFitLemmas
+pub mod UnitFitLemmas

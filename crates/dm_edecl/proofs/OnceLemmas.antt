@@ -12,13 +12,14 @@ use Rattle.dm_syn.specs.Trees as tree
 use Rattle.dm_scope.specs.Scopes.{Numbers}
 use Rattle.dm_tree.specs.Typing.{defined_by, defined_functions}
 use Rattle.dm_tree.specs.Units.{declares, defines_function, TypedUnit}
+use Rattle.dm_tree.specs.Trees.{Tree}
 use Rattle.dm_tree.specs.Trees as label
 use Rattle.dm_tree.specs.Units as unit
 use Rattle.dm_typing.specs.Known.{Known, Setting, Outcome, given, broken}
 use Rattle.dm_typing.specs.Specifiers.{of_definition}
-use Rattle.dm_edecl.specs.Standing.{Linked, Standing, Progress, goes_on, stops, further, typing, keeps, with_constants}
+use Rattle.dm_edecl.specs.Standing.{Linked, Standing, Progress, goes_on, stops, further, knowing, collecting, keeps}
 use Rattle.dm_edecl.specs.Linkages.{is_defined, with_link, function_here, number_here, entry_of, may_be_declared, kind_seen}
-use Rattle.dm_edecl.specs.Declaring.{Specified, specified, declarable, is_misplaced_static, may_be_object, may_be_main, name_at, declarators_of, expressions_of, typed_declaration}
+use Rattle.dm_edecl.specs.Declaring.{Specified, specified, declarable, is_misplaced_static, may_be_object, may_be_main, fits_main, name_at, declarators_of, expressions_of, typed_declaration}
 use Rattle.dm_edecl.specs.Statements.{Within, statement, typed_items_in}
 use Rattle.dm_edecl.specs.Units.{Heading, typed_heading, body_within, numbers_of, external_of, function_defined, typed_external, typed_externals, typed_unit, unit_of, unit_setting, beginning, typed_body}
 use Rattle.dm_edecl.proofs.ProgressLemmas.{Grows, grows-with, GrowsTo, scope-grows, made-grows, declaration-grows, stmt-grows, block-grows}
@@ -87,11 +88,11 @@ both-new old middle new numbers others a b = (
 
 -- ---- steps
 
-typing-defines : {A B : Type 0} (numbers : B → List ℕ) (s : Standing) (outcome : Outcome A) (next : Standing → A → Progress B)
-    → ((t : Standing) (it : A) → DefinesTo numbers t.linked (next t it)) → DefinesTo numbers s.linked (typing s outcome next)
+collecting-defines : {A B : Type 0} (numbers : B → List ℕ) (s : Standing) (outcome : Outcome A) (next : Standing → List Tree → A → Progress B)
+    → ((t : Standing) (constants : List Tree) (it : A) → DefinesTo numbers t.linked (next t constants it)) → DefinesTo numbers s.linked (collecting s outcome next)
 unfolding DefinesTo
-typing-defines numbers s (given known it) next g = g (record s { known = known }) it
-typing-defines numbers s (broken rule at) next g = tt
+collecting-defines numbers s (given known it) next g = g (knowing s known) known.constants it
+collecting-defines numbers s (broken rule at) next g = tt
 
 keeps-defines : {A : Type 0} (numbers : A → List ℕ) (old : List Linked) (test : Bool) (rule at : ℕ) (next : Progress A)
     → (test ≡ true → DefinesTo numbers old next) → DefinesTo numbers old (keeps test rule at next)
@@ -110,7 +111,7 @@ declarable-defines : {A : Type 0} (numbers : A → List ℕ) (said : Specified) 
     (next : Progress A) → DefinesTo numbers s.linked next → DefinesTo numbers s.linked (declarable said s initialised here name entry next)
 declarable-defines numbers said s initialised here name entry next g =
     four-define numbers s.linked (not (is_misplaced_static s.known said.storage entry.sort)) (may_be_declared s entry)
-    (may_be_object s.known said.storage initialised entry.sort (kind_seen s.known entry)) (may_be_main s.known entry) said.first name here next g
+    (may_be_object s.known said.storage initialised entry.sort (kind_seen s entry)) (may_be_main s.known entry) said.first name here next g
 
 -- ---- external declarations
 
@@ -155,25 +156,30 @@ body-grows setting within s scope (tree.block span items) =
     (λ t. made-grows t (typed_items_in setting within t items) (statement setting span label.block) (block-grows setting within t items))
 body-grows setting within s scope stmt = stmt-grows setting within s stmt
 
-function-defines : (setting : Setting) (said : Specified) (s : Standing) (span : Span) (declarator : Declarator) (body : Stmt) (heading : Heading) (entry : unit.Declaration)
-    → DefinesTo defined_by_one s.linked (function_defined setting said s span declarator body heading entry)
+function-defines : (setting : Setting) (said : Specified) (s : Standing) (span : Span) (declarator : Declarator) (body : Stmt) (constants : List Tree) (heading : Heading) (entry : unit.Declaration)
+    → DefinesTo defined_by_one s.linked (function_defined setting said s span declarator body constants heading entry)
 unfolding defined_by_one
-function-defines setting said s span declarator body heading entry =
-    let n = number_here s.known entry in
-    let t = with_constants [] (function_here s entry) in
+function-defines setting said s span declarator body constants heading entry =
+    let n = number_here s entry in
+    let t = function_here s entry in
     keeps-defines defined_by_one s.linked (not (is_defined n s.linked)) 2 (name_at declarator)
     (declarable said s false (declarator_span declarator).first (name_at declarator) entry
+    (keeps (fits_main entry) 36 (name_at declarator)
     (further (typed_body setting (body_within heading.kind) t heading.scope body)
-    (λ behind made. goes_on behind (external_of span s.known.constants (defines_function n (numbers_of heading.parameters) made)))))
+    (λ behind made. goes_on behind (external_of span constants (defines_function n (numbers_of heading.parameters) made))))))
     (λ new.
     declarable-defines defined_by_one said s false (declarator_span declarator).first (name_at declarator) entry
+    (keeps (fits_main entry) 36 (name_at declarator)
     (further (typed_body setting (body_within heading.kind) t heading.scope body)
-    (λ behind made. goes_on behind (external_of span s.known.constants (defines_function n (numbers_of heading.parameters) made))))
-    (one-new defined_by_one n s t (typed_body setting (body_within heading.kind) t heading.scope body)
-    (λ made. external_of span s.known.constants (defines_function n (numbers_of heading.parameters) made)) (λ made. refl)
+    (λ behind made. goes_on behind (external_of span constants (defines_function n (numbers_of heading.parameters) made)))))
+    (keeps-defines defined_by_one s.linked (fits_main entry) 36 (name_at declarator)
+    (further (typed_body setting (body_within heading.kind) t heading.scope body)
+    (λ behind made. goes_on behind (external_of span constants (defines_function n (numbers_of heading.parameters) made)))) (λ main.
+    one-new defined_by_one n s t (typed_body setting (body_within heading.kind) t heading.scope body)
+    (λ made. external_of span constants (defines_function n (numbers_of heading.parameters) made)) (λ made. refl)
     (not-true (is_defined n s.linked) new) (defined-last n entry.kind s.linked)
     (grows-with s t (record { number = n; kind = entry.kind; defines = true } ∷ []) refl)
-    (body-grows setting (body_within heading.kind) t heading.scope body)))
+    (body-grows setting (body_within heading.kind) t heading.scope body))))
 
 external-defines : (setting : Setting) (s : Standing) (external : External) → DefinesTo defined_by_one s.linked (typed_external setting s external)
 unfolding defined_by_one
@@ -181,12 +187,14 @@ external-defines setting s (tree.external span declaration) =
     nothing-new defined_by_one s (typed_declaration setting s declaration)
     (λ one. external_of span one.constants (declares (declarators_of one.locals) (expressions_of one.locals))) (λ it. refl) (declaration-grows setting s declaration)
 external-defines setting s (tree.definition span specifiers declarator body) =
-    typing-defines defined_by_one s (specified setting of_definition false (record s.known { constants = [] }) specifiers)
-    (λ then_standing said. typing then_standing (typed_heading setting then_standing.known said.kind declarator)
-    (λ behind heading. function_defined setting said behind span declarator body heading (entry_of setting behind.known said.storage (name_at declarator) heading.kind)))
-    (λ t said. typing-defines defined_by_one t (typed_heading setting t.known said.kind declarator)
-    (λ behind heading. function_defined setting said behind span declarator body heading (entry_of setting behind.known said.storage (name_at declarator) heading.kind))
-    (λ u heading. function-defines setting said u span declarator body heading (entry_of setting u.known said.storage (name_at declarator) heading.kind)))
+    collecting-defines defined_by_one s (specified setting of_definition false s.known specifiers)
+    (λ then_standing constants said. collecting then_standing (typed_heading setting then_standing.known said.kind declarator)
+    (λ behind more heading.
+    function_defined setting said behind span declarator body (constants ++ more) heading (entry_of setting behind.known said.storage (name_at declarator) heading.kind)))
+    (λ t constants said. collecting-defines defined_by_one t (typed_heading setting t.known said.kind declarator)
+    (λ behind more heading.
+    function_defined setting said behind span declarator body (constants ++ more) heading (entry_of setting behind.known said.storage (name_at declarator) heading.kind))
+    (λ u more heading. function-defines setting said u span declarator body (constants ++ more) heading (entry_of setting u.known said.storage (name_at declarator) heading.kind)))
 
 -- ---- units
 

@@ -23,10 +23,10 @@ use Rattle.dm_typing.specs.Typing.{words_said, typed_said, typed_specifiers, ste
 use Rattle.dm_typing.proofs.GrowthLemmas.{some-of}
 use Rattle.dm_typing.proofs.PlaceLemmas.{Places, Plain, wider, after-places, obeys-places, if-places, derived-places}
 use Rattle.dm_typing.proofs.WholePlaceLemmas.{PlacedDeclarator, trailing-on, expr-placed, specifiers-placed, declarator-placed}
-use Rattle.dm_edecl.specs.Standing.{Standing, Progress, goes_on, stops, further, typing, keeps, closed}
-use Rattle.dm_edecl.specs.Linkages.{entry_of, may_be_declared, declared_here, number_here, kind_seen, is_defined, object_here}
+use Rattle.dm_edecl.specs.Standing.{Standing, Progress, goes_on, stops, further, knowing, typing, collecting, keeps, closed}
+use Rattle.dm_edecl.specs.Linkages.{entry_of, may_be_declared, declared_here, number_here, kind_seen, object_here}
 use Rattle.dm_edecl.specs.Initialising.{Initial, single, is_static_value, has_value, scalar_initialised, is_string_for, initialised_by, First, first_scalar, zero_initialised, braced, completed, expressions_alone, all_expressions_alone, misplaced, scalar_in_braces, is_zero_list, all_zero, if_part, typed_initialiser, typed_initialisers, enclosed}
-use Rattle.dm_edecl.specs.Declaring.{Specified, specified_by, specified, is_alone, typed_declarator, name_at, is_misplaced_static, may_be_object, may_be_main, declarable, Local, local_initialised, may_be_initialised, object_defined, initialised, item_plain, item_initialised, typed_item, typed_items, may_be_inline, typed_declaration, declared_by}
+use Rattle.dm_edecl.specs.Declaring.{Specified, specified_by, specified, is_alone, typed_declarator, name_at, is_misplaced_static, may_be_object, may_be_main, declarable, Local, local_initialised, with_lengths, may_be_initialised, may_define, object_defined, initialised, item_with, item_plain, item_initialised, typed_item, typed_items, may_be_inline, typed_declaration, declared_by}
 use Rattle.dm_edecl.specs.Placing.{StopsWithin}
 
 -- ---- one part after the other
@@ -44,8 +44,14 @@ further-within first behind (stops rule at) next h step = h
 pub typing-within : {A B : Type 0} (first behind less more : ℕ) (P : A → Type 0) (s : Standing) (outcome : Outcome A) (next : Standing → A → Progress B)
     → less ≤ first → behind ≤ more → Places first behind P outcome → ((t : Standing) (it : A) → P it → StopsWithin less more (next t it))
     → StopsWithin less more (typing s outcome next)
-typing-within first behind less more P s (given known it) next low high h step = step (record s { known = known }) it h
+typing-within first behind less more P s (given known it) next low high h step = step (knowing s known) it h
 typing-within first behind less more P s (broken rule at) next low high h step = let from = h.0 in let to = h.1 in (omega (arith, low, from), omega (arith, high, to))
+
+pub collecting-within : {A B : Type 0} (first behind less more : ℕ) (P : A → Type 0) (s : Standing) (outcome : Outcome A) (next : Standing → List Tree → A → Progress B)
+    → less ≤ first → behind ≤ more → Places first behind P outcome → ((t : Standing) (constants : List Tree) (it : A) → P it → StopsWithin less more (next t constants it))
+    → StopsWithin less more (collecting s outcome next)
+collecting-within first behind less more P s (given known it) next low high h step = step (knowing s known) known.constants it h
+collecting-within first behind less more P s (broken rule at) next low high h step = let from = h.0 in let to = h.1 in (omega (arith, low, from), omega (arith, high, to))
 
 pub keeps-within : {A : Type 0} (first behind : ℕ) (test : Bool) (rule at : ℕ) (next : Progress A) → first ≤ at → at < behind
     → StopsWithin first behind next → StopsWithin first behind (keeps test rule at next)
@@ -274,17 +280,17 @@ module _ (setting : Setting) (said : Specified) (least most : ℕ) (begins : lea
       → least ≤ name → name < most → StopsWithin least most next → StopsWithin least most (declarable said s initialised here name entry next)
   declarable-within s initialised here name entry next low high from to h =
       let fourth = keeps (may_be_main s.known entry) 36 name next in
-      let third = keeps (may_be_object s.known said.storage initialised entry.sort (kind_seen s.known entry)) 5 here fourth in
+      let third = keeps (may_be_object s.known said.storage initialised entry.sort (kind_seen s entry)) 5 here fourth in
       keeps-within least most (not (is_misplaced_static s.known said.storage entry.sort)) 3 said.first (keeps (may_be_declared s entry) 2 name third) begins below
       (keeps-within least most (may_be_declared s entry) 2 name third from to
-      (keeps-within least most (may_be_object s.known said.storage initialised entry.sort (kind_seen s.known entry)) 5 here fourth low high
+      (keeps-within least most (may_be_object s.known said.storage initialised entry.sort (kind_seen s entry)) 5 here fourth low high
       (keeps-within least most (may_be_main s.known entry) 36 name next from to h)))
 
   defined-within : (s : Standing) (entry : Declaration) (number here name : ℕ) (kind : CType) (initial : Initial) → least ≤ here → here < most → least ≤ name → name < most
       → StopsWithin least most (object_defined s entry number here name kind initial)
   defined-within s entry number here name kind initial low high from to =
       let fine : Progress Local = goes_on (object_here s entry number kind) (local_initialised number initial) in
-      keeps-within least most (not (is_defined number s.linked)) 2 name (keeps (is_complete s.known kind) 5 here fine) from to
+      keeps-within least most (may_define s number kind) 2 name (keeps (is_complete s.known kind) 5 here fine) from to
       (keeps-within least most (is_complete s.known kind) 5 here fine low high tt)
 
   either-within : {A : Type 0} (test : Bool) (one other : Progress A) → StopsWithin least most one → StopsWithin least most other → StopsWithin least most (if test then one else other)
@@ -320,6 +326,9 @@ PlacedItems setting at items =
     × ((said : Specified) (s : Standing) (least most : ℕ) → least ≤ said.first → said.first < most → least ≤ at → items_after at items ≤ most
     → StopsWithin least most (typed_items setting said s items))
 
+with-within : (least most : ℕ) (constants : List Tree) (item : Progress Local) → StopsWithin least most item → StopsWithin least most (item_with constants item)
+with-within least most constants item h = further-within least most item (λ t local. goes_on t (with_lengths constants local)) h (λ t local. tt)
+
 module _ (setting : Setting) where
   item-placed : (names : List Declared) (is_type : Bool) (item : Item) → IsItem setting.source names is_type item → PlacedItem setting item
   unfolding IsItem
@@ -335,11 +344,14 @@ module _ (setting : Setting) where
             let inner = declarator_span declarator in
             let before : least ≤ inner.first = omega (arith, low, starts) in
             let behind : inner.after ≤ most = omega (arith, high, ends) in
-            typing-within inner.first inner.after least most Plain s (typed_declarator setting s.known said.kind declarator)
-            (λ t kind. item_plain setting said t declarator (entry_of setting t.known said.storage (name_at declarator) kind)) before behind
+            collecting-within inner.first inner.after least most Plain s (typed_declarator setting s.known said.kind declarator)
+            (λ t constants kind. item_with constants (item_plain setting said t declarator (entry_of setting t.known said.storage (name_at declarator) kind))) before behind
             (declarator-typed setting declarator shape s.known said.kind)
-            (λ t kind any. declarable-within setting said least most begins below t false inner.first (name_at declarator) (entry_of setting t.known said.storage (name_at declarator) kind) _
-            before (omega (arith, behind, from, to)) (omega (arith, before, from)) (omega (arith, behind, to)) tt),
+            (λ t constants kind any.
+            let entry = entry_of setting t.known said.storage (name_at declarator) kind in
+            with-within least most constants (item_plain setting said t declarator entry)
+            (declarable-within setting said least most begins below t false inner.first (name_at declarator) entry _
+            before (omega (arith, behind, from, to)) (omega (arith, before, from)) (omega (arith, behind, to)) tt)),
       )
   item-placed names is_type (tree.initialised span declarator one) h =
       let shape = declarator-placed setting names false declarator h.1 in
@@ -359,16 +371,17 @@ module _ (setting : Setting) where
             let name-low : least ≤ name_at declarator = omega (arith, before, from) in
             let name-high : name_at declarator < most = omega (arith, behind, to) in
             let inner-high : inner.first < most = omega (arith, behind, from, to) in
-            typing-within inner.first inner.after least most Plain s (typed_declarator setting s.known said.kind declarator)
-            (λ t kind. item_initialised setting said t span declarator one (entry_of setting t.known said.storage (name_at declarator) kind)) before behind
+            collecting-within inner.first inner.after least most Plain s (typed_declarator setting s.known said.kind declarator)
+            (λ t constants kind. item_with constants (item_initialised setting said t span declarator one (entry_of setting t.known said.storage (name_at declarator) kind))) before behind
             (declarator-typed setting declarator shape s.known said.kind)
-            (λ t kind any.
+            (λ t constants kind any.
             let entry = entry_of setting t.known said.storage (name_at declarator) kind in
-            declarable-within setting said least most begins below t true inner.first (name_at declarator) entry
-            (initialised setting (declared_here t entry) entry (number_here t.known entry) span inner.first (name_at declarator) (kind_seen t.known entry) one)
+            with-within least most constants (item_initialised setting said t span declarator one entry)
+            (declarable-within setting said least most begins below t true inner.first (name_at declarator) entry
+            (initialised setting (declared_here t entry) entry (number_here t entry) span inner.first (name_at declarator) (kind_seen t entry) one)
             before inner-high name-low name-high
-            (initialised-within setting said least most begins below (declared_here t entry) entry (number_here t.known entry) span inner.first (name_at declarator) (kind_seen t.known entry) one
-            before inner-high name-low name-high low (omega (arith, starts, inner-high)) (omega (arith, before, from, to, follows)) (omega (arith, ends, high)) placed)),
+            (initialised-within setting said least most begins below (declared_here t entry) entry (number_here t entry) span inner.first (name_at declarator) (kind_seen t entry) one
+            before inner-high name-low name-high low (omega (arith, starts, inner-high)) (omega (arith, before, from, to, follows)) (omega (arith, ends, high)) placed))),
       )
 
   -- one item, and others behind it
@@ -412,13 +425,13 @@ module _ (setting : Setting) where
       let low : span.first ≤ words.first = omega (arith, starts) in
       let high : items_after words.after items ≤ span.after = omega (arith, ends) in (
         omega (arith, starts, ends, some, more),
-        λ s. typing-within words.first words.after span.first span.after (BeginsAt words.first) s
-            (specified setting of_declaration (is_alone specifiers items) (record s.known { constants = [] }) specifiers) _ low (omega (arith, more, high))
-            (specified-placed setting names of_declaration (is_alone specifiers items) specifiers h.1 (record s.known { constants = [] }))
-            (λ t said begins.
+        λ s. collecting-within words.first words.after span.first span.after (BeginsAt words.first) s
+            (specified setting of_declaration (is_alone specifiers items) s.known specifiers) _ low (omega (arith, more, high))
+            (specified-placed setting names of_declaration (is_alone specifiers items) specifiers h.1 s.known)
+            (λ t constants said begins.
             let from : span.first ≤ said.first = omega (arith, begins, low) in
             let to : said.first < span.after = omega (arith, begins, some, more, high) in
-            further-within span.first span.after (typed_items setting said t items) (λ behind locals. declared_by s.known.constants said behind locals)
+            further-within span.first span.after (typed_items setting said t items) (λ behind locals. declared_by constants said behind locals)
             (all.1 said t span.first span.after from to (omega (arith, low, some)) high)
             (λ behind locals. keeps-within span.first span.after (not said.inline || may_be_inline behind.known locals) 3 said.first _ from to tt)),
       )

@@ -9,14 +9,15 @@ use Rattle.dm_type.specs.CTypes.{CType}
 use Rattle.dm_syn.specs.Spans.{declarator_span}
 use Rattle.dm_syn.specs.Trees.{Declarator, Expr, ForStart, Initialiser, Item, Stmt, BlockItems, BlockItem, SwitchItems, SwitchItem}
 use Rattle.dm_syn.specs.Trees as tree
+use Rattle.dm_tree.specs.Trees.{Tree}
 use Rattle.dm_tree.specs.Units.{Declaration}
 use Rattle.dm_typing.specs.Known.{Known, Setting, Outcome, given, broken}
-use Rattle.dm_edecl.specs.Standing.{Linked, Standing, Progress, goes_on, stops, further, typing, keeps, closed, in_scope, opened, with_constants}
+use Rattle.dm_edecl.specs.Standing.{Linked, Standing, Progress, goes_on, stops, further, knowing, typing, collecting, keeps, closed, in_scope, opened}
 use Rattle.dm_edecl.specs.Linkages.{is_defined, with_link_if, declared_here, object_here, number_here, entry_of, kind_seen}
 use Rattle.dm_edecl.specs.Initialising.{Initial, completed, expressions_alone, typed_initialiser}
 use Rattle.dm_tree.specs.Initialisers.{is_fixed}
 use Rattle.dm_tree.specs.Typing.{has_linkage}
-use Rattle.dm_edecl.specs.Declaring.{Specified, Local, declarable, name_at, typed_declarator, typed_item, typed_items, typed_declaration, item_plain, item_initialised, initialised, object_defined, may_be_initialised}
+use Rattle.dm_edecl.specs.Declaring.{Specified, Local, declarable, name_at, typed_declarator, typed_item, typed_items, typed_declaration, item_with, item_plain, item_initialised, initialised, object_defined, may_be_initialised}
 use Rattle.dm_edecl.specs.Statements.{Within, Labelled, AllLabelled, in_loop, in_switch, statement, full_statement, for_statement, is_label_among, typed_optional, typed_condition, typed_optional_condition, typed_subject, typed_case, typed_return, typed_stmt, typed_items_in, typed_item_in, typed_switch_items, typed_switch_item, declared_in, typed_start}
 use Rattle.dm_tree.specs.Trees as label
 
@@ -75,8 +76,16 @@ typing-grows : {A B : Type 0} (s : Standing) (outcome : Outcome A) (next : Stand
     → ((t : Standing) (it : A) → GrowsTo t (next t it)) → GrowsTo s (typing s outcome next)
 unfolding GrowsTo
 typing-grows s (given known it) next g =
-    stretched s (record s { known = known }) (next (record s { known = known }) it) (grows-same s (record s { known = known }) refl) (g (record s { known = known }) it)
+    stretched s (knowing s known) (next (knowing s known) it) (grows-same s (knowing s known) refl) (g (knowing s known) it)
 typing-grows s (broken rule at) next g = tt
+
+collecting-grows : {A B : Type 0} (s : Standing) (outcome : Outcome A) (next : Standing → List Tree → A → Progress B)
+    → ((t : Standing) (constants : List Tree) (it : A) → GrowsTo t (next t constants it)) → GrowsTo s (collecting s outcome next)
+unfolding GrowsTo
+collecting-grows s (given known it) next g =
+    let constants = known.constants in
+    stretched s (knowing s known) (next (knowing s known) constants it) (grows-same s (knowing s known) refl) (g (knowing s known) constants it)
+collecting-grows s (broken rule at) next g = tt
 
 keeps-grows : {A : Type 0} (s : Standing) (test : Bool) (rule at : ℕ) (next : Progress A) → GrowsTo s next → GrowsTo s (keeps test rule at next)
 unfolding GrowsTo
@@ -127,7 +136,7 @@ initialised-grows setting s entry number span here name kind one =
     ]
 
 declared-grows : (s : Standing) (entry : Declaration) → Grows s (declared_here s entry)
-declared-grows s entry = grows-if s (declared_here s entry) (has_linkage entry.linkage) (number_here s.known entry) entry.kind false refl
+declared-grows s entry = grows-if s (declared_here s entry) (has_linkage entry.linkage) (number_here s entry) entry.kind false refl
 
 plain-grows : (setting : Setting) (said : Specified) (s : Standing) (declarator : Declarator) (entry : Declaration)
     → GrowsTo s (item_plain setting said s declarator entry)
@@ -140,17 +149,20 @@ item-initialised-grows : (setting : Setting) (said : Specified) (s : Standing) (
 item-initialised-grows setting said s span declarator one entry =
     declarable-grows said s true (declarator_span declarator).first (name_at declarator) entry _
     (stretched s (declared_here s entry) _ (declared-grows s entry)
-    (initialised-grows setting (declared_here s entry) entry (number_here s.known entry) span (declarator_span declarator).first (name_at declarator) (kind_seen s.known entry) one))
+    (initialised-grows setting (declared_here s entry) entry (number_here s entry) span (declarator_span declarator).first (name_at declarator) (kind_seen s entry) one))
+
+with-grows : (s : Standing) (constants : List Tree) (item : Progress Local) → GrowsTo s item → GrowsTo s (item_with constants item)
+with-grows s constants item g = further-grows s item _ g (λ t local. there-grows t t _ (grows-itself t))
 
 item-grows : (setting : Setting) (said : Specified) (s : Standing) (item : Item) → GrowsTo s (typed_item setting said s item)
 item-grows setting said s (tree.plain span declarator) =
-    typing-grows s (typed_declarator setting s.known said.kind declarator)
-    (λ behind kind. item_plain setting said behind declarator (entry_of setting behind.known said.storage (name_at declarator) kind))
-    (λ t kind. plain-grows setting said t declarator (entry_of setting t.known said.storage (name_at declarator) kind))
+    collecting-grows s (typed_declarator setting s.known said.kind declarator)
+    (λ behind constants kind. item_with constants (item_plain setting said behind declarator (entry_of setting behind.known said.storage (name_at declarator) kind)))
+    (λ t constants kind. with-grows t constants _ (plain-grows setting said t declarator (entry_of setting t.known said.storage (name_at declarator) kind)))
 item-grows setting said s (tree.initialised span declarator one) =
-    typing-grows s (typed_declarator setting s.known said.kind declarator)
-    (λ behind kind. item_initialised setting said behind span declarator one (entry_of setting behind.known said.storage (name_at declarator) kind))
-    (λ t kind. item-initialised-grows setting said t span declarator one (entry_of setting t.known said.storage (name_at declarator) kind))
+    collecting-grows s (typed_declarator setting s.known said.kind declarator)
+    (λ behind constants kind. item_with constants (item_initialised setting said behind span declarator one (entry_of setting behind.known said.storage (name_at declarator) kind)))
+    (λ t constants kind. with-grows t constants _ (item-initialised-grows setting said t span declarator one (entry_of setting t.known said.storage (name_at declarator) kind)))
 
 pub items-grow : (setting : Setting) (said : Specified) (s : Standing) (items : List Item) → GrowsTo s (typed_items setting said s items)
 items-grow setting said s [] = there-grows s s _ (grows-itself s)
@@ -160,8 +172,8 @@ items-grow setting said s (first ∷ others) =
 
 pub declaration-grows : (setting : Setting) (s : Standing) (declaration : tree.Declaration) → GrowsTo s (typed_declaration setting s declaration)
 declaration-grows setting s (tree.declaring span specifiers items) =
-    typing-grows s _ _ (λ t said. further-grows t _ _ (items-grow setting said t items)
-    (λ u locals. keeps-grows u _ 3 said.first _ (there-grows u (with_constants s.known.constants u) _ (grows-same u (with_constants s.known.constants u) refl))))
+    collecting-grows s _ _ (λ t constants said. further-grows t _ _ (items-grow setting said t items)
+    (λ u locals. keeps-grows u _ 3 said.first _ (there-grows u u _ (grows-itself u))))
 
 -- ---- statements (6.8)
 

@@ -10,17 +10,19 @@ use Rattle.dm_syn.specs.Spans.{expr_span}
 use Rattle.dm_syn.specs.Grammar.{IsExpr}
 use Rattle.dm_syn.specs.Statements.{IsOptional}
 use Rattle.dm_syn.specs.Trees.{Expr}
+use Rattle.dm_tree.specs.Composites.{covers}
 use Rattle.dm_tree.specs.Constants.{integer_kind, is_constant_part, constant_forms, is_constant_form, constant_value}
 use Rattle.dm_tree.specs.Scenes.{is_integer, is_scalar, is_void}
 use Rattle.dm_tree.specs.Trees.{Tree, node, kind_of}
 use Rattle.dm_tree.specs.Trees as label
-use Rattle.dm_typing.specs.Known.{Known, Setting, given, obeys}
+use Rattle.dm_typing.specs.Known.{Known, Setting, Outcome, given, broken, obeys}
 use Rattle.dm_typing.specs.Conversions.{over, is_same, as_value, as_type, as_kind, constant_of}
 use Rattle.dm_typing.specs.Rules.{is_assignable}
 use Rattle.dm_typing.specs.Sound.{IsProper, AreSoundTokens, IsSound, IsSoundValue, AreSound, IsSoundKnown, GivesMore}
 use Rattle.dm_typing.specs.Typing.{typed}
 use Rattle.dm_typing.proofs.CallLemmas.{assigned-fits}
 use Rattle.dm_typing.proofs.ConversionLemmas.{as-kind-fits}
+use Rattle.dm_typing.proofs.CoverLemmas.{covers-itself}
 use Rattle.dm_typing.proofs.KindLemmas.{promoted-again}
 use Rattle.dm_typing.proofs.KnownLemmas.{stays-so, after-more, with-more, obeys-more, if-more}
 use Rattle.dm_typing.proofs.RuleLemmas.{value-sound}
@@ -49,7 +51,7 @@ case-integer known kind value n false e h =
 
 -- ---- results
 
-void-is : (type : CType) → is_void type ≡ true → type ≡ void
+pub void-is : (type : CType) → is_void type ≡ true → type ≡ void
 void-is void h = refl
 void-is type h = absurd (cc)
 
@@ -67,13 +69,26 @@ module _ (setting : Setting) where
   returned-gives known result span (value ∷ others) plain proper sound are =
       obeys-more known (IsSoundReturn result) (is_assignable known value result) 34 span.first (given known (statement setting span label.return (as_type result value ∷ [])))
       (λ assignable. let fits = assigned-fits known result value are.0 proper assignable in
-      stays-so known (IsSoundReturn result) (statement setting span label.return (as_type result value ∷ [])) sound
-      (refl, (fits.0.0, fits.1 ∙ sym plain, never-void known value result assignable), (value-sound known (as_type result value) fits.0, tt)))
+      stays-so known (IsSoundReturn result) (statement setting span label.return (as_type result value ∷ [])) sound (
+        refl,
+        (fits.0.0, subst (λ kind. covers result kind ≡ true) (sym (fits.1 ∙ sym plain)) (covers-itself result), never-void known value result assignable),
+        (value-sound known (as_type result value) fits.0, tt),
+      ))
 
 -- ---- expressions in statements
 
+-- what is given is less than what is known of it
+pub weaker-more : {A : Type 0} (known : Known) (P Q : Known → A → Type 0) (outcome : Outcome A) → ((behind : Known) (it : A) → P behind it → Q behind it) → GivesMore known P outcome
+    → GivesMore known Q outcome
+weaker-more known P Q (given behind it) f h = (h.0, h.1, h.2, f behind it h.3)
+weaker-more known P Q (broken rule at) f h = tt
+
+-- the label of a `case` is none of those before
+abbrev pub IsNewCase : Kind → List (Option ℤ) → Known → CaseValue → Type 0
+IsNewCase kind labels known one = IsSoundCase kind known one × (not (is_label_among (Some one.value) labels) ≡ true)
+
 module _ (setting : Setting) (tokens : AreSoundTokens setting.source.tokens) where
-  value-gives : (known : Known) (names : List Declared) (expr : Expr) → IsExpr setting.source names expr → IsSoundKnown known → GivesMore known IsSoundValue (typed_value setting known expr)
+  pub value-gives : (known : Known) (names : List Declared) (expr : Expr) → IsExpr setting.source names expr → IsSoundKnown known → GivesMore known IsSoundValue (typed_value setting known expr)
   value-gives known names expr is sound =
       with-more known IsSound IsSoundValue (typed setting true known expr) (λ behind made. as_value made) (expr-more setting tokens true known names (expr_span expr) expr is sound)
       (λ behind made more still fine. as-value-sound behind made fine)
@@ -93,18 +108,24 @@ module _ (setting : Setting) (tokens : AreSoundTokens setting.source.tokens) whe
       (λ kind e. let fits = as-kind-fits behind (promote kind) value fine (ap is_some e) in
       stays-so behind IsSoundSubject (subject value kind) still (fits.0, fits.1, promoted-again kind)))
 
-  pub case-gives : (known : Known) (names : List Declared) (kind : Kind) (labels : List (Option ℤ)) (expr : Expr) → IsExpr setting.source names expr → IsSoundKnown known
-      → GivesMore known (IsSoundCase kind) (typed_case setting known kind labels expr)
-  case-gives known names kind labels expr is sound =
-      after-more known IsSoundValue (IsSoundCase kind) (typed_value setting known expr) _ (value-gives known names expr is sound)
+  pub new-case-gives : (known : Known) (names : List Declared) (kind : Kind) (labels : List (Option ℤ)) (expr : Expr) → IsExpr setting.source names expr → IsSoundKnown known
+      → GivesMore known (IsNewCase kind labels) (typed_case setting known kind labels expr)
+  new-case-gives known names kind labels expr is sound =
+      after-more known IsSoundValue (IsNewCase kind labels) (typed_value setting known expr) _ (value-gives known names expr is sound)
       (λ behind value more still fine.
       let converted = as_kind kind value in
       let made : ℤ → CaseValue = λ n. record { tree = converted; value = n } in
-      if-more behind (IsSoundCase kind) (constant_of behind converted) 30 (expr_span expr).first
+      if-more behind (IsNewCase kind labels) (constant_of behind converted) 30 (expr_span expr).first
       (λ n. obeys (not (is_label_among (Some n) labels)) 31 (expr_span expr).first (given behind (made n)))
-      (λ n e. obeys-more behind (IsSoundCase kind) (not (is_label_among (Some n) labels)) 31 (expr_span expr).first (given behind (made n))
+      (λ n e. obeys-more behind (IsNewCase kind labels) (not (is_label_among (Some n) labels)) 31 (expr_span expr).first (given behind (made n))
       (λ new. let fits = as-kind-fits behind kind value fine (case-integer behind kind value n (is_same (kind_of value) (integer kind)) refl e) in
-      stays-so behind (IsSoundCase kind) (made n) still (fits.0, fits.1, e))))
+      stays-so behind (IsNewCase kind labels) (made n) still ((fits.0, fits.1, e), new))))
+
+  pub case-gives : (known : Known) (names : List Declared) (kind : Kind) (labels : List (Option ℤ)) (expr : Expr) → IsExpr setting.source names expr → IsSoundKnown known
+      → GivesMore known (IsSoundCase kind) (typed_case setting known kind labels expr)
+  case-gives known names kind labels expr is sound =
+      weaker-more known (IsNewCase kind labels) (IsSoundCase kind) (typed_case setting known kind labels expr) (λ behind one fits. fits.0)
+      (new-case-gives known names kind labels expr is sound)
 
   optional-gives : (known : Known) (names : List Declared) (at : ℕ) (expr : Option Expr) → IsOptional setting.source names at expr → IsSoundKnown known
       → GivesMore known AreSound (typed_optional setting known expr)

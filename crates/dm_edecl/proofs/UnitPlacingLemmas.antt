@@ -25,13 +25,13 @@ use Rattle.dm_typing.specs.Sound.{BreaksWithin}
 use Rattle.dm_typing.specs.Typing.{TypedParameter, parameter_of, parameter_at, entered, is_no_parameters, without_void}
 use Rattle.dm_typing.proofs.PlaceLemmas.{Places, Plain, wider, after-places, with-places, obeys-places}
 use Rattle.dm_typing.proofs.WholePlaceLemmas.{PlacedDeclarator, pointers-on, parameter-here, expr-placed, specifiers-placed, declarator-placed, direct-placed, parameters-placed, more-parameters-placed, parameter-placed}
-use Rattle.dm_edecl.specs.Standing.{Standing, Progress, goes_on, stops, further, opened, with_constants}
+use Rattle.dm_edecl.specs.Standing.{Standing, Progress, goes_on, stops, further, keeps, opened}
 use Rattle.dm_edecl.specs.Linkages.{entry_of, function_here, number_here, is_defined}
-use Rattle.dm_edecl.specs.Declaring.{Specified, specified, typed_declarator, name_at, declarable, typed_declaration}
+use Rattle.dm_edecl.specs.Declaring.{Specified, specified, typed_declarator, name_at, fits_main, declarable, typed_declaration}
 use Rattle.dm_edecl.specs.Statements.{Within, statement, typed_items_in}
 use Rattle.dm_edecl.specs.Units.{is_only, may_be_defined, defined_parameter, defined_parameters, own_defined, Heading, innermost, typed_heading, numbers_of, body_within, typed_body, external_of, function_defined, typed_external, typed_externals, unit_setting, beginning, unit_of, typed_unit}
 use Rattle.dm_edecl.specs.Placing.{StopsWithin, externals_after, AreExternals}
-use Rattle.dm_edecl.proofs.PlacingLemmas.{stops-wider, further-within, typing-within, keeps-within, closed-within, either-places, BeginsAt, specified-placed, declarator-typed, name-placed, declarable-within, declaration-placed}
+use Rattle.dm_edecl.proofs.PlacingLemmas.{stops-wider, further-within, collecting-within, keeps-within, closed-within, either-places, BeginsAt, specified-placed, declarator-typed, name-placed, declarable-within, declaration-placed}
 use Rattle.dm_edecl.proofs.StatementPlacingLemmas.{stmt-placed, block-placed}
 
 -- ---- the parameters at the name of a declarator
@@ -170,23 +170,25 @@ module _ (setting : Setting) where
       (λ t trees. tt))
   body-within names body h within s scope = (stmt-placed setting names body h).1 within s
 
-  definition-within : (said : Specified) (s : Standing) (span : Span) (declarator : Declarator) (names : List Declared) (body : Stmt) (heading : Heading) (entry : Declaration)
+  definition-within : (said : Specified) (s : Standing) (span : Span) (declarator : Declarator) (names : List Declared) (body : Stmt) (constants : List label.Tree) (heading : Heading) (entry : Declaration)
       → span.first ≤ said.first → said.first < span.after → span.first ≤ (declarator_span declarator).first → (declarator_span declarator).first < span.after
       → span.first ≤ name_at declarator → name_at declarator < span.after → span.first ≤ (stmt_span body).first → (stmt_span body).after ≤ span.after → IsStmt setting.source names body
-      → StopsWithin span.first span.after (function_defined setting said s span declarator body heading entry)
-  definition-within said s span declarator names body heading entry begins below low high from to after-low after-high is =
-      let number = number_here s.known entry in
-      let inside = with_constants [] (function_here s entry) in
+      → StopsWithin span.first span.after (function_defined setting said s span declarator body constants heading entry)
+  definition-within said s span declarator names body constants heading entry begins below low high from to after-low after-high is =
+      let number = number_here s entry in
+      let inside = function_here s entry in
       let made : Standing → label.Tree → Progress unit.External =
-      λ t tree. goes_on t (external_of span s.known.constants (defines_function number (numbers_of heading.parameters) tree)) in
-      let whole = further (typed_body setting (body_within heading.kind) inside heading.scope body) made in
+      λ t tree. goes_on t (external_of span constants (defines_function number (numbers_of heading.parameters) tree)) in
+      let rest = further (typed_body setting (body_within heading.kind) inside heading.scope body) made in
+      let whole = keeps (fits_main entry) 36 (name_at declarator) rest in
       keeps-within span.first span.after (not (is_defined number s.linked)) 2 (name_at declarator)
       (declarable said s false (declarator_span declarator).first (name_at declarator) entry whole) from to
       (declarable-within setting said span.first span.after begins below s false (declarator_span declarator).first (name_at declarator) entry whole low high from to
+      (keeps-within span.first span.after (fits_main entry) 36 (name_at declarator) rest from to
       (further-within span.first span.after (typed_body setting (body_within heading.kind) inside heading.scope body) made
       (stops-wider (stmt_span body).first (stmt_span body).after span.first span.after (typed_body setting (body_within heading.kind) inside heading.scope body) after-low after-high
       (body-within names body is (body_within heading.kind) inside heading.scope))
-      (λ t tree. tt)))
+      (λ t tree. tt))))
 
   -- ---- external declarations
 
@@ -221,11 +223,11 @@ module _ (setting : Setting) where
       let mid : words.after ≤ inner.first = omega (arith, follows) in
       let high : inner.after < span.after = omega (arith, then_follows, most, ends) in (
         omega (arith, low, some, mid, from, to, high),
-        λ s. typing-within words.first words.after span.first span.after (BeginsAt words.first) s (specified setting of_definition false (record s.known { constants = [] }) specifiers) _
-            low (omega (arith, mid, from, to, high)) (specified-placed setting names of_definition false specifiers h.1 (record s.known { constants = [] }))
-            (λ t said begins. typing-within inner.first inner.after span.first span.after Plain t (typed_heading setting t.known said.kind declarator) _
+        λ s. collecting-within words.first words.after span.first span.after (BeginsAt words.first) s (specified setting of_definition false s.known specifiers) _
+            low (omega (arith, mid, from, to, high)) (specified-placed setting names of_definition false specifiers h.1 s.known)
+            (λ t constants said begins. collecting-within inner.first inner.after span.first span.after Plain t (typed_heading setting t.known said.kind declarator) _
             (omega (arith, low, some, mid)) (omega (arith, high)) (heading-placed _ declarator h.3 shape t.known said.kind)
-            (λ u heading any. definition-within said u span declarator _ body heading (entry_of setting u.known said.storage (name_at declarator) heading.kind)
+            (λ u more heading any. definition-within said u span declarator _ body (constants ++ more) heading (entry_of setting u.known said.storage (name_at declarator) heading.kind)
             (omega (arith, begins, low)) (omega (arith, begins, some, mid, from, to, high)) (omega (arith, low, some, mid)) (omega (arith, from, to, high)) (omega (arith, low, some, mid, from))
             (omega (arith, to, high)) (omega (arith, low, some, mid, from, to, then_follows)) (omega (arith, ends)) h.8)),
       )

@@ -5,6 +5,7 @@
 --     typed_declaration setting standing declaration      a declaration
 use Rattle.std.specs.Prelude.{ℕ, Bool, true, false, ◌&&◌, ◌||◌, not, if◌then◌else◌, List, [], ◌∷◌, ◌++◌, Option, Some, None, unwrap_or, slice_get, bytes_eq, codes}
 use Rattle.dm_token.specs.declared.place.Span.{Span}
+use Rattle.dm_type.specs.Alike.{are_compatible}
 use Rattle.dm_type.specs.CTypes.{CType}
 use Rattle.dm_syn.specs.Spans.{declarator_span}
 use Rattle.dm_syn.specs.Scopes.{declarator_name}
@@ -22,8 +23,8 @@ use Rattle.dm_typing.specs.Known.{Known, Setting, Outcome, after, with_it}
 use Rattle.dm_typing.specs.Conversions.{is_complete}
 use Rattle.dm_typing.specs.Specifiers.{Said, nothing_said, Where, of_declaration}
 use Rattle.dm_typing.specs.Typing.{is_file_scope, words_said, typed_said, steps_of, derived}
-use Rattle.dm_edecl.specs.Standing.{Standing, Progress, goes_on, stops, further, typing, keeps, with_constants}
-use Rattle.dm_edecl.specs.Linkages.{Storage, storage_of, is_extern, is_static, is_same_linkage, entry_of, may_be_declared, declared_here, number_here, kind_seen, object_here, is_defined}
+use Rattle.dm_edecl.specs.Standing.{Standing, Progress, goes_on, stops, further, typing, collecting, keeps}
+use Rattle.dm_edecl.specs.Linkages.{Storage, storage_of, is_extern, is_static, is_same_linkage, entry_of, whole_kind, may_be_declared, declared_here, number_here, kind_seen, object_here, is_defined}
 use Rattle.dm_edecl.specs.Initialising.{Initial, completed, expressions_alone, typed_initialiser}
 
 -- ---- specifiers (6.7.1 to 6.7.4)
@@ -78,45 +79,57 @@ may_be_object known storage initialised sort kind =
     not (is_object sort) || is_extern storage && not initialised || is_complete_or_array known initialised kind
 
 -- C36: `main` in file scope is a function with external linkage and one of two types (5.1.2.2.1p1)
+abbrev pub fits_main : Declaration → Bool
+fits_main entry =
+    not (bytes_eq entry.name (codes "main")) || is_function_sort entry.sort && is_same_linkage External entry.linkage && is_main_type entry.kind
+
 abbrev pub may_be_main : Known → Declaration → Bool
-may_be_main known entry =
-    not (is_file_scope known.scopes && bytes_eq entry.name (codes "main"))
-    || is_function_sort entry.sort && is_same_linkage External entry.linkage && is_main_type entry.kind
+may_be_main known entry = not (is_file_scope known.scopes) || fits_main entry
 
 -- C3, C2, C5 and C36 of a declarator that begins at a token and names its entity at another
 abbrev pub declarable : {A : Type 0} → Specified → Standing → Bool → ℕ → ℕ → Declaration → Progress A → Progress A
 declarable said standing initialised here name entry next =
     keeps (not (is_misplaced_static standing.known said.storage entry.sort)) 3 said.first
     (keeps (may_be_declared standing entry) 2 name
-    (keeps (may_be_object standing.known said.storage initialised entry.sort (kind_seen standing.known entry)) 5 here
+    (keeps (may_be_object standing.known said.storage initialised entry.sort (kind_seen standing entry)) 5 here
     (keeps (may_be_main standing.known entry) 36 name next)))
 
 -- ---- initialisers
 
--- a declarator that is typed, with the expressions of its initialiser
+-- a declarator that is typed, with the trees of its lengths and enumerator values and the expressions of its initialiser
 pub record Local : Type 0 where
+  pub constants : List Tree
   pub declarator : label.Declarator
   pub expressions : List Tree
 
 abbrev pub local_plain : ℕ → Bool → Local
 local_plain number defines =
-    record { declarator = record { declared = number; defines = defines; initialiser = None }; expressions = [] }
+    record { constants = []; declarator = record { declared = number; defines = defines; initialiser = None }; expressions = [] }
 
 abbrev pub local_initialised : ℕ → Initial → Local
 local_initialised number initial = record {
+  constants = [];
   declarator = record { declared = number; defines = true; initialiser = Some initial.form };
   expressions = initial.expressions;
 }
+
+abbrev pub with_lengths : List Tree → Local → Local
+with_lengths constants local = record local { constants = constants }
 
 -- C9: a typedef has no initialiser, nor has an object with linkage that is declared in a block (6.7.9p5)
 abbrev pub may_be_initialised : Known → Declaration → Bool
 may_be_initialised known entry =
     is_function_sort entry.sort || is_object entry.sort && (is_file_scope known.scopes || not (has_linkage entry.linkage))
 
--- C2: an object is defined once (6.9p3, p5); and C5 of an array that its initialiser completes
+-- C2: an object whose type its initialiser completes agrees with all its declarations (6.2.7p2), and is defined once (6.9p3, p5); and C5
+-- of an array that its initialiser completes
+abbrev pub may_define : Standing → ℕ → CType → Bool
+may_define standing number kind =
+    are_compatible (unwrap_or (whole_kind number standing.linked) kind) kind && not (is_defined number standing.linked)
+
 abbrev pub object_defined : Standing → Declaration → ℕ → ℕ → ℕ → CType → Initial → Progress Local
 object_defined standing entry number here name kind initial =
-    keeps (not (is_defined number standing.linked)) 2 name
+    keeps (may_define standing number kind) 2 name
     (keeps (is_complete standing.known kind) 5 here
     (goes_on (object_here standing entry number kind) (local_initialised number initial)))
 
@@ -137,21 +150,26 @@ abbrev pub item_plain : Setting → Specified → Standing → Declarator → De
 item_plain setting said standing declarator entry =
     declarable said standing false (declarator_span declarator).first (name_at declarator) entry
     (goes_on (declared_here standing entry)
-    (local_plain (number_here standing.known entry) (defines_object said.storage entry.sort)))
+    (local_plain (number_here standing entry) (defines_object said.storage entry.sort)))
 
 abbrev pub item_initialised : Setting → Specified → Standing → Span → Declarator → Initialiser → Declaration → Progress Local
 item_initialised setting said standing span declarator initialiser entry =
     declarable said standing true (declarator_span declarator).first (name_at declarator) entry
-    (initialised setting (declared_here standing entry) entry (number_here standing.known entry) span
-    (declarator_span declarator).first (name_at declarator) (kind_seen standing.known entry) initialiser)
+    (initialised setting (declared_here standing entry) entry (number_here standing entry) span
+    (declarator_span declarator).first (name_at declarator) (kind_seen standing entry) initialiser)
+
+abbrev pub item_with : List Tree → Progress Local → Progress Local
+item_with constants item = further item (λ behind local. goes_on behind (with_lengths constants local))
 
 abbrev pub typed_item : Setting → Specified → Standing → Item → Progress Local
 typed_item setting said standing (tree.plain span declarator) =
-    typing standing (typed_declarator setting standing.known said.kind declarator)
-    (λ behind kind. item_plain setting said behind declarator (entry_of setting behind.known said.storage (name_at declarator) kind))
+    collecting standing (typed_declarator setting standing.known said.kind declarator)
+    (λ behind constants kind. item_with constants
+    (item_plain setting said behind declarator (entry_of setting behind.known said.storage (name_at declarator) kind)))
 typed_item setting said standing (tree.initialised span declarator initialiser) =
-    typing standing (typed_declarator setting standing.known said.kind declarator)
-    (λ behind kind. item_initialised setting said behind span declarator initialiser (entry_of setting behind.known said.storage (name_at declarator) kind))
+    collecting standing (typed_declarator setting standing.known said.kind declarator)
+    (λ behind constants kind. item_with constants
+    (item_initialised setting said behind span declarator initialiser (entry_of setting behind.known said.storage (name_at declarator) kind)))
 
 abbrev pub typed_items : Setting → Specified → Standing → List Item → Progress (List Local)
 typed_items setting said standing [] = goes_on standing []
@@ -169,6 +187,10 @@ pub record Declared : Type 0 where
 abbrev pub declarators_of : List Local → List label.Declarator
 declarators_of [] = []
 declarators_of (first ∷ others) = first.declarator ∷ declarators_of others
+
+abbrev pub constants_of : List Local → List Tree
+constants_of [] = []
+constants_of (first ∷ others) = first.constants ++ constants_of others
 
 abbrev pub expressions_of : List Local → List Tree
 expressions_of [] = []
@@ -191,12 +213,12 @@ abbrev pub may_be_inline : Known → List Local → Bool
 may_be_inline known locals = is_there locals && are_functions known locals
 
 abbrev pub declared_by : List Tree → Specified → Standing → List Local → Progress Declared
-declared_by outer said standing locals =
+declared_by constants said standing locals =
     keeps (not said.inline || may_be_inline standing.known locals) 3 said.first
-    (goes_on (with_constants outer standing) (record { constants = standing.known.constants; locals = locals }))
+    (goes_on standing (record { constants = constants ++ constants_of locals; locals = locals }))
 
 abbrev pub typed_declaration : Setting → Standing → tree.Declaration → Progress Declared
 typed_declaration setting standing (tree.declaring span specifiers items) =
-    typing standing (specified setting of_declaration (is_alone specifiers items) (record standing.known { constants = [] }) specifiers)
-    (λ then_standing said. further (typed_items setting said then_standing items)
-    (λ behind locals. declared_by standing.known.constants said behind locals))
+    collecting standing (specified setting of_declaration (is_alone specifiers items) standing.known specifiers)
+    (λ then_standing constants said. further (typed_items setting said then_standing items)
+    (λ behind locals. declared_by constants said behind locals))

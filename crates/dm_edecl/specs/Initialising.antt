@@ -2,7 +2,7 @@
 --     typed_initialiser setting fixed known type initialiser      what initialises an object of a type, with static storage or without
 --     completed setting type initialiser      the type of an array of unknown length that has this initialiser
 --     expressions_alone setting known initialiser      only the expressions of an initialiser that initialises nothing
-use Rattle.std.specs.Prelude.{ℕ, zero, suc, ◌+◌, ℤ, Bool, true, false, ◌&&◌, ◌||◌, not, nat_le, if◌then◌else◌, List, [], ◌∷◌, ◌++◌, length, Option, Some, None, is_some, option_map, option_and_then, bytes_eq, codes}
+use Rattle.std.specs.Prelude.{ℕ, zero, suc, ◌+◌, ℤ, Bool, true, false, ◌&&◌, ◌||◌, not, nat_le, nat_lt, if◌then◌else◌, List, [], ◌∷◌, ◌++◌, length, Option, Some, None, is_some, option_map, option_and_then, bytes_eq, codes}
 use Rattle.std.specs.List.{list_any}
 use Rattle.dm_token.specs.declared.place.Span.{Span}
 use Rattle.dm_type.specs.CTypes.{CType, array as array_type}
@@ -17,7 +17,7 @@ use Rattle.dm_tree.specs.Trees.{Label, Tree, Trees, node, no_trees, more_trees, 
 use Rattle.dm_tree.specs.Trees as label
 use Rattle.dm_tree.specs.Scenes.{is_scalar, part_type}
 use Rattle.dm_typing.specs.Known.{Known, Setting, Outcome, given, broken, after, obeys, if_given}
-use Rattle.dm_typing.specs.Conversions.{as_value, as_type, constant_of, is_null, element}
+use Rattle.dm_typing.specs.Conversions.{as_value, as_type, constant_of, is_null}
 use Rattle.dm_typing.specs.Rules.{is_assignable}
 use Rattle.dm_typing.specs.Sound.{scene_of}
 use Rattle.dm_typing.specs.Typing.{typed}
@@ -135,22 +135,26 @@ pub record First : Type 0 where
   pub depth : ℕ
   pub kind : CType
 
-abbrev pub dimensions : CType → ℕ
-dimensions (array_type type n) = dimensions type + 1
-dimensions type = 0
-
-abbrev pub within : ℕ → First → First
-within n first = record first { depth = first.depth + n }
+abbrev pub deeper : First → First
+deeper first = record first { depth = suc first.depth }
 
 abbrev pub first_if_scalar : CType → Option First
 first_if_scalar type = if is_scalar type then Some (record { depth = 0; kind = type }) else None
 
+-- in an array it stands in the first element
+abbrev pub first_in_array : (CType → Option First) → CType → Option First
+first_in_array inner (array_type type (Some n)) = if nat_lt 0 n then option_map deeper (first_in_array inner type) else None
+first_in_array inner type = inner type
+
+-- and in a struct in the first member
+abbrev pub first_in_struct : (CType → Option First) → Table → CType → Option First
+first_in_struct inner table type =
+    if is_scalar type then first_if_scalar type else option_map deeper (option_and_then inner (part_type table type 0))
+
 -- structs being within each other so deeply
 unfoldable pub first_within : ℕ → Table → CType → Option First
-first_within zero table type = option_map (within (dimensions type)) (first_if_scalar (element type))
-first_within (suc depth) table type =
-    if is_scalar (element type) then option_map (within (dimensions type)) (first_if_scalar (element type))
-    else option_map (within (dimensions type + 1)) (option_and_then (first_within depth table) (part_type table (element type) 0))
+first_within zero table type = first_in_array first_if_scalar type
+first_within (suc depth) table type = first_in_array (first_in_struct (first_within depth table) table) type
 
 -- structs are not more deeply within each other than there are
 abbrev pub first_scalar : Table → CType → Option First

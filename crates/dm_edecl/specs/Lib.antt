@@ -4,6 +4,8 @@ pub mod Initialising
 pub mod Declaring
 pub mod Statements
 pub mod Units
+pub mod Settled
+pub mod Fit
 pub mod Sound
 pub mod Placing
 pub mod Examples

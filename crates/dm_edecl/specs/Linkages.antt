@@ -1,9 +1,9 @@
 -- What a declarator declares: its sort, its linkage (6.2.2) and its type (6.2.7), and when it may be declared again (6.7p3).
 --     entry_of setting known storage at kind      the entry of a name that is declared here
 --     may_be_declared standing entry      C2: another declaration of the name doesn't speak against it
---     number_here known entry      the number of its entry, and `declared_here standing entry` what is known behind its declarator
+--     number_here standing entry      the number of its entry, and `declared_here standing entry` what is known behind its declarator
 --     with_whole_kinds linked n declared      entries, from a number on, with the types that all declarations together say
-use Rattle.std.specs.Prelude.{ℕ, zero, suc, ◌+◌, Bool, true, false, ◌&&◌, ◌||◌, ◌==◌, if◌then◌else◌, List, [], ◌∷◌, ◌++◌, length, Option, Some, None, unwrap_or, slice_get, bytes_eq}
+use Rattle.std.specs.Prelude.{ℕ, zero, suc, ◌+◌, Bool, true, false, ◌&&◌, ◌||◌, ◌==◌, if◌then◌else◌, List, [], ◌∷◌, ◌++◌, length, Option, Some, None, unwrap_or, is_some, slice_get, bytes_eq}
 use Rattle.dm_type.specs.Alike.{are_compatible, composite}
 use Rattle.dm_type.specs.CTypes.{CType}
 use Rattle.dm_scope.specs.Scopes.{number_of, is_declared, declared as declared_in}
@@ -101,13 +101,36 @@ with_whole_kinds linked n [] = []
 with_whole_kinds linked n (entry ∷ others) =
     record entry { kind = unwrap_or (whole_kind n linked) entry.kind } ∷ with_whole_kinds linked (n + 1) others
 
--- The type of a name from its declaration on: the composite type where one with linkage is visible before (6.2.7p4).
-abbrev pub kind_from_here : Option Declaration → CType → CType
-kind_from_here None kind = kind
-kind_from_here (Some old) kind = if has_linkage old.linkage then composite old.kind kind else kind
+-- the number of the entry with linkage of a name, which its declarations in all scopes share (6.2.2p2)
+abbrev pub is_called : List ℕ → Option Declaration → Bool
+is_called name None = false
+is_called name (Some entry) = bytes_eq entry.name name
 
-abbrev pub kind_seen : Known → Declaration → CType
-kind_seen known entry = if has_linkage entry.linkage then kind_from_here (meaning_of known entry.name) entry.kind else entry.kind
+abbrev pub number_linked : List ℕ → List Declaration → List Linked → Option ℕ
+number_linked name declared [] = None
+number_linked name declared (one ∷ others) =
+    if is_called name (slice_get declared one.number) then Some one.number else number_linked name declared others
+
+abbrev pub number_shared : Standing → List ℕ → Option ℕ
+number_shared standing name = number_linked name standing.known.declared standing.linked
+
+-- The type of a name from its declaration on: the composite type where another one of its entry is visible before (6.2.7p4).
+abbrev pub is_number : Option ℕ → ℕ → Bool
+is_number None number = false
+is_number (Some other) number = other == number
+
+abbrev pub kind_with : CType → Bool → Option Declaration → CType
+kind_with kind true (Some old) = composite old.kind kind
+kind_with kind visible found = kind
+
+abbrev pub kind_from_here : Known → Declaration → Option ℕ → CType
+kind_from_here known entry None = entry.kind
+kind_from_here known entry (Some number) =
+    kind_with entry.kind (is_number (number_of known.scopes entry.name) number) (slice_get known.declared number)
+
+abbrev pub kind_seen : Standing → Declaration → CType
+kind_seen standing entry =
+    if has_linkage entry.linkage then kind_from_here standing.known entry (number_shared standing entry.name) else entry.kind
 
 -- ---- C2: a name is declared once in a scope, unless its declarations mean one thing
 
@@ -140,12 +163,6 @@ agree old kind entry =
     (is_object old.sort && is_object entry.sort || is_function_sort old.sort && is_function_sort entry.sort)
     && is_same_linkage old.linkage entry.linkage && are_compatible kind entry.kind
 
--- the number of the entry with linkage of a name, which its declarations in all scopes share (6.2.2p2)
-abbrev pub number_linked : List ℕ → ℕ → List Declaration → Option ℕ
-number_linked name n [] = None
-number_linked name n (entry ∷ others) =
-    if has_linkage entry.linkage && bytes_eq entry.name name then Some n else number_linked name (n + 1) others
-
 abbrev pub agrees_with : Option CType → Declaration → Option Declaration → Bool
 agrees_with kind entry None = true
 agrees_with kind entry (Some old) = agree old (unwrap_or kind old.kind) entry
@@ -159,16 +176,16 @@ abbrev pub may_be_declared : Standing → Declaration → Bool
 may_be_declared standing entry =
     if has_linkage entry.linkage
     then is_linked_if_there (meaning_here standing.known entry.name)
-    && agrees_if_there standing entry (number_linked entry.name 0 standing.known.declared)
+    && agrees_if_there standing entry (number_shared standing entry.name)
     else is_same_typedef (meaning_here standing.known entry.name) entry
 
 -- ---- the declaration
 
--- the number of the entry that it shares with an earlier declaration
-abbrev pub number_before : Known → Declaration → Option ℕ
-number_before known entry =
-    if has_linkage entry.linkage then number_linked entry.name 0 known.declared
-    else if is_declared known.scopes entry.name then number_of known.scopes entry.name
+-- the number of the entry that it shares with an earlier declaration: of what has linkage, or of the same typedef
+abbrev pub number_before : Standing → Declaration → Option ℕ
+number_before standing entry =
+    if has_linkage entry.linkage then number_shared standing entry.name
+    else if is_some (meaning_here standing.known entry.name) then number_of standing.known.scopes entry.name
     else None
 
 -- entries, of which one has another type from here on
@@ -181,16 +198,15 @@ abbrev pub known_kind : ℕ → CType → Known → Known
 known_kind number kind known = record known { declared = with_kind number kind known.declared }
 
 -- a name means its entry from here on: an earlier one, or a new one
-abbrev pub naming : Known → Declaration → Option ℕ → Known
-naming known entry (Some number) =
-    known_kind number (kind_seen known entry) (record known { scopes = declared_in known.scopes entry.name number })
-naming known entry None = declaring known entry.name entry
+abbrev pub naming : Known → CType → Declaration → Option ℕ → Known
+naming known kind entry (Some number) = known_kind number kind (record known { scopes = declared_in known.scopes entry.name number })
+naming known kind entry None = declaring known entry.name entry
 
-abbrev pub number_here : Known → Declaration → ℕ
-number_here known entry = unwrap_or (number_before known entry) (length known.declared)
+abbrev pub number_here : Standing → Declaration → ℕ
+number_here standing entry = unwrap_or (number_before standing entry) (length standing.known.declared)
 
-abbrev pub named_here : Known → Declaration → Known
-named_here known entry = naming known entry (number_before known entry)
+abbrev pub named_here : Standing → Declaration → Known
+named_here standing entry = naming standing.known (kind_seen standing entry) entry (number_before standing entry)
 
 -- one declaration more of what has linkage
 abbrev pub with_link : ℕ → CType → Bool → List Linked → List Linked
@@ -203,15 +219,15 @@ with_link_if false number kind defines linked = linked
 -- a declarator that is no function definition
 abbrev pub declared_here : Standing → Declaration → Standing
 declared_here standing entry = record standing {
-  known = named_here standing.known entry;
-  linked = with_link_if (has_linkage entry.linkage) (number_here standing.known entry) entry.kind false standing.linked;
+  known = named_here standing entry;
+  linked = with_link_if (has_linkage entry.linkage) (number_here standing entry) entry.kind false standing.linked;
 }
 
 -- that of a function definition; a function has linkage (6.2.2p3, p5)
 abbrev pub function_here : Standing → Declaration → Standing
 function_here standing entry = record standing {
-  known = named_here standing.known entry;
-  linked = with_link (number_here standing.known entry) entry.kind true standing.linked;
+  known = named_here standing entry;
+  linked = with_link (number_here standing entry) entry.kind true standing.linked;
 }
 
 -- what is known behind the initialiser of an object: it is defined, with a type that is complete

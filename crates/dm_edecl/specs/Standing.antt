@@ -2,7 +2,8 @@
 --     Standing      what expressions and type names see, and the declarations so far of what has linkage
 --     Progress A      something typed, with what is known behind it; or the first typing rule that is broken
 --     further progress next      what follows is typed with what is known then
---     typing standing outcome next      an expression or a type name is typed here, and what follows with what is known then
+--     typing standing outcome next      an expression is typed here, and what follows with what is known then
+--     collecting standing outcome next      so are specifiers or a declarator, whose lengths and enumerator values are collected
 --     in_scope standing next      what is typed next is a scope of its own (6.2.1p4)
 use Rattle.std.specs.Prelude.{ℕ, Bool, true, false, List, ◌∷◌, ◌++◌, length, drop}
 use Rattle.std.specs.FinMap as map
@@ -20,7 +21,7 @@ pub record Linked : Type 0 where
 
 -- what is known at a place
 pub record Standing : Type 0 where
-  -- what expressions and type names see. An entry has the type that its name has here
+  -- what expressions and type names see. An entry has the type that its name has here, and no lengths or enumerator values are collected yet
   pub known : Known
   -- the declarations so far of what has linkage, in whatever scope
   pub linked : List Linked
@@ -35,10 +36,20 @@ abbrev pub further : {A B : Type 0} → Progress A → (Standing → A → Progr
 further (goes_on standing it) next = next standing it
 further (stops rule at) next = stops rule at
 
--- an expression or a type name is typed here, and what follows with what is known then
+-- what is known behind a part: its lengths and enumerator values are those of that part alone
+abbrev pub knowing : Standing → Known → Standing
+knowing standing known = record standing { known = record known { constants = standing.known.constants } }
+
+-- an expression is typed here, and what follows with what is known then
 abbrev pub typing : {A B : Type 0} → Standing → Outcome A → (Standing → A → Progress B) → Progress B
-typing standing (given known it) next = next (record standing { known = known }) it
+typing standing (given known it) next = next (knowing standing known) it
 typing standing (broken rule at) next = stops rule at
+
+-- the specifiers of a declaration or one of its declarators are typed here, and what follows with what is known then, and with the trees
+-- of their lengths and enumerator values
+abbrev pub collecting : {A B : Type 0} → Standing → Outcome A → (Standing → List Tree → A → Progress B) → Progress B
+collecting standing (given known it) next = next (knowing standing known) known.constants it
+collecting standing (broken rule at) next = stops rule at
 
 -- a rule holds, or it is broken at this token
 abbrev pub keeps : {A : Type 0} → Bool → ℕ → ℕ → Progress A → Progress A
@@ -63,9 +74,3 @@ closed outside (stops rule at) = stops rule at
 -- what is typed next is a scope of its own
 abbrev pub in_scope : {A : Type 0} → Standing → (Standing → Progress A) → Progress A
 in_scope standing next = closed standing (next (opened map.empty standing))
-
--- ---- the trees of lengths and enumerator values
-
--- a declaration has a list of its own of the trees of its lengths and enumerator values
-abbrev pub with_constants : List Tree → Standing → Standing
-with_constants constants standing = record standing { known = record standing.known { constants = constants } }

@@ -2,7 +2,7 @@
 --     typed_external setting standing external      an external declaration
 --     typed_unit shapes tokens externals      a unit of these tokens, where types have the numbers of these shapes: the typed unit, or the
 --         first typing rule that is broken
-use Rattle.std.specs.Prelude.{ℕ, Bool, true, false, ◌&&◌, ◌||◌, not, List, [], ◌∷◌, Option, Some, None, is_some, bytes_eq, if◌then◌else◌}
+use Rattle.std.specs.Prelude.{ℕ, Bool, true, false, ◌&&◌, ◌||◌, not, List, [], ◌∷◌, ◌++◌, Option, Some, None, is_some, bytes_eq, if◌then◌else◌}
 use Rattle.std.specs.FinMap as map
 use Rattle.dm_token.specs.declared.place.Span.{Span}
 use Rattle.dm_token.specs.declared.token.CToken.{CToken}
@@ -22,9 +22,9 @@ use Rattle.dm_typing.specs.Known.{Known, Setting, Outcome, given, broken, after,
 use Rattle.dm_typing.specs.Conversions.{is_complete}
 use Rattle.dm_typing.specs.Specifiers.{of_definition}
 use Rattle.dm_typing.specs.Typing.{TypedParameter, parameter_of, parameter_at, entered, is_no_parameters, without_void}
-use Rattle.dm_edecl.specs.Standing.{Standing, Progress, goes_on, stops, further, typing, keeps, opened, closed, with_constants}
+use Rattle.dm_edecl.specs.Standing.{Standing, Progress, goes_on, stops, further, collecting, keeps, opened, closed}
 use Rattle.dm_edecl.specs.Linkages.{entry_of, function_here, number_here, is_defined, with_whole_kinds}
-use Rattle.dm_edecl.specs.Declaring.{Specified, specified, typed_declarator, name_at, declarable, declarators_of, expressions_of, typed_declaration}
+use Rattle.dm_edecl.specs.Declaring.{Specified, specified, typed_declarator, name_at, fits_main, declarable, declarators_of, expressions_of, typed_declaration}
 use Rattle.dm_edecl.specs.Statements.{Within, statement, typed_stmt, typed_items_in}
 
 -- ---- the parameters of a function definition (6.9.1)
@@ -100,14 +100,15 @@ typed_body setting within standing scope stmt = typed_stmt setting within standi
 abbrev pub external_of : Span → List Tree → unit.ExternalForm → unit.External
 external_of span constants form = record { span = span; constants = constants; form = form }
 
--- C2: a function is defined once (6.9p3, p5)
-abbrev pub function_defined : Setting → Specified → Standing → Span → Declarator → Stmt → Heading → unit.Declaration → Progress unit.External
-function_defined setting said standing span declarator body heading entry =
-    keeps (not (is_defined (number_here standing.known entry) standing.linked)) 2 (name_at declarator)
+-- C2: a function is defined once (6.9p3, p5); and C36, since a definition stands in file scope
+abbrev pub function_defined : Setting → Specified → Standing → Span → Declarator → Stmt → List Tree → Heading → unit.Declaration → Progress unit.External
+function_defined setting said standing span declarator body constants heading entry =
+    keeps (not (is_defined (number_here standing entry) standing.linked)) 2 (name_at declarator)
     (declarable said standing false (declarator_span declarator).first (name_at declarator) entry
-    (further (typed_body setting (body_within heading.kind) (with_constants [] (function_here standing entry)) heading.scope body)
+    (keeps (fits_main entry) 36 (name_at declarator)
+    (further (typed_body setting (body_within heading.kind) (function_here standing entry) heading.scope body)
     (λ behind made. goes_on behind
-    (external_of span standing.known.constants (defines_function (number_here standing.known entry) (numbers_of heading.parameters) made)))))
+    (external_of span constants (defines_function (number_here standing entry) (numbers_of heading.parameters) made))))))
 
 -- ---- external declarations
 
@@ -116,9 +117,10 @@ typed_external setting standing (tree.external span declaration) =
     further (typed_declaration setting standing declaration)
     (λ behind one. goes_on behind (external_of span one.constants (declares (declarators_of one.locals) (expressions_of one.locals))))
 typed_external setting standing (tree.definition span specifiers declarator body) =
-    typing standing (specified setting of_definition false (record standing.known { constants = [] }) specifiers) (λ then_standing said.
-    typing then_standing (typed_heading setting then_standing.known said.kind declarator) (λ behind heading.
-    function_defined setting said behind span declarator body heading (entry_of setting behind.known said.storage (name_at declarator) heading.kind)))
+    collecting standing (specified setting of_definition false standing.known specifiers) (λ then_standing constants said.
+    collecting then_standing (typed_heading setting then_standing.known said.kind declarator) (λ behind more heading.
+    function_defined setting said behind span declarator body (constants ++ more) heading
+    (entry_of setting behind.known said.storage (name_at declarator) heading.kind)))
 
 abbrev pub typed_externals : Setting → Standing → List External → Progress (List unit.External)
 typed_externals setting standing [] = goes_on standing []

@@ -12,7 +12,7 @@ ghost use Rattle.dm_syn.specs.Spans.{declaration_span, stmt_span, external_span}
 ghost use Rattle.dm_syn.specs.Grammar.{IsExpr};
 ghost use Rattle.dm_syn.specs.Statements.{IsOptional, IsInitialiser, IsDeclaration, IsStmt, IsExternal};
 ghost use Rattle.dm_syn.specs.Trees.{Expr, Initialiser, Declaration, Stmt, External};
-ghost use Rattle.dm_tree.specs.Typing.{IsEntry, defined_functions};
+ghost use Rattle.dm_tree.specs.Typing.{IsEntry, ExternalFits, IsWellTypedUnit, defined_functions};
 ghost use Rattle.dm_tree.specs.Units.{TypedUnit};
 ghost use Rattle.dm_typing.specs.Known.{Known, Setting, given};
 ghost use Rattle.dm_typing.specs.Sound.{IsProper, AreSoundTokens, IsSoundKnown, GivesMore, BreaksWithin};
@@ -21,7 +21,9 @@ ghost use Rattle.dm_edecl.specs.Linkages.{Storage, entry_of};
 ghost use Rattle.dm_edecl.specs.Initialising.{expressions_alone, typed_initialiser};
 ghost use Rattle.dm_edecl.specs.Declaring.{is_misplaced_static, typed_declaration};
 ghost use Rattle.dm_edecl.specs.Statements.{Within, typed_condition, typed_subject, typed_case, typed_return, typed_stmt};
-ghost use Rattle.dm_edecl.specs.Units.{unit_setting, typed_external, typed_unit};
+ghost use Rattle.dm_edecl.specs.Units.{unit_setting, beginning, typed_external, typed_unit};
+ghost use Rattle.dm_edecl.specs.Settled.{IsSoundStanding, Settles};
+ghost use Rattle.dm_edecl.specs.Fit.{IsSoundWithin, DeclarationFits, StmtFits};
 ghost use Rattle.dm_edecl.specs.Sound.{AllSound, IsSoundInitial, IsSoundCondition, IsSoundSubject, IsSoundCase, IsSoundReturn};
 ghost use Rattle.dm_edecl.specs.Placing.{StopsWithin, externals_after, AreExternals};
 ghost use Rattle.dm_edecl.specs.Examples.{twice_tokens, twice};
@@ -79,4 +81,37 @@ pub fn expressions_fit_statements()
     ensures returns { (setting : Setting) → AreSoundTokens setting.source.tokens → (known : Known) (names : List Declared) (result : CType) (span : Span) (at : ℕ) (expr : Option Expr) →
         result ≡ bare result → IsProper result → IsOptional setting.source names at expr → IsSoundKnown known →
         GivesMore known (IsSoundReturn result) (typed_return setting known result span expr) }
+{}
+
+/// What a declaration declares is well typed in every scene that the end of the unit makes of it: its lengths and enumerator
+/// values are constants, what it defines is complete, and its initialisers fit. What is known behind it is sound again.
+pub fn declarations_are_well_typed()
+    ensures { (setting : Setting) → AreSoundTokens setting.source.tokens → (standing : Standing) (names : List Declared) (declaration : Declaration) →
+        IsDeclaration setting.source names declaration → IsSoundStanding standing → Settles DeclarationFits standing (typed_declaration setting standing declaration) }
+{}
+
+/// A statement is well typed in every scene that the end of the unit makes of it: its expressions fit it, the labels of a
+/// switch differ, `break` and `continue` stand where they may, and a `return` gives a value of the function's result.
+pub fn statements_are_well_typed()
+    ensures { (setting : Setting) → AreSoundTokens setting.source.tokens → (within : Within) → IsSoundWithin within → (standing : Standing) (names : List Declared) (stmt : Stmt) →
+        IsStmt setting.source names stmt → IsSoundStanding standing → Settles (StmtFits within) standing (typed_stmt setting within standing stmt) }
+{}
+
+/// An external declaration is well typed in every scene that the end of the unit makes of it: a declaration as it says, and a
+/// function with its parameters, which are objects of its types, and its body (6.9).
+pub fn external_declarations_are_well_typed()
+    ensures { (setting : Setting) → AreSoundTokens setting.source.tokens → (standing : Standing) (names : List Declared) (one : External) →
+        IsExternal setting.source names one → IsSoundStanding standing → Settles ExternalFits standing (typed_external setting standing one) }
+{}
+
+/// A typed unit is well typed: its entries are such as their sorts have, each external declaration fits, and no function is
+/// defined twice.
+pub fn units_are_well_typed()
+    ensures { (shapes : List Shape) (tokens : List CToken) (externals : List External) (known : Known) (unit : TypedUnit) → AreSoundTokens tokens →
+        AreExternals (unit_setting tokens externals).source [] 0 externals → typed_unit shapes tokens externals ≡ given known unit → IsWellTypedUnit known.types unit }
+{}
+
+/// Nothing is known at the beginning of a unit, which is sound.
+pub fn a_unit_begins_soundly()
+    ensures { (shapes : List Shape) → IsSoundStanding (beginning shapes) }
 {}

@@ -1,6 +1,6 @@
 -- Types that say all that others say.
-use Rattle.std.specs.Prelude.{◌≡◌, ℕ, Bool, true, false, ◌&&◌, not, ◌==◌, Option, Some, None, refl}
-use Rattle.std.proofs.Common.{sym, ap, ◌∙◌, subst}
+use Rattle.std.specs.Prelude.{◌≡◌, ℕ, true, ◌&&◌, not, ◌==◌, Option, Some, None, refl}
+use Rattle.std.proofs.Common.{sym, ◌∙◌, subst}
 use Rattle.dm_int.specs.Kinds.{number_of}
 use Rattle.dm_type.specs.Alike.{are_compatible, match_as_parameters, composite, composite_parameters, lengths_agree, known_length}
 use Rattle.dm_type.specs.CTypes.{CType, CTypes, void, integer, pointer, array, struct, function as function_type, const, no_types, more_types, bare, is_const}
