@@ -148,15 +148,35 @@ const BRACES: Repeated = Repeated {
     behind: ";",
 };
 
+// The long ones, each at two sizes, of which `bench/externals.sh` compares the times.
+
 #[test]
-fn reads_a_block_of_200_000_statements(rt: HostRuntime) -> Result<(), Fail> {
+fn reads_100_000_statements(rt: HostRuntime) -> Result<(), Fail> {
+    assert!(rt; is_read(rt.alloc(), &STATEMENTS, 100_000)?);
+    Ok(())
+}
+
+#[test]
+fn reads_200_000_statements(rt: HostRuntime) -> Result<(), Fail> {
     assert!(rt; is_read(rt.alloc(), &STATEMENTS, 200_000)?);
     Ok(())
 }
 
 #[test]
-fn reads_a_switch_of_200_000_labels(rt: HostRuntime) -> Result<(), Fail> {
+fn reads_100_000_labels(rt: HostRuntime) -> Result<(), Fail> {
+    assert!(rt; is_read(rt.alloc(), &LABELS, 100_000)?);
+    Ok(())
+}
+
+#[test]
+fn reads_200_000_labels(rt: HostRuntime) -> Result<(), Fail> {
     assert!(rt; is_read(rt.alloc(), &LABELS, 200_000)?);
+    Ok(())
+}
+
+#[test]
+fn reads_150_000_initialisers(rt: HostRuntime) -> Result<(), Fail> {
+    assert!(rt; is_read(rt.alloc(), &INITIALISERS, 150_000)?);
     Ok(())
 }
 
@@ -167,8 +187,20 @@ fn reads_300_000_initialisers(rt: HostRuntime) -> Result<(), Fail> {
 }
 
 #[test]
+fn reads_50_000_members(rt: HostRuntime) -> Result<(), Fail> {
+    assert!(rt; is_read(rt.alloc(), &MEMBERS, 50_000)?);
+    Ok(())
+}
+
+#[test]
 fn reads_100_000_members(rt: HostRuntime) -> Result<(), Fail> {
     assert!(rt; is_read(rt.alloc(), &MEMBERS, 100_000)?);
+    Ok(())
+}
+
+#[test]
+fn reads_100_000_declarators(rt: HostRuntime) -> Result<(), Fail> {
+    assert!(rt; is_read(rt.alloc(), &DECLARATORS, 100_000)?);
     Ok(())
 }
 
@@ -178,12 +210,61 @@ fn reads_200_000_declarators(rt: HostRuntime) -> Result<(), Fail> {
     Ok(())
 }
 
-/// Whether so many are read, and neither one more nor very many.
+// The high ones, which are read no further than the greatest height.
+
+#[test]
+fn refuses_50_000_blocks(rt: HostRuntime) -> Result<(), Fail> {
+    assert!(rt; !is_read(rt.alloc(), &BLOCKS, 50_000)?);
+    Ok(())
+}
+
+#[test]
+fn refuses_100_000_blocks(rt: HostRuntime) -> Result<(), Fail> {
+    assert!(rt; !is_read(rt.alloc(), &BLOCKS, 100_000)?);
+    Ok(())
+}
+
+#[test]
+fn refuses_50_000_branches(rt: HostRuntime) -> Result<(), Fail> {
+    assert!(rt; !is_read(rt.alloc(), &BRANCHES, 50_000)?);
+    Ok(())
+}
+
+#[test]
+fn refuses_100_000_branches(rt: HostRuntime) -> Result<(), Fail> {
+    assert!(rt; !is_read(rt.alloc(), &BRANCHES, 100_000)?);
+    Ok(())
+}
+
+#[test]
+fn refuses_100_000_conditions(rt: HostRuntime) -> Result<(), Fail> {
+    assert!(rt; !is_read(rt.alloc(), &CONDITIONS, 100_000)?);
+    Ok(())
+}
+
+#[test]
+fn refuses_100_000_loops(rt: HostRuntime) -> Result<(), Fail> {
+    assert!(rt; !is_read(rt.alloc(), &LOOPS, 100_000)?);
+    Ok(())
+}
+
+#[test]
+fn refuses_100_000_stacked_labels(rt: HostRuntime) -> Result<(), Fail> {
+    assert!(rt; !is_read(rt.alloc(), &STACKED_LABELS, 100_000)?);
+    Ok(())
+}
+
+#[test]
+fn refuses_100_000_braces(rt: HostRuntime) -> Result<(), Fail> {
+    assert!(rt; !is_read(rt.alloc(), &BRACES, 100_000)?);
+    Ok(())
+}
+
+/// Whether so many are read, and not one more.
 fn is_bounded(alloc: Global, form: &Repeated, most: u32) -> Result<bool, Fail> {
     let highest = is_read(alloc, form, most)?;
     let higher = is_read(alloc, form, most.saturating_add(1))?;
-    let far_higher = is_read(alloc, form, 100_000)?;
-    Ok(highest && !higher && !far_higher)
+    Ok(highest && !higher)
 }
 
 #[test]
@@ -195,6 +276,11 @@ fn reads_blocks_up_to_the_greatest_height(rt: HostRuntime) -> Result<(), Fail> {
 #[test]
 fn reads_branches_up_to_the_greatest_height(rt: HostRuntime) -> Result<(), Fail> {
     assert!(rt; is_bounded(rt.alloc(), &BRANCHES, 509)?);
+    Ok(())
+}
+
+#[test]
+fn reads_conditions_up_to_the_greatest_height(rt: HostRuntime) -> Result<(), Fail> {
     assert!(rt; is_bounded(rt.alloc(), &CONDITIONS, 509)?);
     Ok(())
 }
@@ -206,7 +292,7 @@ fn reads_loops_up_to_the_greatest_height(rt: HostRuntime) -> Result<(), Fail> {
 }
 
 #[test]
-fn reads_labels_up_to_the_greatest_height(rt: HostRuntime) -> Result<(), Fail> {
+fn reads_stacked_labels_up_to_the_greatest_height(rt: HostRuntime) -> Result<(), Fail> {
     assert!(rt; is_bounded(rt.alloc(), &STACKED_LABELS, 507)?);
     Ok(())
 }
