@@ -77,7 +77,10 @@ pub fn unit_of(alloc: Global, words: &str) -> Result<(u32, Option<Stop>), Fail> 
     let mut typedefs = typedefs_of(alloc)?;
     let mut count: u32 = 0;
     let mut at: u32 = 0;
-    while (at as usize) < tokens.len() && (count as usize) < tokens.len() {
+    for _ in 0..tokens.len() {
+        if at as usize >= tokens.len() {
+            break;
+        }
         match end_at(alloc, tokens.items(), at, &mut typedefs) {
             Ok(after) => at = after,
             Err(stop) => return Ok((count, Some(stop))),
