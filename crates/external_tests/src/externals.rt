@@ -59,9 +59,14 @@ const DECLARATIONS: [&str; 48] = [
     "void f ( void ) { switch ( a ) { case 1 : switch ( b ) { default : ; } { int c ; } } }",
 ];
 
+/// All of them.
+fn declarations() -> [&'static str; 48] {
+    DECLARATIONS
+}
+
 /// The first of them that isn't one external declaration. Empty where each is.
 fn first_unread(alloc: Global) -> Result<&'static str, Fail> {
-    for words in DECLARATIONS {
+    for words in declarations() {
         let tokens = tokens_of(alloc, words)?;
         if !is_external(alloc, &tokens)? {
             return Ok(words);
@@ -89,7 +94,7 @@ fn is_none_when_cut(alloc: Global, words: &str) -> Result<bool, Fail> {
 
 /// The first of them that is read though it is cut. Empty where none is.
 fn first_read_when_cut(alloc: Global) -> Result<&'static str, Fail> {
-    for words in DECLARATIONS {
+    for words in declarations() {
         if !is_none_when_cut(alloc, words)? {
             return Ok(words);
         }
@@ -129,7 +134,7 @@ fn needs_its_semicolons(alloc: Global, words: &str) -> Result<bool, Fail> {
 
 /// The first of them that is read without one of its semicolons. Empty where none is.
 fn first_read_without_semicolon(alloc: Global) -> Result<&'static str, Fail> {
-    for words in DECLARATIONS {
+    for words in declarations() {
         if !needs_its_semicolons(alloc, words)? {
             return Ok(words);
         }
