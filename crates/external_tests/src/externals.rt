@@ -1,6 +1,6 @@
 //! External declarations by the grammar of ISO/IEC 9899:2011, 6.7 to 6.9.
 
-use crate::reading::{end_at, is_external, is_none, refused_at};
+use crate::reading::{end_at, is_external, is_refused, refused_at};
 use crate::words::{token_of, tokens_of, typedefs_of};
 use dm_token::{CToken, List};
 use std::alloc::Global;
@@ -82,10 +82,10 @@ fn reads_declarations(rt: HostRuntime) -> Result<(), Fail> {
 }
 
 /// Whether each cut of the words is refused at the first token.
-fn is_none_when_cut(alloc: Global, words: &str) -> Result<bool, Fail> {
+fn is_refused_when_cut(alloc: Global, words: &str) -> Result<bool, Fail> {
     let tokens = tokens_of(alloc, words)?;
     for kept in 1..tokens.len() {
-        if !is_none(alloc, &tokens, kept)? {
+        if !is_refused(alloc, &tokens, kept)? {
             return Ok(false);
         }
     }
@@ -95,7 +95,7 @@ fn is_none_when_cut(alloc: Global, words: &str) -> Result<bool, Fail> {
 /// The first of them that is read though it is cut. Empty where none is.
 fn first_read_when_cut(alloc: Global) -> Result<&'static str, Fail> {
     for words in declarations() {
-        if !is_none_when_cut(alloc, words)? {
+        if !is_refused_when_cut(alloc, words)? {
             return Ok(words);
         }
     }
@@ -124,7 +124,7 @@ fn needs_its_semicolons(alloc: Global, words: &str) -> Result<bool, Fail> {
     for (place, word) in words.split(' ').enumerate() {
         if word == ";" {
             let tokens = without(alloc, words, place)?;
-            if !is_none(alloc, &tokens, tokens.len())? {
+            if !is_refused(alloc, &tokens, tokens.len())? {
                 return Ok(false);
             }
         }
@@ -201,7 +201,7 @@ const REFUSALS: [&str; 45] = [
 fn first_not_refused(alloc: Global) -> Result<&'static str, Fail> {
     for words in REFUSALS {
         let tokens = tokens_of(alloc, words)?;
-        if !is_none(alloc, &tokens, tokens.len())? {
+        if !is_refused(alloc, &tokens, tokens.len())? {
             return Ok(words);
         }
     }

@@ -63,7 +63,7 @@ pub fn refused_at(column: u32) -> Stop {
 }
 
 /// Whether the first so many tokens are refused at the first one.
-pub fn is_none(alloc: Global, tokens: &List<CToken>, kept: usize) -> Result<bool, Fail> {
+pub fn is_refused(alloc: Global, tokens: &List<CToken>, kept: usize) -> Result<bool, Fail> {
     let mut typedefs = typedefs_of(alloc)?;
     match tokens.items().get(..kept) {
         Some(first) => Ok(end_at(alloc, first, 0, &mut typedefs) == Err(refused_at(0))),
