@@ -149,7 +149,7 @@ fn refuses_what_lacks_a_semicolon(rt: HostRuntime) -> Result<(), Fail> {
 }
 
 // None of these begins with an external declaration.
-const REFUSALS: [&str; 45] = [
+const REFUSALS: [&str; 47] = [
     ";",
     "int a b ;",
     "int a , ;",
@@ -195,6 +195,8 @@ const REFUSALS: [&str; 45] = [
     "int f ( void ) , g ( void ) { }",
     "int a = { [ 0 ] = 1 } ;",
     "void f ( void ) { goto a ; a : ; }",
+    "void f ( void ) { switch ( a ) { case 1 , 2 : ; } }",
+    "void f ( void ) { for ( ; ; ; ) ; }",
 ];
 
 /// The first of them that isn't refused at its first token. Empty where each is.
