@@ -14,7 +14,7 @@ use Rattle.dm_typing.specs.Known.{Known, Outcome, given, broken}
 use Rattle.dm_typing.specs.Later.{IsLater}
 use Rattle.dm_typing.specs.Sound.{IsSoundKnown, KnowsMore, GivesMore, AreConstants, IsSound, scene_of}
 use Rattle.dm_typing.proofs.GrowthLemmas.{typed-later}
-use Rattle.dm_edecl.specs.Standing.{Standing, Progress, goes_on, stops, further, knowing, typing, collecting, keeps, opened, closed, known_behind}
+use Rattle.dm_edecl.specs.Standing.{Standing, Progress, goes_on, stops, further, knowing, collecting, keeps, opened, closed, known_behind}
 use Rattle.dm_edecl.specs.Settled.{is_linked, IsSoundStanding, IsSameEntry, Keeps, is_open, IsFinalEntry, IsFinal, Settles}
 
 -- ---- entries
