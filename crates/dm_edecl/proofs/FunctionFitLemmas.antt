@@ -115,10 +115,10 @@ IsHeading base known heading =
 
 -- the parameters are well formed
 abbrev pub IsFormed : Setting → Option Parameters → Type 0
-IsFormed setting found = (parameters : Parameters) → found ≡ Some parameters → (names : List Seen) × ((at : ℕ) × AreParameters setting.source names at parameters)
+IsFormed setting found = (these : Parameters) → found ≡ Some these → (names : List Seen) × ((at : ℕ) × AreParameters setting.source names at these)
 
 none-formed : (setting : Setting) → IsFormed setting None
-none-formed setting = λ parameters e. absurd (cc)
+none-formed setting = λ these e. absurd (cc)
 
 pointers-formed : (setting : Setting) (consts : List ℕ) (nearest : Option Parameters) → IsFormed setting nearest → IsFormed setting (own_in_pointers consts nearest)
 pointers-formed setting [] nearest h = h
@@ -140,9 +140,9 @@ module _ (setting : Setting) where
     direct-formed names of_parameter at nearest (tree.enclosed declarator) h near = own-formed _ of_parameter nearest declarator h.3 near
     direct-formed names of_parameter at nearest (tree.array direct) h near = direct-formed _ of_parameter at None direct h.0 (none-formed setting)
     direct-formed names of_parameter at nearest (tree.sized direct length) h near = direct-formed _ of_parameter at None direct h.0 (none-formed setting)
-    direct-formed names of_parameter at nearest (tree.function direct parameters) h near =
-        direct-formed _ of_parameter at (Some parameters) direct h.0
-        (λ own e. let same : parameters ≡ own = injected parameters own e in
+    direct-formed names of_parameter at nearest (tree.function direct these) h near =
+        direct-formed _ of_parameter at (Some these) direct h.0
+        (λ own e. let same : these ≡ own = injected these own e in
         subst (λ it. (names : List Seen) × ((at : ℕ) × AreParameters setting.source names at it)) same (_, (_, h.2)))
 
 same-given : {A : Type 0} (one other : Known) (a b : A) → given one a ≡ given other b → (one ≡ other) × (a ≡ b)
@@ -165,15 +165,15 @@ heading-last known behind inside base typed scope (given last kind) h f more sou
     (h.0, h.1, h.2, (h.3, f.1, subst (λ it. AllDefined base it (without_void typed)) (sym f.0) (all-later base base inside behind (without_void typed) more sound (omega arith) all)))
 heading-last known behind inside base typed scope (broken rule at) h f more sound all = tt
 
-heading-then : (setting : Setting) (known inside : Known) (base : CType) (parameters : Parameters) (typed : List TypedParameter) (scope : Numbers) (steps : Outcome (List Step)) (many : ℕ)
-    → OwnIn setting None known parameters steps → GivesMore known IsType (after steps (λ behind made. derived behind base made))
-    → parameters_of setting true (entered known) parameters ≡ given inside typed → IsSoundKnown inside → AllDefined many inside (without_void typed)
+heading-then : (setting : Setting) (known inside : Known) (base : CType) (these : Parameters) (typed : List TypedParameter) (scope : Numbers) (steps : Outcome (List Step)) (many : ℕ)
+    → OwnIn setting None known these steps → GivesMore known IsType (after steps (λ behind made. derived behind base made))
+    → parameters_of setting true (entered known) these ≡ given inside typed → IsSoundKnown inside → AllDefined many inside (without_void typed)
     → GivesMore known (IsHeading many) (with_it (after steps (λ behind made. derived behind base made)) (λ last kind. record { kind = kind; parameters = without_void typed; scope = scope }))
 unfolding OwnIn
-heading-then setting known inside base parameters typed scope (given behind steps) many own h e sound all =
+heading-then setting known inside base these typed scope (given behind steps) many own h e sound all =
     ⊎_elim (λ here. let no = here.0 in absurd (cc)) (λ found. by-found found) own
   where
-    by-found : Found setting known parameters behind steps
+    by-found : Found setting known these behind steps
         → GivesMore known (IsHeading many) (with_it (derived behind base steps) (λ last kind. record { kind = kind; parameters = without_void typed; scope = scope }))
     by-found found =
         let same = same-given found.inner inside found.typed typed (sym found.same ∙ e) in
@@ -181,20 +181,20 @@ heading-then setting known inside base parameters typed scope (given behind step
         let steps-call = subst (λ it. FunctionIn behind (without_void found.typed) (derived behind base it)) (sym found.steps_are) call in
         heading-last known behind inside many typed scope (derived behind base steps) h
         (subst (λ it. FunctionIn behind (without_void it) (derived behind base steps)) same.1 steps-call) (subst (λ it. KnowsMore it behind) same.0 found.more) sound all
-heading-then setting known inside base parameters typed scope (broken rule at) many own h e sound all = tt
+heading-then setting known inside base these typed scope (broken rule at) many own h e sound all = tt
 
 module _ (setting : Setting) (tokens : AreSoundTokens setting.source.tokens) where
-  heading-by : (known : Known) (base : CType) (declarator : Declarator) (parameters : Parameters) (own : Outcome (List TypedParameter))
-      → GivesMore (entered known) (IsOwnList (length known.declared)) own → SameAs own (parameters_of setting true (entered known) parameters)
-      → OwnIn setting None known parameters (steps_of setting true known declarator) → GivesMore known IsType (typed_declarator setting known base declarator)
+  heading-by : (known : Known) (base : CType) (declarator : Declarator) (these : Parameters) (own : Outcome (List TypedParameter))
+      → GivesMore (entered known) (IsOwnList (length known.declared)) own → SameAs own (parameters_of setting true (entered known) these)
+      → OwnIn setting None known these (steps_of setting true known declarator) → GivesMore known IsType (typed_declarator setting known base declarator)
       → GivesMore known (IsHeading (length known.declared))
       (after own (λ inside typed. with_it (typed_declarator setting known base declarator)
       (λ behind kind. record { kind = kind; parameters = without_void typed; scope = innermost inside.scopes })))
   unfolding SameAs
-  heading-by known base declarator parameters (given inside typed) h e found type =
-      heading-then setting known inside base parameters typed (innermost inside.scopes) (steps_of setting true known declarator) (length known.declared) found type e h.1
+  heading-by known base declarator these (given inside typed) h e found type =
+      heading-then setting known inside base these typed (innermost inside.scopes) (steps_of setting true known declarator) (length known.declared) found type e h.1
       (without-void-defined (length known.declared) inside typed h.3)
-  heading-by known base declarator parameters (broken rule at) h e found type = tt
+  heading-by known base declarator these (broken rule at) h e found type = tt
 
   heading-more : (known : Known) (names : List Seen) (base : CType) (declarator : Declarator) → IsDeclarator setting.source names false declarator → IsSome (own_parameters None declarator)
       → IsSoundKnown known → IsType known base → GivesMore known (IsHeading (length known.declared)) (typed_heading setting known base declarator)
@@ -204,11 +204,11 @@ module _ (setting : Setting) (tokens : AreSoundTokens setting.source.tokens) whe
           → GivesMore known (IsHeading (length known.declared))
           (after (own_defined setting known found) (λ inside typed. with_it (typed_declarator setting known base declarator)
           (λ behind kind. record { kind = kind; parameters = without_void typed; scope = innermost inside.scopes })))
-      by-own (Some parameters) e is-some =
-          let formed = own-formed setting names false None declarator is (none-formed setting) parameters e in
-          heading-by known base declarator parameters (defined_parameters setting true (entered known) parameters)
-          (own-defined setting tokens (entered known) formed.0 formed.1.0 parameters formed.1.1 (entered-sound known sound)) (list-same setting true (entered known) parameters)
-          (own-declarator setting tokens known names None parameters false declarator is sound e) (declarator-typed setting tokens known names base declarator is sound base-is)
+      by-own (Some these) e is-some =
+          let formed = own-formed setting names false None declarator is (none-formed setting) these e in
+          heading-by known base declarator these (defined_parameters setting true (entered known) these)
+          (own-defined setting tokens (entered known) formed.0 formed.1.0 these formed.1.1 (entered-sound known sound)) (list-same setting true (entered known) these)
+          (own-declarator setting tokens known names None these false declarator is sound e) (declarator-typed setting tokens known names base declarator is sound base-is)
       by-own None e is-some = absurd (cc)
 
 -- ---- parameters at the end
@@ -237,9 +237,9 @@ no-parameters : (type : CType) (types : CTypes) → cover_parameters (more_types
 no-parameters (const type) types h = absurd (cc)
 no-parameters type types h = absurd (cc)
 
-pub parameters-final : (t : Standing) (final : Scene) (base : ℕ) (parameters : List TypedParameter) (types : CTypes) → IsSoundStanding t → IsFinal t final
-    → ((n : ℕ) → base ≤ n → is_linked n t.linked ≡ false) → AllDefined base t.known parameters → cover_parameters types (all_of (kinds_of parameters)) ≡ true
-    → ParametersFit final (numbers_of parameters) types
+pub parameters-final : (t : Standing) (final : Scene) (base : ℕ) (these : List TypedParameter) (types : CTypes) → IsSoundStanding t → IsFinal t final
+    → ((n : ℕ) → base ≤ n → is_linked n t.linked ≡ false) → AllDefined base t.known these → cover_parameters types (all_of (kinds_of these)) ≡ true
+    → ParametersFit final (numbers_of these) types
 unfolding AllDefined
 parameters-final t final base [] no_types sound last apart all c = tt
 parameters-final t final base [] (more_types type types) sound last apart all c = absurd (no-parameters type types c)

@@ -14,7 +14,7 @@ use Rattle.dm_typing.specs.Known.{Known, Outcome, given, broken}
 use Rattle.dm_typing.specs.Later.{IsLater}
 use Rattle.dm_typing.specs.Sound.{IsSoundKnown, KnowsMore, GivesMore, AreConstants, IsSound, scene_of}
 use Rattle.dm_typing.proofs.GrowthLemmas.{typed-later}
-use Rattle.dm_edecl.specs.Standing.{Standing, Progress, goes_on, stops, further, knowing, typing, collecting, keeps, opened, closed, known_behind}
+use Rattle.dm_edecl.specs.Standing.{Standing, Progress, goes_on, stops, further, knowing, collecting, keeps, opened, closed, known_behind}
 use Rattle.dm_edecl.specs.Settled.{is_linked, IsSoundStanding, IsSameEntry, Keeps, is_open, IsFinalEntry, IsFinal, Settles}
 
 -- ---- entries
@@ -169,23 +169,10 @@ pub settles-further : {A B : Type 0} (P : Scene → A → Type 0) (Q : Scene →
 settles-further P Q s (goes_on t it) next h step = settles-from Q s t (next t it) h.1 (step t it h.0 h.1 h.2)
 settles-further P Q s (stops rule at) next h step = tt
 
-pub settles-made : {A B : Type 0} (P : Scene → A → Type 0) (Q : Scene → B → Type 0) (s : Standing) (progress : Progress A) (make : A → B) → Settles P s progress
-    → ((final : Scene) (it : A) → P final it → Q final (make it)) → Settles Q s (further progress (λ t it. goes_on t (make it)))
-settles-made P Q s (goes_on t it) make h step = (h.0, h.1, λ final last. step final it (h.2 final last))
-settles-made P Q s (stops rule at) make h step = tt
-
 pub settles-keeps : {A : Type 0} (P : Scene → A → Type 0) (s : Standing) (test : Bool) (rule at : ℕ) (next : Progress A) → (test ≡ true → Settles P s next)
     → Settles P s (keeps test rule at next)
 settles-keeps P s true rule at next h = h refl
 settles-keeps P s false rule at next h = tt
-
-pub settles-typing : {A B : Type 0} (P : Known → A → Type 0) (Q : Scene → B → Type 0) (s : Standing) (outcome : Outcome A) (next : Standing → A → Progress B) → IsSoundStanding s
-    → GivesMore s.known P outcome
-    → ((known : Known) (it : A) → KnowsMore s.known known → P known it → IsSoundStanding (knowing s known) → Settles Q (knowing s known) (next (knowing s known) it))
-    → Settles Q s (typing s outcome next)
-settles-typing P Q s (given known it) next sound h step =
-    settles-from Q s (knowing s known) (next (knowing s known) it) (knowing-keeps s known sound h.0) (step known it h.0 h.3 (knowing-sound s known sound h.0 h.1))
-settles-typing P Q s (broken rule at) next sound h step = tt
 
 pub settles-collecting : {A B : Type 0} (P : Known → A → Type 0) (Q : Scene → B → Type 0) (s : Standing) (outcome : Outcome A) (next : Standing → List Tree → A → Progress B)
     → IsSoundStanding s → GivesMore s.known P outcome

@@ -180,16 +180,16 @@ module _ (setting : Setting) (tokens : AreSoundTokens setting.source.tokens) whe
       later-all base less known (one ∷ others) below all =
           (((all.0.0.0, λ number e. entry-later base less known known one number (knows-itself known) below (all.0.0.1 number e)), all.0.1, all.0.2), later-all base less known others below all.1)
 
-  all-defined : (known : Known) (names : List Seen) (at : ℕ) (parameters : Parameters) → AreMoreParameters setting.source names at parameters → IsSoundKnown known
-      → GivesMore known (AllDefined (length known.declared)) (defined_parameters setting false known parameters)
+  all-defined : (known : Known) (names : List Seen) (at : ℕ) (these : Parameters) → AreMoreParameters setting.source names at these → IsSoundKnown known
+      → GivesMore known (AllDefined (length known.declared)) (defined_parameters setting false known these)
   unfolding AllDefined AreMoreParameters
   all-defined known names at tree.no_parameters h sound = stays-so known (AllDefined (length known.declared)) [] sound tt
   all-defined known names at (tree.more_parameters first others) h sound =
       then-all known (defined_parameter setting false known first) (λ then_known. defined_parameters setting false then_known others) (one-defined false known _ first h.2 sound)
       (λ then_known still. all-defined then_known _ _ others h.3 still)
 
-  pub own-defined : (known : Known) (names : List Seen) (at : ℕ) (parameters : Parameters) → AreParameters setting.source names at parameters → IsSoundKnown known
-      → GivesMore known (IsOwnList (length known.declared)) (defined_parameters setting true known parameters)
+  pub own-defined : (known : Known) (names : List Seen) (at : ℕ) (these : Parameters) → AreParameters setting.source names at these → IsSoundKnown known
+      → GivesMore known (IsOwnList (length known.declared)) (defined_parameters setting true known these)
   unfolding AllDefined AreParameters
   own-defined known names at tree.no_parameters h sound = stays-so known (IsOwnList (length known.declared)) [] sound (inr tt)
   own-defined known names at (tree.more_parameters first tree.no_parameters) h sound =
@@ -247,7 +247,7 @@ module _ (setting : Setting) where
       by-test behind one false =
           obeys-same (is_complete behind one.kind) 5 (parameter_at span declarator) behind one _ (obeys-same (is_some one.declared) 35 span.first behind one (given behind one) (itself-same behind one))
 
-  pub list-same : (alone : Bool) (known : Known) (parameters : Parameters) → SameAs (defined_parameters setting alone known parameters) (parameters_of setting true known parameters)
+  pub list-same : (alone : Bool) (known : Known) (these : Parameters) → SameAs (defined_parameters setting alone known these) (parameters_of setting true known these)
   unfolding parameters_of
   list-same alone known tree.no_parameters = itself-same known []
   list-same alone known (tree.more_parameters first others) =
@@ -257,27 +257,27 @@ module _ (setting : Setting) where
       (λ then_known made. with-same (defined_parameters setting false then_known others) (parameters_of setting true then_known others) (λ behind more. made ∷ more) (list-same false then_known others))
 
 -- the last step of a declarator calls a function with these parameters, which were typed first
-pub record Found (setting : Setting) (known : Known) (parameters : Parameters) (behind : Known) (steps : List Step) : Type 0 where
+pub record Found (setting : Setting) (known : Known) (these : Parameters) (behind : Known) (steps : List Step) : Type 0 where
   pub inner : Known
   pub typed : List TypedParameter
-  pub same : parameters_of setting true (entered known) parameters ≡ given inner typed
+  pub same : parameters_of setting true (entered known) these ≡ given inner typed
   pub more : KnowsMore inner behind
   pub front : List Step
   pub at : ℕ
   pub steps_are : steps ≡ front ++ calling at (without_void typed) ∷ []
 
 abbrev pub Own : Setting → Option Parameters → Known → Parameters → Known → List Step → Type 0
-Own setting nearest known parameters behind steps =
-    ((nearest ≡ Some parameters) × (steps ≡ []) × (behind ≡ known)) ⊎ Found setting known parameters behind steps
+Own setting nearest known these behind steps =
+    ((nearest ≡ Some these) × (steps ≡ []) × (behind ≡ known)) ⊎ Found setting known these behind steps
 
 unfoldable pub OwnIn : Setting → Option Parameters → Known → Parameters → Outcome (List Step) → Type 0
-OwnIn setting nearest known parameters (given behind steps) = Own setting nearest known parameters behind steps
-OwnIn setting nearest known parameters (broken rule at) = Unit {0}
+OwnIn setting nearest known these (given behind steps) = Own setting nearest known these behind steps
+OwnIn setting nearest known these (broken rule at) = Unit {0}
 
 -- more steps stand before
-found-before : (setting : Setting) (known : Known) (parameters : Parameters) (behind last : Known) (steps before : List Step) → KnowsMore behind last → Found setting known parameters behind steps
-    → Found setting known parameters last (before ++ steps)
-found-before setting known parameters behind last steps before further found = record {
+found-before : (setting : Setting) (known : Known) (these : Parameters) (behind last : Known) (steps before : List Step) → KnowsMore behind last → Found setting known these behind steps
+    → Found setting known these last (before ++ steps)
+found-before setting known these behind last steps before further found = record {
   inner = found.inner;
   typed = found.typed;
   same = found.same;
@@ -287,66 +287,66 @@ found-before setting known parameters behind last steps before further found = r
   steps_are = ap (λ rest. before ++ rest) found.steps_are ∙ sym (append_assoc before found.front (calling found.at (without_void found.typed) ∷ []));
 }
 
-none-own : (setting : Setting) (known : Known) (parameters : Parameters) (behind last : Known) (steps before : List Step) → KnowsMore behind last → Own setting None known parameters behind steps
-    → Found setting known parameters last (before ++ steps)
-none-own setting known parameters behind last steps before further own =
-    ⊎_elim (λ here. let e = here.0 in absurd (cc)) (λ found. found-before setting known parameters behind last steps before further found) own
+none-own : (setting : Setting) (known : Known) (these : Parameters) (behind last : Known) (steps before : List Step) → KnowsMore behind last → Own setting None known these behind steps
+    → Found setting known these last (before ++ steps)
+none-own setting known these behind last steps before further own =
+    ⊎_elim (λ here. let e = here.0 in absurd (cc)) (λ found. found-before setting known these behind last steps before further found) own
 
-with-pointers : (setting : Setting) (nearest : Option Parameters) (known : Known) (parameters : Parameters) (at : ℕ) (consts : List ℕ) (outcome : Outcome (List Step))
-    → OwnIn setting (own_in_pointers consts nearest) known parameters outcome → OwnIn setting nearest known parameters (with_it outcome (λ behind steps. pointers at consts ++ steps))
+with-pointers : (setting : Setting) (nearest : Option Parameters) (known : Known) (these : Parameters) (at : ℕ) (consts : List ℕ) (outcome : Outcome (List Step))
+    → OwnIn setting (own_in_pointers consts nearest) known these outcome → OwnIn setting nearest known these (with_it outcome (λ behind steps. pointers at consts ++ steps))
 unfolding OwnIn
-with-pointers setting nearest known parameters at [] (given behind steps) own =
-    ⊎_elim (λ here. inl here) (λ found. inr (found-before setting known parameters behind behind steps [] (knows-itself behind) found)) own
-with-pointers setting nearest known parameters at (one ∷ others) (given behind steps) own =
-    inr (none-own setting known parameters behind behind steps (pointers at (one ∷ others)) (knows-itself behind) own)
-with-pointers setting nearest known parameters at consts (broken rule place) own = tt
+with-pointers setting nearest known these at [] (given behind steps) own =
+    ⊎_elim (λ here. inl here) (λ found. inr (found-before setting known these behind behind steps [] (knows-itself behind) found)) own
+with-pointers setting nearest known these at (one ∷ others) (given behind steps) own =
+    inr (none-own setting known these behind behind steps (pointers at (one ∷ others)) (knows-itself behind) own)
+with-pointers setting nearest known these at consts (broken rule place) own = tt
 
 -- what stands behind the steps so far, and takes one step before them
 abbrev pub OneBefore : List Step → Known → List Step → Type 0
 OneBefore steps known all = (step : Step) × (all ≡ step ∷ steps)
 
-later-own : (setting : Setting) (nearest : Option Parameters) (known : Known) (parameters : Parameters) (behind : Known) (steps : List Step) (outcome : Outcome (List Step))
-    → Found setting known parameters behind steps → GivesMore behind (OneBefore steps) outcome → OwnIn setting nearest known parameters outcome
+later-own : (setting : Setting) (nearest : Option Parameters) (known : Known) (these : Parameters) (behind : Known) (steps : List Step) (outcome : Outcome (List Step))
+    → Found setting known these behind steps → GivesMore behind (OneBefore steps) outcome → OwnIn setting nearest known these outcome
 unfolding OwnIn
-later-own setting nearest known parameters behind steps (given last all) found g =
-    inr (subst (Found setting known parameters last) (sym g.3.1) (found-before setting known parameters behind last steps (g.3.0 ∷ []) g.0 found))
-later-own setting nearest known parameters behind steps (broken rule at) found g = tt
+later-own setting nearest known these behind steps (given last all) found g =
+    inr (subst (Found setting known these last) (sym g.3.1) (found-before setting known these behind last steps (g.3.0 ∷ []) g.0 found))
+later-own setting nearest known these behind steps (broken rule at) found g = tt
 
-then-none : (setting : Setting) (nearest : Option Parameters) (known : Known) (parameters : Parameters) (first : Outcome (List Step)) (next : Known → List Step → Outcome (List Step))
-    → GivesMore known AreSteps first → OwnIn setting None known parameters first
+then-none : (setting : Setting) (nearest : Option Parameters) (known : Known) (these : Parameters) (first : Outcome (List Step)) (next : Known → List Step → Outcome (List Step))
+    → GivesMore known AreSteps first → OwnIn setting None known these first
     → ((behind : Known) (steps : List Step) → IsSoundKnown behind → GivesMore behind (OneBefore steps) (next behind steps))
-    → OwnIn setting nearest known parameters (after first next)
+    → OwnIn setting nearest known these (after first next)
 unfolding OwnIn
-then-none setting nearest known parameters (given behind steps) next h own step =
-    later-own setting nearest known parameters behind steps (next behind steps) (none-own setting known parameters behind behind steps [] (knows-itself behind) own) (step behind steps h.1)
-then-none setting nearest known parameters (broken rule at) next h own step = tt
+then-none setting nearest known these (given behind steps) next h own step =
+    later-own setting nearest known these behind steps (next behind steps) (none-own setting known these behind behind steps [] (knows-itself behind) own) (step behind steps h.1)
+then-none setting nearest known these (broken rule at) next h own step = tt
 
-then-with : (setting : Setting) (nearest : Option Parameters) (known : Known) (parameters : Parameters) (first : Outcome (List Step)) (step : Step) → OwnIn setting None known parameters first
-    → OwnIn setting nearest known parameters (with_it first (λ behind steps. step ∷ steps))
+then-with : (setting : Setting) (nearest : Option Parameters) (known : Known) (these : Parameters) (first : Outcome (List Step)) (step : Step) → OwnIn setting None known these first
+    → OwnIn setting nearest known these (with_it first (λ behind steps. step ∷ steps))
 unfolding OwnIn
-then-with setting nearest known parameters (given behind steps) step own = inr (none-own setting known parameters behind behind steps (step ∷ []) (knows-itself behind) own)
-then-with setting nearest known parameters (broken rule at) step own = tt
+then-with setting nearest known these (given behind steps) step own = inr (none-own setting known these behind behind steps (step ∷ []) (knows-itself behind) own)
+then-with setting nearest known these (broken rule at) step own = tt
 
 -- a list of parameters that stands nearest to the name, or behind other ones
-calling-own : (setting : Setting) (nearest : Option Parameters) (known : Known) (parameters mine : Parameters) (here : ℕ) (first : Outcome (List Step)) → GivesMore known AreSteps first
-    → OwnIn setting (Some mine) known parameters first
+calling-own : (setting : Setting) (nearest : Option Parameters) (known : Known) (these mine : Parameters) (here : ℕ) (first : Outcome (List Step)) → GivesMore known AreSteps first
+    → OwnIn setting (Some mine) known these first
     → ((behind : Known) (steps : List Step) → IsSoundKnown behind
     → GivesMore behind (OneBefore steps) (with_it (left behind.scopes (parameters_of setting true (entered behind) mine)) (λ last typed. calling here (without_void typed) ∷ steps)))
-    → OwnIn setting nearest known parameters
+    → OwnIn setting nearest known these
     (after first (λ behind steps. with_it (left behind.scopes (parameters_of setting true (entered behind) mine)) (λ last typed. calling here (without_void typed) ∷ steps)))
 unfolding OwnIn
-calling-own setting nearest known parameters mine here (given behind steps) h own step =
+calling-own setting nearest known these mine here (given behind steps) h own step =
     ⊎_elim (λ own_here. nearest-own own_here (parameters_of setting true (entered behind) mine) refl)
-    (λ found. later-own setting nearest known parameters behind steps _ found (step behind steps h.1)) own
+    (λ found. later-own setting nearest known these behind steps _ found (step behind steps h.1)) own
   where
-    nearest-own : (Some mine ≡ Some parameters) × (steps ≡ []) × (behind ≡ known) → (outcome : Outcome (List TypedParameter)) → parameters_of setting true (entered behind) mine ≡ outcome
-        → OwnIn setting nearest known parameters (with_it (left behind.scopes outcome) (λ last typed. calling here (without_void typed) ∷ steps))
+    nearest-own : (Some mine ≡ Some these) × (steps ≡ []) × (behind ≡ known) → (outcome : Outcome (List TypedParameter)) → parameters_of setting true (entered behind) mine ≡ outcome
+        → OwnIn setting nearest known these (with_it (left behind.scopes outcome) (λ last typed. calling here (without_void typed) ∷ steps))
     nearest-own is (given inner typed) e =
-        let same : mine ≡ parameters = injected mine parameters is.0 in
+        let same : mine ≡ these = injected mine these is.0 in
         inr (record {
           inner = inner;
           typed = typed;
-          same = subst (λ (it : Known). parameters_of setting true (entered it) parameters ≡ given inner typed) is.2
+          same = subst (λ (it : Known). parameters_of setting true (entered it) these ≡ given inner typed) is.2
               (subst (λ it. parameters_of setting true (entered behind) it ≡ given inner typed) same e);
           more = record { shapes = omega arith; types = λ id inside. refl; contents = λ at content h. h; structs = omega arith; declared = λ at entry h. h };
           front = [];
@@ -354,7 +354,7 @@ calling-own setting nearest known parameters mine here (given behind steps) h ow
           steps_are = ap (λ rest. calling here (without_void typed) ∷ rest) is.1;
         })
     nearest-own is (broken rule at) e = tt
-calling-own setting nearest known parameters mine here (broken rule at) h own step = tt
+calling-own setting nearest known these mine here (broken rule at) h own step = tt
 
 module _ (setting : Setting) (tokens : AreSoundTokens setting.source.tokens) where
   sized-before : (known : Known) (names : List Seen) (here : ℕ) (value : Expr) (steps : List Step) → IsExpr setting.source names value → IsSoundKnown known
@@ -365,39 +365,39 @@ module _ (setting : Setting) (tokens : AreSoundTokens setting.source.tokens) whe
       (λ behind made more still fine. with-more behind Any (OneBefore steps) (length_of behind (expr_span value).first (as_value made)) (λ last n. arraying here (Some n) ∷ steps)
       (length-more behind (expr_span value).first (as_value made) still (as-value-sound behind made fine)) (λ last n further good any. (arraying here (Some n), refl)))
 
-  calling-before : (known : Known) (names : List Seen) (at here : ℕ) (parameters : Parameters) (steps : List Step) → AreParameters setting.source names at parameters → IsSoundKnown known
-      → GivesMore known (OneBefore steps) (with_it (left known.scopes (parameters_of setting true (entered known) parameters)) (λ last typed. calling here (without_void typed) ∷ steps))
-  calling-before known names at here parameters steps is sound =
-      with-more known Any (OneBefore steps) (left known.scopes (parameters_of setting true (entered known) parameters)) (λ last typed. calling here (without_void typed) ∷ steps)
-      (left-more known Any known.scopes (parameters_of setting true (entered known) parameters) (λ behind typed any. tt)
-      (weaker-more (entered known) AreParameterTypes Any (parameters_of setting true (entered known) parameters) (λ behind typed fits. tt)
-      (parameters-more setting tokens true (entered known) names at parameters is (entered-sound known sound))))
+  calling-before : (known : Known) (names : List Seen) (at here : ℕ) (these : Parameters) (steps : List Step) → AreParameters setting.source names at these → IsSoundKnown known
+      → GivesMore known (OneBefore steps) (with_it (left known.scopes (parameters_of setting true (entered known) these)) (λ last typed. calling here (without_void typed) ∷ steps))
+  calling-before known names at here these steps is sound =
+      with-more known Any (OneBefore steps) (left known.scopes (parameters_of setting true (entered known) these)) (λ last typed. calling here (without_void typed) ∷ steps)
+      (left-more known Any known.scopes (parameters_of setting true (entered known) these) (λ behind typed any. tt)
+      (weaker-more (entered known) AreParameterTypes Any (parameters_of setting true (entered known) these) (λ behind typed fits. tt)
+      (parameters-more setting tokens true (entered known) names at these is (entered-sound known sound))))
       (λ last typed further good any. (calling here (without_void typed), refl))
 
   mutual
     unfolding steps_of direct_steps IsDeclarator IsDirect OwnIn
 
-    pub own-declarator : (known : Known) (names : List Seen) (nearest : Option Parameters) (parameters : Parameters) (of_parameter : Bool) (declarator : Declarator)
-        → IsDeclarator setting.source names of_parameter declarator → IsSoundKnown known → own_parameters nearest declarator ≡ Some parameters
-        → OwnIn setting nearest known parameters (steps_of setting true known declarator)
-    own-declarator known names nearest parameters of_parameter (tree.shaped span consts direct) h sound e =
-        with-pointers setting nearest known parameters span.first consts (direct_steps setting true known (direct_at span.first consts) direct)
-        (own-direct known _ (own_in_pointers consts nearest) parameters of_parameter _ (direct_at span.first consts) direct h.1 sound e)
+    pub own-declarator : (known : Known) (names : List Seen) (nearest : Option Parameters) (these : Parameters) (of_parameter : Bool) (declarator : Declarator)
+        → IsDeclarator setting.source names of_parameter declarator → IsSoundKnown known → own_parameters nearest declarator ≡ Some these
+        → OwnIn setting nearest known these (steps_of setting true known declarator)
+    own-declarator known names nearest these of_parameter (tree.shaped span consts direct) h sound e =
+        with-pointers setting nearest known these span.first consts (direct_steps setting true known (direct_at span.first consts) direct)
+        (own-direct known _ (own_in_pointers consts nearest) these of_parameter _ (direct_at span.first consts) direct h.1 sound e)
 
-    own-direct : (known : Known) (names : List Seen) (nearest : Option Parameters) (parameters : Parameters) (of_parameter : Bool) (at here : ℕ) (direct : Direct)
-        → IsDirect setting.source names of_parameter at direct → IsSoundKnown known → own_in_direct nearest direct ≡ Some parameters
-        → OwnIn setting nearest known parameters (direct_steps setting true known here direct)
-    own-direct known names nearest parameters of_parameter at here tree.absent h sound e = inl (e, refl, refl)
-    own-direct known names nearest parameters of_parameter at here (tree.declared name) h sound e = inl (e, refl, refl)
-    own-direct known names nearest parameters of_parameter at here (tree.enclosed declarator) h sound e = own-declarator known _ nearest parameters of_parameter declarator h.3 sound e
-    own-direct known names nearest parameters of_parameter at here (tree.array direct) h sound e =
-        then-with setting nearest known parameters (direct_steps setting true known here direct) (arraying here None) (own-direct known _ None parameters of_parameter _ here direct h.0 sound e)
-    own-direct known names nearest parameters of_parameter at here (tree.sized direct value) h sound e =
-        then-none setting nearest known parameters (direct_steps setting true known here direct) _ (direct-more setting tokens true known _ of_parameter _ here direct h.0 sound)
-        (own-direct known _ None parameters of_parameter _ here direct h.0 sound e) (λ behind steps still. sized-before behind _ here value steps h.3 still)
-    own-direct known names nearest parameters of_parameter at here (tree.function direct mine) h sound e =
-        calling-own setting nearest known parameters mine here (direct_steps setting true known here direct) (direct-more setting tokens true known _ of_parameter _ here direct h.0 sound)
-        (own-direct known _ (Some mine) parameters of_parameter _ here direct h.0 sound e) (λ behind steps still. calling-before behind _ _ here mine steps h.2 still)
+    own-direct : (known : Known) (names : List Seen) (nearest : Option Parameters) (these : Parameters) (of_parameter : Bool) (at here : ℕ) (direct : Direct)
+        → IsDirect setting.source names of_parameter at direct → IsSoundKnown known → own_in_direct nearest direct ≡ Some these
+        → OwnIn setting nearest known these (direct_steps setting true known here direct)
+    own-direct known names nearest these of_parameter at here tree.absent h sound e = inl (e, refl, refl)
+    own-direct known names nearest these of_parameter at here (tree.declared name) h sound e = inl (e, refl, refl)
+    own-direct known names nearest these of_parameter at here (tree.enclosed declarator) h sound e = own-declarator known _ nearest these of_parameter declarator h.3 sound e
+    own-direct known names nearest these of_parameter at here (tree.array direct) h sound e =
+        then-with setting nearest known these (direct_steps setting true known here direct) (arraying here None) (own-direct known _ None these of_parameter _ here direct h.0 sound e)
+    own-direct known names nearest these of_parameter at here (tree.sized direct value) h sound e =
+        then-none setting nearest known these (direct_steps setting true known here direct) _ (direct-more setting tokens true known _ of_parameter _ here direct h.0 sound)
+        (own-direct known _ None these of_parameter _ here direct h.0 sound e) (λ behind steps still. sized-before behind _ here value steps h.3 still)
+    own-direct known names nearest these of_parameter at here (tree.function direct mine) h sound e =
+        calling-own setting nearest known these mine here (direct_steps setting true known here direct) (direct-more setting tokens true known _ of_parameter _ here direct h.0 sound)
+        (own-direct known _ (Some mine) these of_parameter _ here direct h.0 sound e) (λ behind steps still. calling-before behind _ _ here mine steps h.2 still)
 
 -- ---- the type of the function
 
@@ -413,39 +413,39 @@ stepped-plain known behind type made (arraying at n) e = by-test (is_complete kn
     by-test : (test : Bool) (it : CType) → obeys test 5 at (given known it) ≡ given behind made → behind ≡ known
     by-test true it h = cc
     by-test false it h = absurd (cc)
-stepped-plain known behind type made (calling at parameters) e = by-test (is_result known type) _ e
+stepped-plain known behind type made (calling at these) e = by-test (is_result known type) _ e
   where
     by-test : (test : Bool) (it : CType) → obeys test 5 at (given known it) ≡ given behind made → behind ≡ known
     by-test true it h = cc
     by-test false it h = absurd (cc)
 
 abbrev pub IsFunctionOf : Known → List TypedParameter → Known → CType → Type 0
-IsFunctionOf known parameters behind kind = (behind ≡ known) × ((result : CType) × (kind ≡ function_type result (all_of (kinds_of parameters))))
+IsFunctionOf known these behind kind = (behind ≡ known) × ((result : CType) × (kind ≡ function_type result (all_of (kinds_of these))))
 
 unfoldable pub FunctionIn : Known → List TypedParameter → Outcome CType → Type 0
-FunctionIn known parameters (given behind kind) = IsFunctionOf known parameters behind kind
-FunctionIn known parameters (broken rule at) = Unit {0}
+FunctionIn known these (given behind kind) = IsFunctionOf known these behind kind
+FunctionIn known these (broken rule at) = Unit {0}
 
-last-call : (known : Known) (type : CType) (at : ℕ) (parameters : List TypedParameter) → FunctionIn known parameters (derived known type (calling at parameters ∷ []))
+last-call : (known : Known) (type : CType) (at : ℕ) (these : List TypedParameter) → FunctionIn known these (derived known type (calling at these ∷ []))
 unfolding FunctionIn
-last-call known type at parameters = go (is_result known type)
+last-call known type at these = go (is_result known type)
   where
     go : (test : Bool)
-        → FunctionIn known parameters
-        (after (obeys test 5 at (given known (function_type type (all_of (kinds_of parameters))))) (λ behind made. derived behind made []))
+        → FunctionIn known these
+        (after (obeys test 5 at (given known (function_type type (all_of (kinds_of these))))) (λ behind made. derived behind made []))
     go true = (refl, (type, refl))
     go false = tt
 
-then-call : (known : Known) (parameters : List TypedParameter) (first : Outcome CType) (next : Known → CType → Outcome CType)
-    → ((behind : Known) (made : CType) → first ≡ given behind made → behind ≡ known) → ((type : CType) → FunctionIn known parameters (next known type))
-    → FunctionIn known parameters (after first next)
+then-call : (known : Known) (these : List TypedParameter) (first : Outcome CType) (next : Known → CType → Outcome CType)
+    → ((behind : Known) (made : CType) → first ≡ given behind made → behind ≡ known) → ((type : CType) → FunctionIn known these (next known type))
+    → FunctionIn known these (after first next)
 unfolding FunctionIn
-then-call known parameters (given behind made) next same step = subst (λ it. FunctionIn known parameters (next it made)) (sym (same behind made refl)) (step made)
-then-call known parameters (broken rule at) next same step = tt
+then-call known these (given behind made) next same step = subst (λ it. FunctionIn known these (next it made)) (sym (same behind made refl)) (step made)
+then-call known these (broken rule at) next same step = tt
 
-pub derived-call : (known : Known) (type : CType) (front : List Step) (at : ℕ) (parameters : List TypedParameter)
-    → FunctionIn known parameters (derived known type (front ++ calling at parameters ∷ []))
-derived-call known type [] at parameters = last-call known type at parameters
-derived-call known type (step ∷ front) at parameters =
-    then-call known parameters (stepped known type step) (λ behind made. derived behind made (front ++ calling at parameters ∷ []))
-    (λ behind made e. stepped-plain known behind type made step e) (λ made. derived-call known made front at parameters)
+pub derived-call : (known : Known) (type : CType) (front : List Step) (at : ℕ) (these : List TypedParameter)
+    → FunctionIn known these (derived known type (front ++ calling at these ∷ []))
+derived-call known type [] at these = last-call known type at these
+derived-call known type (step ∷ front) at these =
+    then-call known these (stepped known type step) (λ behind made. derived behind made (front ++ calling at these ∷ []))
+    (λ behind made e. stepped-plain known behind type made step e) (λ made. derived-call known made front at these)

@@ -36,10 +36,10 @@ use Rattle.dm_edecl.specs.Settled.{IsSoundStanding, IsFinal, Settles}
 use Rattle.dm_edecl.specs.Fit.{DeclarationFits, IsSoundWithin, StandsIn, StmtFits, StmtsFit}
 use Rattle.dm_edecl.proofs.CompletionLemmas.{covers-void}
 use Rattle.dm_edecl.proofs.DeclarationFitLemmas.{declaration-settles, not-true}
-use Rattle.dm_edecl.proofs.KeepsLemmas.{keeps-itself, final-later, expression-final, settles-keeps}
+use Rattle.dm_edecl.proofs.KeepsLemmas.{keeps-itself, final-later, expression-final, settles-further, settles-keeps}
 use Rattle.dm_edecl.proofs.LabelLemmas.{Adds, adds-nothing, adds-both, adds-one, adds-distinct}
 use Rattle.dm_edecl.proofs.StatementLemmas.{IsNewCase, value-gives, condition-gives, subject-gives, new-case-gives, return-gives, void-is}
-use Rattle.dm_edecl.proofs.StatementStepLemmas.{plain, looping, switching, plain-final, looping-final, switching-final, stands-plain, stands-looping, stands-switching, At, at-further, Types, types-by, typing-settles, value-settles, then-settles, made-settles, scope-settles, part-settles, headed-settles, either-settles, footed-settles, loop-settles, more-settle}
+use Rattle.dm_edecl.proofs.StatementStepLemmas.{plain, looping, switching, plain-final, looping-final, switching-final, stands-plain, stands-looping, stands-switching, At, at-further, Types, types-by, typing-settles, value-settles, made-settles, scope-settles, part-settles, headed-settles, either-settles, footed-settles, loop-settles, more-settle}
 
 -- ---- trees
 
@@ -553,7 +553,7 @@ module _ (setting : Setting) (tokens : AreSoundTokens setting.source.tokens) whe
         → Settles (ItemsFit within kind labels) s (typed_switch_items setting within kind s labels items)
     switch-items-settle within fine kind s names at labels tree.no_switch_items behind is sound = (sound, keeps-itself s, (λ final last. no-items within kind labels final))
     switch-items-settle within fine kind s names at labels (tree.more_switch_items first others) behind is sound =
-        then-settles (ItemFits within kind labels) (ItemsFit within kind labels) s (typed_switch_item setting within kind s labels first)
+        settles-further (ItemFits within kind labels) (ItemsFit within kind labels) s (typed_switch_item setting within kind s labels first)
         (λ then_standing made. further (typed_switch_items setting within kind then_standing made.labels others)
         (λ behind more. goes_on behind (record { trees = made.tree ∷ more.trees; labels = more.labels })))
         (switch-item-settles within fine kind s _ labels first is.1 sound)

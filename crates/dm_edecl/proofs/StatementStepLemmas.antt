@@ -82,11 +82,6 @@ pub value-settles : {A C : Type 0} (P : Scene → A → Type 0) (Q : Scene → C
 value-settles P Q s (given known it) make h step = (h.0, h.1, step (knowing s known) it h.1 h.2)
 value-settles P Q s (broken rule at) make h step = tt
 
--- what is typed so far is kept in mind
-pub then-settles : {A B : Type 0} (P : Scene → A → Type 0) (Q : Scene → B → Type 0) (s : Standing) (progress : Progress A) (next : Standing → A → Progress B) → Settles P s progress
-    → ((t : Standing) (it : A) → IsSoundStanding t → Keeps s t → At t P it → Settles Q t (next t it)) → Settles Q s (further progress next)
-then-settles P Q s progress next h step = settles-further P Q s progress next h step
-
 pub made-settles : {A B : Type 0} (P : Scene → A → Type 0) (Q : Scene → B → Type 0) (s : Standing) (progress : Progress A) (make : A → B) → Settles P s progress
     → ((t : Standing) (it : A) → Keeps s t → At t P it → At t Q (make it)) → Settles Q s (further progress (λ t it. goes_on t (make it)))
 made-settles P Q s (goes_on t it) make h step = (h.0, h.1, step t it h.1 h.2)
@@ -128,7 +123,7 @@ either-settles P R Q s outcome first second make sound head one two fits =
     further (in_scope then_inside first) (λ then_more one. further (in_scope then_more second) (λ behind other. goes_on behind (make value one other))))) sound
     (λ t inside. typing-settles P Q t (outcome t.known)
     (λ then_inside value. further (in_scope then_inside first) (λ then_more one. further (in_scope then_more second) (λ behind other. goes_on behind (make value one other)))) (head t inside)
-    (λ u value still has. then-settles R Q u (in_scope u first) (λ then_more one. further (in_scope then_more second) (λ behind other. goes_on behind (make value one other)))
+    (λ u value still has. settles-further R Q u (in_scope u first) (λ then_more one. further (in_scope then_more second) (λ behind other. goes_on behind (make value one other)))
     (scope-settles R u first still one)
     (λ v made fine kept mine. part-settles R Q v second (make value made) fine two
     (λ w other further its. fits w value made other (at-further P v w value further (at-further P u v value kept has)) (at-further R v w made further mine) its))))
@@ -140,7 +135,7 @@ pub footed-settles : {A B C : Type 0} (P : Scene → A → Type 0) (R : Scene �
 footed-settles P R Q s next outcome make sound body foot fits =
     scope-settles Q s
     (λ inside. further (in_scope inside next) (λ then_inside made. typing then_inside (outcome then_inside.known) (λ behind value. goes_on behind (make made value)))) sound
-    (λ t inside. then-settles R Q t (in_scope t next) (λ then_inside made. typing then_inside (outcome then_inside.known) (λ behind value. goes_on behind (make made value)))
+    (λ t inside. settles-further R Q t (in_scope t next) (λ then_inside made. typing then_inside (outcome then_inside.known) (λ behind value. goes_on behind (make made value)))
     (scope-settles R t next inside body)
     (λ u made still kept mine. value-settles P Q u (outcome u.known) (make made) (foot u still)
     (λ v value further has. fits v made value (at-further R u v made further mine) has)))
@@ -156,7 +151,7 @@ loop-settles P V W R Q s start second third body make sound begin test step each
     scope-settles Q s
     (λ inside. further (start inside) (λ then_inside one. typing then_inside (second then_inside.known) (λ then_more two.
     typing then_more (third then_more.known) (λ then_all three. further (in_scope then_all body) (λ behind made. goes_on behind (make one two three made)))))) sound
-    (λ t inside. then-settles P Q t (start t)
+    (λ t inside. settles-further P Q t (start t)
     (λ then_inside one. typing then_inside (second then_inside.known) (λ then_more two.
     typing then_more (third then_more.known) (λ then_all three. further (in_scope then_all body) (λ behind made. goes_on behind (make one two three made))))) (begin t inside)
     (λ u one still kept first. typing-then V Q u (second u.known)
@@ -173,5 +168,5 @@ pub more-settle : {A B C : Type 0} (P : Scene → A → Type 0) (R : Scene → B
     → ((t : Standing) (made : A) (more : B) → At t P made → At t R more → At t Q (make made more))
     → Settles Q s (further first (λ then_standing made. further (others then_standing made) (λ behind more. goes_on behind (make made more))))
 more-settle P R Q s first others make one rest fits =
-    then-settles P Q s first (λ then_standing made. further (others then_standing made) (λ behind more. goes_on behind (make made more))) one
+    settles-further P Q s first (λ then_standing made. further (others then_standing made) (λ behind more. goes_on behind (make made more))) one
     (λ t made still kept mine. made-settles R Q t (others t made) (make made) (rest t made still) (λ u more further all. fits u made more (at-further P t u made further mine) all))
