@@ -237,10 +237,7 @@ pub fn typed_choice(
     ensures numbered { IfOk result (IsNumbered known.new.types) }
     ensures grows { Grows known.old known.new }
 {
-    if !is_scalar(&known.types, condition.kind) {
-        return Err(typer.broken(27, at.inner.first));
-    }
-    let found = arms(known, &a, &b)?;
+    let found = arms_behind(known, &condition, &a, &b)?;
     match found {
         Some(way) => {
             let made = chosen(typer, known, at, condition, way, a, b)?;
@@ -248,6 +245,27 @@ pub fn typed_choice(
         }
         None => Err(typer.broken(27, at.inner.first)),
     }
+}
+
+/// How the arms come together behind a condition, which is a scalar.
+fn arms_behind(
+    known: &mut Known,
+    condition: &Core,
+    a: &Core,
+    b: &Core,
+) -> Result<Option<Way>, Memory>
+    requires condition { IsNumbered known.old.types condition.now }
+    requires left { IsNumbered known.old.types a.now }
+    requires right { IsNumbered known.old.types b.now }
+    ensures way { IfOk result (λ found. (later : List OneShape) → Begins known.new.types.shapes later → option_map (pair_by later (view_over later a.now) (view_over later b.now)) found ≡ arms.arms_behind (known_over later known.old) (view_over later condition.now) (view_over later a.now) (view_over later b.now)) }
+    ensures numbered { IfOk result (λ found. IfSome found (IsWay known.new.types)) }
+    ensures grows { Grows known.old known.new }
+{
+    if !is_scalar(&known.types, condition.kind) {
+        return Ok(None);
+    }
+    let found = arms(known, a, b)?;
+    Ok(found)
 }
 
 /// How the arms come together.
