@@ -5,18 +5,18 @@ use Rattle.std.specs.Prelude.{◌≡◌, ℕ, ◌<◌, Bool, true, ◌==◌, if�
 use Rattle.dm_int.specs.Kinds.{common}
 use Rattle.dm_type.specs.declared.shape.Shape.{Shape}
 use Rattle.dm_type.specs.CTypes.{CType, void, integer, struct}
+use Rattle.dm_syn.specs.Sources.{Source}
 use Rattle.dm_tree.specs.Constants.{integer_kind}
 use Rattle.dm_tree.specs.Scenes.{target, is_scalar}
 use Rattle.dm_tree.specs.Trees.{Tree, kind_of}
 use Rattle.dm_tree.specs.Trees as label
-use Rattle.dm_syn.specs.Sources.{Source}
-use Rattle.dm_ebinary.specs.declared.ways.Sides.{Sides}
 use Rattle.dm_typing.specs.Known.{Known}
-use Rattle.dm_ebinary.specs.Pairs.{both_kinds}
 use Rattle.dm_typing.specs.declared.extent.Extent.{Extent}
 use Rattle.dm_typing.specs.Conversions.{made}
 use Rattle.dm_typing.specs.Rules.{Pair, arms_by_targets, arms}
 use Rattle.dm_typing.specs.Views.{Begins, type_over}
+use Rattle.dm_ebinary.specs.declared.ways.Sides.{Sides}
+use Rattle.dm_ebinary.specs.Pairs.{both_kinds}
 
 -- the number is that of this type, whatever numbers come
 abbrev pub IsNumberBy : List Shape → ℕ → (List Shape → CType) → Type 0

@@ -12,10 +12,10 @@ ghost use Rattle.dm_typing.specs.Fitting.{IsNumbered};
 ghost use Rattle.dm_typing.specs.Operators as operators;
 ghost use Rattle.dm_typing.specs.Operators.{row_at};
 ghost use Rattle.dm_typing.specs.Rules as rules;
-ghost use Rattle.dm_ebinary.specs.Stores as stores;
-ghost use Rattle.dm_ebinary.specs.Stores.{updated_over, IsUpdated};
 ghost use Rattle.dm_typing.specs.Typing as typing;
 ghost use Rattle.dm_typing.specs.Views.{Begins, seen, type_over, view_over, known_over, source_of, setting_of, Gives, Grows};
+ghost use Rattle.dm_ebinary.specs.Stores as stores;
+ghost use Rattle.dm_ebinary.specs.Stores.{updated_over, IsUpdated};
 
 use crate::ways::{Sides, as_type_if, both_kinds, sides_of};
 use dm_eunary::counting::is_modifiable;

@@ -7,13 +7,13 @@ ghost use Rattle.dm_type.specs.CTypes.{pointer};
 ghost use Rattle.dm_type.specs.declared.shape.Shape.{Shape as OneShape};
 ghost use Rattle.dm_type.specs.Tables.{type_of, IsId};
 ghost use Rattle.dm_tree.specs.Scenes as scenes;
-ghost use Rattle.dm_ebinary.specs.Arms as arms;
-ghost use Rattle.dm_ebinary.specs.Arms.{IsNumberBy};
 ghost use Rattle.dm_typing.specs.Fitting.{IsNumbered};
-ghost use Rattle.dm_ebinary.specs.Pairs.{pair_by, IsWay};
 ghost use Rattle.dm_typing.specs.Rules as rules;
 ghost use Rattle.dm_typing.specs.Typing as typing;
 ghost use Rattle.dm_typing.specs.Views.{Begins, type_over, view_over, known_over, source_of, setting_of, Gives, Grows};
+ghost use Rattle.dm_ebinary.specs.Arms as arms;
+ghost use Rattle.dm_ebinary.specs.Arms.{IsNumberBy};
+ghost use Rattle.dm_ebinary.specs.Pairs.{pair_by, IsWay};
 
 use crate::ways::{Way, as_type_if, both_kinds};
 use dm_int::common;

@@ -11,11 +11,11 @@ ghost use Rattle.dm_tree.specs.Scenes as scenes;
 ghost use Rattle.dm_typing.specs.Fitting.{IsNumbered};
 ghost use Rattle.dm_typing.specs.Operators as operators;
 ghost use Rattle.dm_typing.specs.Operators.{row_at};
-ghost use Rattle.dm_ebinary.specs.Pairs as pairs;
-ghost use Rattle.dm_ebinary.specs.Pairs.{pair_by, IsWay};
 ghost use Rattle.dm_typing.specs.Rules as rules;
 ghost use Rattle.dm_typing.specs.Typing as typing;
 ghost use Rattle.dm_typing.specs.Views.{Begins, seen, type_over, view_over, known_over, source_of, setting_of, Gives, Grows};
+ghost use Rattle.dm_ebinary.specs.Pairs as pairs;
+ghost use Rattle.dm_ebinary.specs.Pairs.{pair_by, IsWay};
 
 use crate::ways::{Sides, Way, as_type_if, both_kinds, sides_of};
 use dm_int::{Kind, Op};

@@ -1,7 +1,7 @@
 -- By the symbol of the operator.
 use Rattle.std.proofs.Common.{ap, sym, ◌∙◌}
-use Rattle.dm_tree.specs.declared.tree.Core.{Core}
 use Rattle.dm_syn.specs.Sources.{symbol_at}
+use Rattle.dm_tree.specs.declared.tree.Core.{Core}
 use Rattle.dm_typing.specs.Typing.{typed_assignment, typed_update}
 use Rattle.dm_typing.specs.Views.{view_over, known_over, source_of, setting_of}
 use Rattle.dm_typing.proofs.GivesLemmas.{refused}

@@ -4,9 +4,9 @@ use Rattle.std.proofs.Common.{ap, sym, ◌∙◌, subst}
 use Rattle.dm_tree.specs.declared.tree.Core.{Core}
 use Rattle.dm_typing.specs.Rules.{updated}
 use Rattle.dm_typing.specs.Views.{view_over, known_over, source_of}
+use Rattle.dm_ebinary.specs.Stores.{updated_over, IsUpdated}
 use Rattle.dm_typing.proofs.GivesLemmas.{found-it, found-none, refused, given-so, grown}
 use Rattle.dm_typing.proofs.LaterLemmas.{known-later}
-use Rattle.dm_ebinary.specs.Stores.{updated_over, IsUpdated}
 use Rattle.dm_ebinary.proofs.assignments.updated.Goals as goal
 
 pub changed-requires-clause-object : goal.changed-requires-clause-object

@@ -6,10 +6,10 @@ use Rattle.dm_tree.specs.Scenes.{is_scalar}
 use Rattle.dm_tree.specs.Trees.{kind_of}
 use Rattle.dm_typing.specs.Rules.{arms}
 use Rattle.dm_typing.specs.Views.{view_over, known_over, source_of}
-use Rattle.dm_typing.proofs.GivesLemmas.{found-it, found-none, refused, given-so, grown}
-use Rattle.dm_typing.proofs.LaterLemmas.{known-later}
 use Rattle.dm_ebinary.specs.Arms.{arms_behind}
 use Rattle.dm_ebinary.specs.Pairs.{pair_by, IsWay}
+use Rattle.dm_typing.proofs.GivesLemmas.{found-it, found-none, refused, given-so, grown}
+use Rattle.dm_typing.proofs.LaterLemmas.{known-later}
 use Rattle.dm_ebinary.proofs.ChoiceStepLemmas.{tested-first}
 use Rattle.dm_ebinary.proofs.choices.typed_choice.Goals as goal
 
