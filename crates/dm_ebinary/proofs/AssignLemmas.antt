@@ -17,16 +17,16 @@ use Rattle.dm_tree.specs.Scenes.{target, is_integer}
 use Rattle.dm_tree.specs.Trees.{Tree, kind_of}
 use Rattle.dm_typing.specs.declared.extent.Extent.{Extent}
 use Rattle.dm_typing.specs.declared.known.Known.{Known as Held}
-use Rattle.dm_ebinary.specs.declared.ways.Sides.{Sides}
 use Rattle.dm_typing.specs.Conversions.{is_same, is_null, as_kind}
 use Rattle.dm_typing.specs.Fitting.{IsNumbered}
 use Rattle.dm_typing.specs.Known.{Known, Setting}
 use Rattle.dm_typing.specs.Operators.{row_at, operator_of_assignment}
-use Rattle.dm_ebinary.specs.Pairs.{sides, both_kinds, sides_of}
 use Rattle.dm_typing.specs.Rules.{is_modifiable, pointer_assignable, assignable_to, is_assignable, moves, points_to_complete, updated_integer, updated_by, updated}
-use Rattle.dm_ebinary.specs.Stores.{fits_kind, may_point, may_move}
 use Rattle.dm_typing.specs.Typing.{typed_update, typed_assignment}
 use Rattle.dm_typing.specs.Views.{Begins, type_over, view_over, known_over, seen}
+use Rattle.dm_ebinary.specs.declared.ways.Sides.{Sides}
+use Rattle.dm_ebinary.specs.Pairs.{sides, both_kinds, sides_of}
+use Rattle.dm_ebinary.specs.Stores.{fits_kind, may_point, may_move}
 use Rattle.dm_typing.proofs.GivesLemmas.{complete-alone}
 use Rattle.dm_typing.proofs.LaterLemmas.{type-later}
 use Rattle.dm_typing.proofs.ValueLemmas.{kind-later, kind-view, bare-later}

@@ -19,17 +19,17 @@ use Rattle.dm_tree.specs.Scenes.{is_integer, is_pointer}
 use Rattle.dm_tree.specs.Trees.{Tree, kind_of}
 use Rattle.dm_typing.specs.declared.extent.Extent.{Extent}
 use Rattle.dm_typing.specs.declared.known.Known.{Known as Held}
-use Rattle.dm_ebinary.specs.declared.ways.Sides.{Sides}
-use Rattle.dm_ebinary.specs.declared.operations.Brought.{Brought}
-use Rattle.dm_ebinary.specs.declared.operations.Brought.TheVariants as brought
 use Rattle.dm_typing.specs.Known.{Known, Setting, Outcome}
 use Rattle.dm_typing.specs.Operators.{row_at, operator_of_row}
 use Rattle.dm_typing.specs.Conversions.{as_type, as_kind}
 use Rattle.dm_typing.specs.Fitting.{IsNumbered}
-use Rattle.dm_ebinary.specs.Pairs.{both_kinds, sides_of, pair_by, IsWay, compared_as, by_kinds, family_of, by_family, moves_by, have_distance, is_beside_null, equal_by, equated_by}
 use Rattle.dm_typing.specs.Rules.{Pair, pair, indexed, points_to_complete, point_alike, is_void_pointer, of_integers, of_pointer_and_integer, of_others, of_kinds, operated, ordered, equated}
 use Rattle.dm_typing.specs.Typing.{typed_operation, typed_binary}
 use Rattle.dm_typing.specs.Views.{Begins, type_over, view_over, known_over, seen, Grows, Gives}
+use Rattle.dm_ebinary.specs.declared.ways.Sides.{Sides}
+use Rattle.dm_ebinary.specs.declared.operations.Brought.{Brought}
+use Rattle.dm_ebinary.specs.declared.operations.Brought.TheVariants as brought
+use Rattle.dm_ebinary.specs.Pairs.{both_kinds, sides_of, pair_by, IsWay, compared_as, by_kinds, family_of, by_family, moves_by, have_distance, is_beside_null, equal_by, equated_by}
 use Rattle.dm_typing.proofs.GivesLemmas.{complete-alone}
 use Rattle.dm_typing.proofs.LaterLemmas.{begins-on, begins-length}
 use Rattle.dm_typing.proofs.ValueLemmas.{kind-later, kind-view, kind-known}

@@ -11,18 +11,18 @@ use Rattle.dm_tree.specs.Constants.{integer_kind}
 use Rattle.dm_tree.specs.Scenes.{target, is_void, are_alike}
 use Rattle.dm_tree.specs.Trees.{Tree, kind_of}
 use Rattle.dm_typing.specs.declared.known.Known.{Known as Held}
-use Rattle.dm_ebinary.specs.declared.ways.Sides.{Sides}
-use Rattle.dm_ebinary.specs.Arms.{same_plainly, by_plainness, kind_of_types, by_sides, arms_kind}
 use Rattle.dm_typing.specs.Conversions.{as_type, is_same, is_null}
 use Rattle.dm_typing.specs.Fitting.{IsNumbered}
-use Rattle.dm_typing.specs.Known.{Known}
-use Rattle.dm_ebinary.specs.Pairs.{both_kinds}
+use Rattle.dm_typing.specs.Known.{Known, Outcome, obeys, if_given}
 use Rattle.dm_typing.specs.Rules.{pair, both_as, with_const_if, pointer_arms, arms_by_targets, arms_of_types, arms_of_kinds, arms}
 use Rattle.dm_typing.specs.Views.{Begins, type_over, view_over, known_over}
-use Rattle.dm_ebinary.proofs.BinaryLemmas.{types-alone}
+use Rattle.dm_ebinary.specs.declared.ways.Sides.{Sides}
+use Rattle.dm_ebinary.specs.Arms.{same_plainly, by_plainness, kind_of_types, by_sides, arms_kind}
+use Rattle.dm_ebinary.specs.Pairs.{both_kinds}
 use Rattle.dm_typing.proofs.KindLemmas.{same-numbers}
 use Rattle.dm_typing.proofs.LaterLemmas.{type-later}
 use Rattle.dm_typing.proofs.ValueLemmas.{converts-not, kind-later, kind-view, same-itself}
+use Rattle.dm_ebinary.proofs.BinaryLemmas.{types-alone}
 
 -- ---- both arms are converted to one type
 
@@ -56,6 +56,12 @@ kinds-decide known a b None None = types-decide known a b (kind_of a) (kind_of b
 
 pub arms-by-kind : (known : Known) (a b : Tree) → arms known a b ≡ option_map (both_as a b) (arms_kind known a b)
 arms-by-kind known a b = kinds-decide known a b (integer_kind (kind_of a)) (integer_kind (kind_of b))
+
+-- a test before what is found breaks the same rule
+pub tested-first : {A B : Type 0} (test : Bool) (found : Option A) (rule at : ℕ) (next : A → Outcome B)
+    → obeys test rule at (if_given found rule at next) ≡ if_given (if test then found else None) rule at next
+tested-first true found rule at next = refl
+tested-first false found rule at next = refl
 
 -- ---- what the code finds, whatever numbers come
 

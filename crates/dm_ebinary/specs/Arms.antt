@@ -5,18 +5,18 @@ use Rattle.std.specs.Prelude.{◌≡◌, ℕ, ◌<◌, Bool, true, ◌==◌, if�
 use Rattle.dm_int.specs.Kinds.{common}
 use Rattle.dm_type.specs.declared.shape.Shape.{Shape}
 use Rattle.dm_type.specs.CTypes.{CType, void, integer, struct}
+use Rattle.dm_syn.specs.Sources.{Source}
 use Rattle.dm_tree.specs.Constants.{integer_kind}
-use Rattle.dm_tree.specs.Scenes.{target}
+use Rattle.dm_tree.specs.Scenes.{target, is_scalar}
 use Rattle.dm_tree.specs.Trees.{Tree, kind_of}
 use Rattle.dm_tree.specs.Trees as label
-use Rattle.dm_syn.specs.Sources.{Source}
-use Rattle.dm_ebinary.specs.declared.ways.Sides.{Sides}
 use Rattle.dm_typing.specs.Known.{Known}
-use Rattle.dm_ebinary.specs.Pairs.{both_kinds}
 use Rattle.dm_typing.specs.declared.extent.Extent.{Extent}
 use Rattle.dm_typing.specs.Conversions.{made}
-use Rattle.dm_typing.specs.Rules.{Pair, arms_by_targets}
+use Rattle.dm_typing.specs.Rules.{Pair, arms_by_targets, arms}
 use Rattle.dm_typing.specs.Views.{Begins, type_over}
+use Rattle.dm_ebinary.specs.declared.ways.Sides.{Sides}
+use Rattle.dm_ebinary.specs.Pairs.{both_kinds}
 
 -- the number is that of this type, whatever numbers come
 abbrev pub IsNumberBy : List Shape → ℕ → (List Shape → CType) → Type 0
@@ -43,6 +43,10 @@ by_sides known a b None = kind_of_types known a b
 -- the type to which both arms are converted
 abbrev pub arms_kind : Known → Tree → Tree → Option CType
 arms_kind known a b = by_sides known a b (both_kinds (integer_kind (kind_of a)) (integer_kind (kind_of b)))
+
+-- how they come together behind a condition, which is a scalar
+abbrev pub arms_behind : Known → Tree → Tree → Tree → Option Pair
+arms_behind known condition a b = if is_scalar (kind_of condition) then arms known a b else None
 
 -- the node of the conditional operator on arms after their conversions
 abbrev pub choice : Source → Extent → Tree → Pair → Tree

@@ -12,22 +12,22 @@ use Rattle.dm_int.specs.Kinds.{promote, common}
 use Rattle.dm_type.specs.declared.shape.Shape.{Shape}
 use Rattle.dm_type.specs.CTypes.{CType, integer}
 use Rattle.dm_type.specs.Tables.{Table, IsId}
+use Rattle.dm_syn.specs.Sources.{Source}
 use Rattle.dm_tree.specs.Evaluation.{is_shift}
 use Rattle.dm_tree.specs.Scenes.{is_integer, is_pointer}
 use Rattle.dm_tree.specs.Trees.{Tree, kind_of}
 use Rattle.dm_tree.specs.Trees as label
-use Rattle.dm_syn.specs.Sources.{Source}
+use Rattle.dm_typing.specs.Known.{Known}
+use Rattle.dm_typing.specs.Conversions.{made, as_type, is_null}
+use Rattle.dm_typing.specs.declared.extent.Extent.{Extent}
+use Rattle.dm_typing.specs.Rules.{Pair, pair, points_to_complete, point_alike, is_void_pointer, of_integers, of_pointer_and_integer, ordered, equated, of_others}
+use Rattle.dm_typing.specs.Views.{type_over}
 use Rattle.dm_ebinary.specs.declared.ways.Way.{Way}
 use Rattle.dm_ebinary.specs.declared.ways.Sides.{Sides}
 use Rattle.dm_ebinary.specs.declared.operations.Family.{Family}
 use Rattle.dm_ebinary.specs.declared.operations.Family.TheVariants as family
 use Rattle.dm_ebinary.specs.declared.operations.Brought.{Brought}
 use Rattle.dm_ebinary.specs.declared.operations.Brought.TheVariants as brought
-use Rattle.dm_typing.specs.Known.{Known}
-use Rattle.dm_typing.specs.Conversions.{made, as_type, is_null}
-use Rattle.dm_typing.specs.declared.extent.Extent.{Extent}
-use Rattle.dm_typing.specs.Rules.{Pair, pair, points_to_complete, point_alike, is_void_pointer, of_integers, of_pointer_and_integer, ordered, equated, of_others}
-use Rattle.dm_typing.specs.Views.{type_over}
 
 -- ---- pairs
 

@@ -8,17 +8,17 @@ use Rattle.dm_int.specs.declared.Op.{Op}
 use Rattle.dm_type.specs.declared.shape.Shape.{Shape}
 use Rattle.dm_type.specs.CTypes.{CType, bare}
 use Rattle.dm_type.specs.Tables.{Table, IsId}
+use Rattle.dm_syn.specs.Sources.{Source}
 use Rattle.dm_tree.specs.Scenes.{is_integer, is_scalar, is_void, are_alike}
 use Rattle.dm_tree.specs.Trees.{Tree, kind_of}
 use Rattle.dm_tree.specs.Trees as label
-use Rattle.dm_syn.specs.Sources.{Source}
-use Rattle.dm_ebinary.specs.declared.assignments.Operand.{Operand}
-use Rattle.dm_ebinary.specs.Pairs.{as_type_if}
 use Rattle.dm_typing.specs.declared.extent.Extent.{Extent}
 use Rattle.dm_typing.specs.Conversions.{made}
 use Rattle.dm_typing.specs.Known.{Known}
 use Rattle.dm_typing.specs.Rules.{keeps_const, moves, points_to_complete}
 use Rattle.dm_typing.specs.Views.{type_over}
+use Rattle.dm_ebinary.specs.declared.assignments.Operand.{Operand}
+use Rattle.dm_ebinary.specs.Pairs.{as_type_if}
 
 -- a value of the type may be assigned to an integer of the kind
 abbrev pub fits_kind : Kind → CType → Bool

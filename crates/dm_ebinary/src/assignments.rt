@@ -12,10 +12,10 @@ ghost use Rattle.dm_typing.specs.Fitting.{IsNumbered};
 ghost use Rattle.dm_typing.specs.Operators as operators;
 ghost use Rattle.dm_typing.specs.Operators.{row_at};
 ghost use Rattle.dm_typing.specs.Rules as rules;
-ghost use Rattle.dm_ebinary.specs.Stores as stores;
-ghost use Rattle.dm_ebinary.specs.Stores.{updated_over, IsUpdated};
 ghost use Rattle.dm_typing.specs.Typing as typing;
 ghost use Rattle.dm_typing.specs.Views.{Begins, seen, type_over, view_over, known_over, source_of, setting_of, Gives, Grows};
+ghost use Rattle.dm_ebinary.specs.Stores as stores;
+ghost use Rattle.dm_ebinary.specs.Stores.{updated_over, IsUpdated};
 
 use crate::ways::{Sides, as_type_if, both_kinds, sides_of};
 use dm_eunary::counting::is_modifiable;
@@ -180,7 +180,10 @@ pub fn typed_assignment(
 {
     match typer.symbol(operator) {
         Symbol::Equals => typed_store(typer, known, at, object, value),
-        _ => typed_update(typer, known, at, operator, object, value),
+        _ => match assignment_at(typer, operator) {
+            Some(op) => updated(typer, known, at, op, object, value),
+            None => Err(typer.broken(29, at.inner.first)),
+        },
     }
 }
 
@@ -192,8 +195,8 @@ fn typed_store(
     object: Core,
     value: Core,
 ) -> Result<Core, Stop>
-    requires left { IsNumbered known.now.types object }
-    requires right { IsNumbered known.now.types value }
+    requires object { IsNumbered known.now.types object }
+    requires value { IsNumbered known.now.types value }
     ensures gives { (later : List OneShape) → Begins known.now.types.shapes later → Gives (view_over later) (source_of typer.now) (known_over later known.now) result
         (typing.typed_store (setting_of typer.now) (known_over later known.now) at (view_over later object) (view_over later value)) }
     ensures numbered { IfOk result (IsNumbered known.now.types) }
@@ -210,8 +213,8 @@ fn typed_store(
 
 /// Whether an object may be written, and the value is assignable to it.
 fn may_store(typer: &Typer<'_>, known: &Known, object: &Core, value: &Core) -> Result<bool, Memory>
-    requires left { IsNumbered known.now.types object.now }
-    requires right { IsNumbered known.now.types value.now }
+    requires object { IsNumbered known.now.types object.now }
+    requires value { IsNumbered known.now.types value.now }
     ensures { IfOk result (λ it. (later : List OneShape) → Begins known.now.types.shapes later →
         it ≡ (rules.is_modifiable (known_over later known.now) (view_over later object.now) && rules.is_assignable (known_over later known.now) (view_over later value.now) (kind_of (view_over later object.now)))) }
 {
@@ -220,28 +223,6 @@ fn may_store(typer: &Typer<'_>, known: &Known, object: &Core, value: &Core) -> R
         return Ok(false);
     }
     Ok(is_assignable(known, value, object.kind))
-}
-
-/// A compound assignment by its token (C29).
-fn typed_update(
-    typer: &Typer<'_>,
-    known: &mut Known,
-    at: Extent,
-    operator: u32,
-    object: Core,
-    value: Core,
-) -> Result<Core, Stop>
-    requires left { IsNumbered known.old.types object }
-    requires right { IsNumbered known.old.types value }
-    ensures gives { (later : List OneShape) → Begins known.new.types.shapes later → Gives (view_over later) (source_of typer.now) (known_over later known.new) result
-        (typing.typed_update (setting_of typer.now) (known_over later known.old) at (view_over later object) (view_over later value) (option_and_then operators.operator_of_assignment (row_at (source_of typer.now) operator))) }
-    ensures numbered { IfOk result (IsNumbered known.new.types) }
-    ensures grows { Grows known.old known.new }
-{
-    match assignment_at(typer, operator) {
-        Some(op) => updated(typer, known, at, op, object, value),
-        None => Err(typer.broken(29, at.inner.first)),
-    }
 }
 
 /// The operator of the token of a compound assignment.
@@ -263,18 +244,14 @@ fn updated(
     object: Core,
     value: Core,
 ) -> Result<Core, Stop>
-    requires left { IsNumbered known.old.types object }
-    requires right { IsNumbered known.old.types value }
+    requires object { IsNumbered known.old.types object }
+    requires value { IsNumbered known.old.types value }
     ensures gives { (later : List OneShape) → Begins known.new.types.shapes later → Gives (view_over later) (source_of typer.now) (known_over later known.new) result
         (typing.typed_update (setting_of typer.now) (known_over later known.old) at (view_over later object) (view_over later value) (Some op)) }
     ensures numbered { IfOk result (IsNumbered known.new.types) }
     ensures grows { Grows known.old known.new }
 {
-    let modifiable = is_modifiable(typer, known, &object)?;
-    if !modifiable {
-        return Err(typer.broken(29, at.inner.first));
-    }
-    let found = updated_by(known, op, object.kind, &value)?;
+    let found = operand_of(typer, known, op, &object, &value)?;
     match found {
         Some(right) => {
             let made = changed(typer, known, at, op, right, object, value)?;
@@ -304,6 +281,28 @@ fn changed(
     let value = as_type_if(typer, known, right.to, value)?;
     let made = typer.update(at, op, right.works, object, value, kind)?;
     Ok(made)
+}
+
+/// The right operand of a compound assignment to an object, which is one that may be written.
+fn operand_of(
+    typer: &Typer<'_>,
+    known: &mut Known,
+    op: Op,
+    object: &Core,
+    value: &Core,
+) -> Result<Option<Operand>, Memory>
+    requires object { IsNumbered known.old.types object.now }
+    requires value { IsNumbered known.old.types value.now }
+    ensures operand { IfOk result (λ found. (later : List OneShape) → Begins known.new.types.shapes later → option_map (updated_over later (view_over later value.now)) found ≡ rules.updated (known_over later known.old) op (view_over later object.now) (view_over later value.now)) }
+    ensures numbered { IfOk result (λ found. IfSome found (IsUpdated known.new.types)) }
+    ensures grows { Grows known.old known.new }
+{
+    let modifiable = is_modifiable(typer, known, object)?;
+    if !modifiable {
+        return Ok(None);
+    }
+    let found = updated_by(known, op, object.kind, value)?;
+    Ok(found)
 }
 
 /// The right operand after its conversion, and the type in which the operator works (6.5.16.2p3).

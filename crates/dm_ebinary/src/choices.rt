@@ -7,13 +7,13 @@ ghost use Rattle.dm_type.specs.CTypes.{pointer};
 ghost use Rattle.dm_type.specs.declared.shape.Shape.{Shape as OneShape};
 ghost use Rattle.dm_type.specs.Tables.{type_of, IsId};
 ghost use Rattle.dm_tree.specs.Scenes as scenes;
-ghost use Rattle.dm_ebinary.specs.Arms as arms;
-ghost use Rattle.dm_ebinary.specs.Arms.{IsNumberBy};
 ghost use Rattle.dm_typing.specs.Fitting.{IsNumbered};
-ghost use Rattle.dm_ebinary.specs.Pairs.{pair_by, IsWay};
 ghost use Rattle.dm_typing.specs.Rules as rules;
 ghost use Rattle.dm_typing.specs.Typing as typing;
 ghost use Rattle.dm_typing.specs.Views.{Begins, type_over, view_over, known_over, source_of, setting_of, Gives, Grows};
+ghost use Rattle.dm_ebinary.specs.Arms as arms;
+ghost use Rattle.dm_ebinary.specs.Arms.{IsNumberBy};
+ghost use Rattle.dm_ebinary.specs.Pairs.{pair_by, IsWay};
 
 use crate::ways::{Way, as_type_if, both_kinds};
 use dm_int::common;
@@ -237,10 +237,7 @@ pub fn typed_choice(
     ensures numbered { IfOk result (IsNumbered known.new.types) }
     ensures grows { Grows known.old known.new }
 {
-    if !is_scalar(&known.types, condition.kind) {
-        return Err(typer.broken(27, at.inner.first));
-    }
-    let found = arms(known, &a, &b)?;
+    let found = arms_behind(known, &condition, &a, &b)?;
     match found {
         Some(way) => {
             let made = chosen(typer, known, at, condition, way, a, b)?;
@@ -248,6 +245,27 @@ pub fn typed_choice(
         }
         None => Err(typer.broken(27, at.inner.first)),
     }
+}
+
+/// How the arms come together behind a condition, which is a scalar.
+fn arms_behind(
+    known: &mut Known,
+    condition: &Core,
+    a: &Core,
+    b: &Core,
+) -> Result<Option<Way>, Memory>
+    requires condition { IsNumbered known.old.types condition.now }
+    requires left { IsNumbered known.old.types a.now }
+    requires right { IsNumbered known.old.types b.now }
+    ensures way { IfOk result (λ found. (later : List OneShape) → Begins known.new.types.shapes later → option_map (pair_by later (view_over later a.now) (view_over later b.now)) found ≡ arms.arms_behind (known_over later known.old) (view_over later condition.now) (view_over later a.now) (view_over later b.now)) }
+    ensures numbered { IfOk result (λ found. IfSome found (IsWay known.new.types)) }
+    ensures grows { Grows known.old known.new }
+{
+    if !is_scalar(&known.types, condition.kind) {
+        return Ok(None);
+    }
+    let found = arms(known, a, b)?;
+    Ok(found)
 }
 
 /// How the arms come together.

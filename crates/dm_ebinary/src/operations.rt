@@ -11,11 +11,11 @@ ghost use Rattle.dm_tree.specs.Scenes as scenes;
 ghost use Rattle.dm_typing.specs.Fitting.{IsNumbered};
 ghost use Rattle.dm_typing.specs.Operators as operators;
 ghost use Rattle.dm_typing.specs.Operators.{row_at};
-ghost use Rattle.dm_ebinary.specs.Pairs as pairs;
-ghost use Rattle.dm_ebinary.specs.Pairs.{pair_by, IsWay};
 ghost use Rattle.dm_typing.specs.Rules as rules;
 ghost use Rattle.dm_typing.specs.Typing as typing;
 ghost use Rattle.dm_typing.specs.Views.{Begins, seen, type_over, view_over, known_over, source_of, setting_of, Gives, Grows};
+ghost use Rattle.dm_ebinary.specs.Pairs as pairs;
+ghost use Rattle.dm_ebinary.specs.Pairs.{pair_by, IsWay};
 
 use crate::ways::{Sides, Way, as_type_if, both_kinds, sides_of};
 use dm_int::{Kind, Op};
@@ -398,29 +398,10 @@ pub fn typed_binary(
     match typer.symbol(operator) {
         Symbol::And => typer.typed_both(known, at, a, b),
         Symbol::Or => typer.typed_either(known, at, a, b),
-        _ => typed_operation(typer, known, at, operator, a, b),
-    }
-}
-
-/// An operator on values by its token (C19 to C25).
-fn typed_operation(
-    typer: &Typer<'_>,
-    known: &mut Known,
-    at: Extent,
-    operator: u32,
-    a: Core,
-    b: Core,
-) -> Result<Core, Stop>
-    requires left { IsNumbered known.old.types a }
-    requires right { IsNumbered known.old.types b }
-    ensures gives { (later : List OneShape) → Begins known.new.types.shapes later → Gives (view_over later) (source_of typer.now) (known_over later known.new) result
-        (typing.typed_operation (setting_of typer.now) (known_over later known.old) at (view_over later a) (view_over later b) (option_and_then operators.operator_of_row (row_at (source_of typer.now) operator))) }
-    ensures numbered { IfOk result (IsNumbered known.new.types) }
-    ensures grows { Grows known.old known.new }
-{
-    match operator_at(typer, operator) {
-        Some(op) => typed_operator(typer, known, at, op, a, b),
-        None => Err(typer.broken(19, at.inner.first)),
+        _ => match operator_at(typer, operator) {
+            Some(op) => typed_operator(typer, known, at, op, a, b),
+            None => Err(typer.broken(19, at.inner.first)),
+        },
     }
 }
 

@@ -34,7 +34,7 @@ returns-clause-gives c = λ later begins.
     ∙ ap (given known)
     (ap₂ (λ type it. made (source_of c.args.typer.now) c.args.at label.store type (object ∷ it ∷ []))
     (ap bare kind ∙ sym (bare-later c.args.known.now.types later (out-Core c.args.object).kind c.bare-kind.result begins
-    (kind-known (length c.args.known.now.types.shapes) c.args.object c.requires.left) c.bare-kind.ensures))
+    (kind-known (length c.args.known.now.types.shapes) c.args.object c.requires.object) c.bare-kind.ensures))
     (ap (λ type. as_type type value) kind ∙ sym (c.in_ok-value.ensures.value later begins))
     ∙ sym (c.in_ok-made.ensures.view (record { shapes = later; structs = [] })))
 
@@ -42,4 +42,4 @@ pub returns-clause-numbered : goal.returns-clause-numbered
 returns-clause-numbered c =
     let n = length c.args.known.now.types.shapes in
     node-known n c.bare-kind.result c.in_ok-made.made (are_known n c.args.object && are_known n c.in_ok-value.value) (c.in_ok-made.ensures.known n) c.bare-kind.ensures.0
-    (and_from (are_known n c.args.object) (are_known n c.in_ok-value.value) c.requires.left c.in_ok-value.ensures.numbered)
+    (and_from (are_known n c.args.object) (are_known n c.in_ok-value.value) c.requires.object c.in_ok-value.ensures.numbered)

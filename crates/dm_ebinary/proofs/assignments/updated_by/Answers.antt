@@ -1,9 +1,9 @@
 -- By the kinds of the object and of the value.
 use Rattle.std.specs.Prelude.{Some}
 use Rattle.std.proofs.Common.{ap, sym, ◌∙◌}
-use Rattle.dm_ebinary.proofs.AssignLemmas.{updated-integers, updated-pointer}
 use Rattle.dm_typing.specs.Views.{view_over}
 use Rattle.dm_typing.proofs.LaterLemmas.{begins-on}
+use Rattle.dm_ebinary.proofs.AssignLemmas.{updated-integers, updated-pointer}
 use Rattle.dm_ebinary.proofs.assignments.updated_by.Goals as goal
 
 pub returns-in_ok-found-in-Some-clause-operand : goal.returns-in_ok-found-in-Some-clause-operand

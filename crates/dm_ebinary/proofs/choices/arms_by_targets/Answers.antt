@@ -5,8 +5,8 @@ use Rattle.dm_type.specs.Tables.{type_of}
 use Rattle.dm_tree.specs.Trees.{kind_of}
 use Rattle.dm_typing.specs.Rules.{arms_by_targets}
 use Rattle.dm_typing.specs.Views.{view_over, known_over}
-use Rattle.dm_ebinary.proofs.ChoiceStepLemmas.{targets-later, type-if}
 use Rattle.dm_typing.proofs.LaterLemmas.{begins-on, type-later}
+use Rattle.dm_ebinary.proofs.ChoiceStepLemmas.{targets-later, type-if}
 use Rattle.dm_ebinary.proofs.choices.arms_by_targets.Goals as goal
 
 pub returns-in_ok-found-in-Some-target-clause-kind : goal.returns-in_ok-found-in-Some-target-clause-kind

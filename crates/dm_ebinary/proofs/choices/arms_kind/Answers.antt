@@ -2,8 +2,8 @@
 use Rattle.std.specs.Prelude.{Some, None}
 use Rattle.std.proofs.Common.{ap, ◌∙◌}
 use Rattle.dm_type.specs.CTypes.{integer}
-use Rattle.dm_ebinary.proofs.ChoiceStepLemmas.{sides-later}
 use Rattle.dm_typing.proofs.LaterLemmas.{begins-on}
+use Rattle.dm_ebinary.proofs.ChoiceStepLemmas.{sides-later}
 use Rattle.dm_ebinary.proofs.choices.arms_kind.Goals as goal
 
 pub returns-in_ok-kind-in-Some-clause-kind : goal.returns-in_ok-kind-in-Some-clause-kind

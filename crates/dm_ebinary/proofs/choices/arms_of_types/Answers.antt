@@ -1,8 +1,8 @@
 -- Void twice, two structs, or pointers.
 use Rattle.std.specs.Prelude.{Some, None}
 use Rattle.std.proofs.Common.{◌∙◌}
-use Rattle.dm_ebinary.proofs.ChoiceStepLemmas.{plainness-later, type-if}
 use Rattle.dm_typing.proofs.LaterLemmas.{begins-on}
+use Rattle.dm_ebinary.proofs.ChoiceStepLemmas.{plainness-later, type-if}
 use Rattle.dm_ebinary.proofs.choices.arms_of_types.Goals as goal
 
 pub returns-in-Some-clause-kind : goal.returns-in-Some-clause-kind

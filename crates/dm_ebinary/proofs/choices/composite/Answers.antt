@@ -2,9 +2,9 @@
 use Rattle.std.specs.Prelude.{reverse}
 use Rattle.std.proofs.Common.{sym, ◌∙◌}
 use Rattle.dm_type.specs.Alike.{composite}
-use Rattle.dm_ebinary.proofs.ChoiceStepLemmas.{numbers-later}
 use Rattle.dm_typing.proofs.BoundLemmas.{open-same}
 use Rattle.dm_typing.proofs.LaterLemmas.{extends-anyway, types-later, trees-later, type-later, begins-on}
+use Rattle.dm_ebinary.proofs.ChoiceStepLemmas.{numbers-later}
 use Rattle.dm_ebinary.proofs.choices.composite.Goals as goal
 
 pub invariant_of-known : goal.invariant_of-known

@@ -1,8 +1,8 @@
 -- The tests one by one.
 use Rattle.std.specs.Prelude.{Some}
 use Rattle.std.proofs.Common.{ap, sym, ◌∙◌}
-use Rattle.dm_ebinary.proofs.ChoiceStepLemmas.{pointers-alike, pointers-right, pointers-left, pointers-void, pointers-never}
 use Rattle.dm_typing.proofs.LaterLemmas.{begins-on}
+use Rattle.dm_ebinary.proofs.ChoiceStepLemmas.{pointers-alike, pointers-right, pointers-left, pointers-void, pointers-never}
 use Rattle.dm_ebinary.proofs.choices.pointer_arms.Goals as goal
 
 pub pointer_to_composite-requires-clause-alike : goal.pointer_to_composite-requires-clause-alike

@@ -4,10 +4,10 @@ use Rattle.std.proofs.Common.{ap₂, sym, ◌∙◌, subst₂}
 use Rattle.dm_type.specs.Alike.{are_compatible, composite}
 use Rattle.dm_type.specs.CTypes.{pointer, is_const}
 use Rattle.dm_typing.specs.Rules.{with_const_if}
-use Rattle.dm_ebinary.proofs.BinaryLemmas.{grows-on}
-use Rattle.dm_ebinary.proofs.ChoiceStepLemmas.{numbers-later}
 use Rattle.dm_typing.proofs.LaterLemmas.{begins-on}
 use Rattle.dm_typing.proofs.ValueLemmas.{bare-later}
+use Rattle.dm_ebinary.proofs.BinaryLemmas.{grows-on}
+use Rattle.dm_ebinary.proofs.ChoiceStepLemmas.{numbers-later}
 use Rattle.dm_ebinary.proofs.choices.pointer_to_composite.Goals as goal
 
 pub composite-requires-clause-compatible : goal.composite-requires-clause-compatible

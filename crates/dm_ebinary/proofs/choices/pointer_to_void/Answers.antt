@@ -3,9 +3,9 @@ use Rattle.std.specs.Prelude.{◌||◌}
 use Rattle.std.proofs.Common.{ap₂, sym, ◌∙◌}
 use Rattle.dm_type.specs.CTypes.{pointer, is_const}
 use Rattle.dm_typing.specs.Rules.{with_const_if}
+use Rattle.dm_typing.proofs.LaterLemmas.{begins-on}
 use Rattle.dm_ebinary.proofs.BinaryLemmas.{grows-on}
 use Rattle.dm_ebinary.proofs.ChoiceStepLemmas.{numbers-later}
-use Rattle.dm_typing.proofs.LaterLemmas.{begins-on}
 use Rattle.dm_ebinary.proofs.choices.pointer_to_void.Goals as goal
 
 pub returns-clause-number : goal.returns-clause-number

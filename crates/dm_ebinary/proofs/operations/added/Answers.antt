@@ -3,8 +3,8 @@ use Rattle.std.specs.Prelude.{Some, option_map}
 use Rattle.std.proofs.Common.{ap, sym, ◌∙◌}
 use Rattle.dm_typing.specs.Views.{view_over, known_over}
 use Rattle.dm_typing.specs.Rules.{pair}
-use Rattle.dm_ebinary.proofs.BinaryLemmas.{sum-as-subscript}
 use Rattle.dm_typing.proofs.RuleSteps.{index-later, index-none}
+use Rattle.dm_ebinary.proofs.BinaryLemmas.{sum-as-subscript}
 use Rattle.dm_ebinary.proofs.operations.added.Goals as goal
 
 pub returns-in-Some-clause-way : goal.returns-in-Some-clause-way

@@ -1,7 +1,7 @@
 -- By which of the two is converted.
 use Rattle.std.proofs.Common.{ap, sym, ◌∙◌, subst}
-use Rattle.dm_ebinary.specs.Pairs.{pair_by, IsWay}
 use Rattle.dm_typing.specs.Views.{view_over}
+use Rattle.dm_ebinary.specs.Pairs.{pair_by, IsWay}
 use Rattle.dm_ebinary.proofs.BinaryLemmas.{compared-so, compared-numbered}
 use Rattle.dm_ebinary.proofs.operations.compared.Goals as goal
 

@@ -1,10 +1,10 @@
 -- One of the two is brought to the type of the other, if they may be compared.
 use Rattle.std.specs.Prelude.{Some, option_map}
 use Rattle.std.proofs.Common.{ap, sym, ◌∙◌}
-use Rattle.dm_ebinary.specs.Pairs.{equated_by}
 use Rattle.dm_typing.specs.Views.{view_over, known_over}
-use Rattle.dm_ebinary.proofs.BinaryLemmas.{equated-brought}
+use Rattle.dm_ebinary.specs.Pairs.{equated_by}
 use Rattle.dm_typing.proofs.LaterLemmas.{begins-on}
+use Rattle.dm_ebinary.proofs.BinaryLemmas.{equated-brought}
 use Rattle.dm_ebinary.proofs.operations.equated.Goals as goal
 
 pub returns-in_ok-way-in-Some-clause-way : goal.returns-in_ok-way-in-Some-clause-way

@@ -1,7 +1,7 @@
 -- By what the operator may do with such operands.
 use Rattle.std.proofs.Common.{ap, sym, ◌∙◌}
-use Rattle.dm_ebinary.specs.Pairs.{by_family}
 use Rattle.dm_typing.specs.Views.{view_over, known_over}
+use Rattle.dm_ebinary.specs.Pairs.{by_family}
 use Rattle.dm_ebinary.proofs.BinaryLemmas.{families-decide}
 use Rattle.dm_ebinary.proofs.operations.of_others.Goals as goal
 

@@ -1,9 +1,9 @@
 -- By the kinds of the operands.
 use Rattle.std.specs.Prelude.{Some, None}
 use Rattle.std.proofs.Common.{ap, ◌∙◌}
-use Rattle.dm_ebinary.proofs.BinaryLemmas.{by-kinds-later}
 use Rattle.dm_typing.specs.Views.{view_over}
 use Rattle.dm_typing.proofs.LaterLemmas.{begins-on}
+use Rattle.dm_ebinary.proofs.BinaryLemmas.{by-kinds-later}
 use Rattle.dm_ebinary.proofs.operations.operated.Goals as goal
 
 pub returns-in_ok-way-in-Some-clause-way : goal.returns-in_ok-way-in-Some-clause-way

@@ -1,9 +1,9 @@
 -- Pointers to compatible types.
 use Rattle.std.specs.Prelude.{Some, true, false}
 use Rattle.std.proofs.Common.{ap, sym, ◌∙◌}
-use Rattle.dm_ebinary.proofs.BinaryLemmas.{ordered-later}
 use Rattle.dm_typing.specs.Views.{view_over}
 use Rattle.dm_typing.proofs.LaterLemmas.{begins-on}
+use Rattle.dm_ebinary.proofs.BinaryLemmas.{ordered-later}
 use Rattle.dm_ebinary.proofs.operations.ordered.Goals as goal
 
 pub returns-then-not-point_alike-clause-way : goal.returns-then-not-point_alike-clause-way

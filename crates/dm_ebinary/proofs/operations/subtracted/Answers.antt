@@ -3,9 +3,9 @@ use Rattle.std.specs.Prelude.{Some, true, false, []}
 use Rattle.std.proofs.Common.{ap, sym, ◌∙◌}
 use Rattle.dm_typing.specs.Rules.{pair}
 use Rattle.dm_typing.specs.Views.{view_over}
-use Rattle.dm_ebinary.proofs.BinaryLemmas.{difference-moves, difference-apart}
 use Rattle.dm_typing.proofs.LaterLemmas.{begins-on}
 use Rattle.dm_typing.proofs.ValueLemmas.{kind-view}
+use Rattle.dm_ebinary.proofs.BinaryLemmas.{difference-moves, difference-apart}
 use Rattle.dm_ebinary.proofs.operations.subtracted.Goals as goal
 
 pub returns-then-moves_by-clause-way : goal.returns-then-moves_by-clause-way

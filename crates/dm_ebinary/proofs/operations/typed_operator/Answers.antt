@@ -5,9 +5,9 @@ use Rattle.dm_tree.specs.declared.tree.Core.{Core}
 use Rattle.dm_typing.specs.Known.{broken}
 use Rattle.dm_typing.specs.Rules.{operated, rule_of}
 use Rattle.dm_typing.specs.Views.{view_over, known_over, source_of}
+use Rattle.dm_ebinary.specs.Pairs.{pair_by, IsWay}
 use Rattle.dm_typing.proofs.GivesLemmas.{found-it, found-none, refused, given-so, grown}
 use Rattle.dm_typing.proofs.LaterLemmas.{known-later}
-use Rattle.dm_ebinary.specs.Pairs.{pair_by, IsWay}
 use Rattle.dm_ebinary.proofs.operations.typed_operator.Goals as goal
 
 pub joined-requires-clause-left : goal.joined-requires-clause-left
