@@ -1,0 +1,5 @@
+pub mod AccessLemmas
+pub mod BlockLemmas
+pub mod ChangedLemmas
+pub mod ClosedLemmas
+pub mod ValueLemmas

@@ -1,0 +1,11 @@
+pub mod Orders
+pub mod Integers
+pub mod Sooner
+pub mod Parts
+pub mod Paths
+pub mod Places
+pub mod Views
+pub mod Fields
+pub mod LaidOut
+pub mod Blocks
+pub mod Closed
