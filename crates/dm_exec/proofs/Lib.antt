@@ -2,4 +2,6 @@ pub mod AccessLemmas
 pub mod BlockLemmas
 pub mod ChangedLemmas
 pub mod ClosedLemmas
+pub mod FieldLemmas
+pub mod MoveLemmas
 pub mod ValueLemmas

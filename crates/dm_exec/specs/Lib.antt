@@ -9,3 +9,7 @@ pub mod Fields
 pub mod LaidOut
 pub mod Blocks
 pub mod Closed
+pub mod Kinds
+pub mod Moves
+pub mod Outcomes
+pub mod Truths

@@ -1,15 +1,18 @@
 //! What paths lead to in objects of the program's types (6.2.5p20, 6.7.2.1).
 
-ghost use Rattle.std.specs.Prelude.{◌≡◌, map};
+ghost use Rattle.std.specs.Prelude.{◌≡◌, IfOk, map};
 ghost use Rattle.dm_type.specs.CTypes as ctypes;
 ghost use Rattle.dm_type.specs.Tables.{Has, IsId, type_of};
 ghost use Rattle.dm_meaning.specs.Objects as objects;
+ghost use Rattle.dm_exec.specs.Kinds.{type_or_void, IsIdOrVoid};
 ghost use Rattle.dm_exec.specs.Parts.{view_of_part};
 ghost use Rattle.dm_exec.specs.LaidOut.{laid_out, view_of_element, view_of_reached, IsKnown, IsKnownElement};
 
+use crate::fields::fields;
 use crate::path::Part;
-use dm_token::List;
+use dm_token::{List, Memory};
 use dm_type::{Shape, TypeId, Types};
+use std::alloc::Global;
 use std::marker::Model;
 
 /// A member of a struct: its type, and its first byte.
@@ -67,6 +70,23 @@ pub enum Reached {
 }
 
 impl<'a> Layout<'a> {
+    /// How these types are laid out.
+    pub fn of(alloc: Global, types: &'a Types) -> Result<Layout<'a>, Memory>
+        ensures { IfOk result (λ layout. layout ≡ types.now) }
+    {
+        let mut all = Vec::new(alloc);
+        for number in 0..types.struct_count() {
+            let Ok(structure) = u32::try_from(number) else {
+                return Err(Memory);
+            };
+            all.push(fields(alloc, types, structure)?)?;
+        }
+        Ok(Layout {
+            types,
+            fields: List::from_vec(all),
+        })
+    }
+
     /// The types themselves.
     pub fn types(&self) -> &'a Types
         ensures { result.now ≡ self.now }
@@ -104,6 +124,29 @@ impl<'a> Layout<'a> {
         match fields.items().get(number as usize) {
             Some(field) => Element::Of(field.kind),
             None => Element::Foreign,
+        }
+    }
+
+    /// The type of a member of a struct, where it has one of this number.
+    pub(crate) fn member_kind(&self, structure: u32, number: u32) -> Option<TypeId>
+        ensures kind { type_or_void self.now result ≡ objects.inner_type (laid_out self.now) (ctypes.struct structure) number }
+        ensures known { IsIdOrVoid self.now result }
+    {
+        let fields = self.fields.items().get(structure as usize)?;
+        let field = fields.items().get(number as usize)?;
+        Some(field.kind)
+    }
+
+    /// The first byte of a member of a struct, where it has one of this number.
+    pub(crate) fn member_offset(&self, structure: u32, number: u32) -> u64
+        ensures { result ≡ objects.offset_of (laid_out self.now) (ctypes.struct structure) number }
+    {
+        let Some(fields) = self.fields.items().get(structure as usize) else {
+            return 0;
+        };
+        match fields.items().get(number as usize) {
+            Some(field) => field.offset,
+            None => 0,
         }
     }
 

@@ -1,26 +1,37 @@
 //! Runs of the abstract machine that `dm_meaning` defines (ISO/IEC 9899:2011, 5.1.2.3). What is here so far: the orders in which
-//! a run may take its steps, and what operators do with integers.
+//! a run may take its steps, what operators do with integers, values and places, the objects of a run, why accesses to them are
+//! undefined, and where pointers may move.
 #![tactic(auto)]
 
 mod access;
 mod arithmetic;
 mod blocks;
+mod bytes;
 mod causes;
+mod fields;
 mod integer;
 mod items;
 mod layout;
 mod literal;
+mod moves;
 mod order;
+mod outcome;
 mod parts;
 mod path;
 mod place;
+mod uses;
 mod value;
 
+pub use access::{to_read, to_store, to_update};
 pub use arithmetic::{converted, counted, operated, signed, updated};
 pub use blocks::{Block, Blocks};
+pub use bytes::byte_of;
 pub use integer::Integer;
 pub use layout::{Element, Field, Layout, Reached};
+pub use moves::{Tail, moved};
 pub use order::Choices;
+pub use outcome::{Outcome, Turn};
 pub use path::{Part, Path};
 pub use place::{At, Name};
+pub use uses::{to_follow, to_order, to_use, truth};
 pub use value::{Pointer, Value};
