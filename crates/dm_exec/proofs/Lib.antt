@@ -2,6 +2,7 @@ pub mod AccessLemmas
 pub mod BlockLemmas
 pub mod ChangedLemmas
 pub mod ClosedLemmas
+pub mod DistanceLemmas
 pub mod FieldLemmas
 pub mod MoveLemmas
 pub mod ValueLemmas

@@ -13,3 +13,4 @@ pub mod Kinds
 pub mod Moves
 pub mod Outcomes
 pub mod Truths
+pub mod Distances

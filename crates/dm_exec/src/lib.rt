@@ -4,6 +4,7 @@
 #![tactic(auto)]
 
 mod access;
+mod apart;
 mod arithmetic;
 mod blocks;
 mod bytes;
@@ -23,6 +24,7 @@ mod uses;
 mod value;
 
 pub use access::{to_read, to_store, to_update};
+pub use apart::distance;
 pub use arithmetic::{converted, counted, operated, signed, updated};
 pub use blocks::{Block, Blocks};
 pub use bytes::byte_of;

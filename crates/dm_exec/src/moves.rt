@@ -37,7 +37,7 @@ fn up_to(greatest: u64, number: i128) -> Option<u64>
 }
 
 /// Whether the elements of an array are such as the target of a pointer, const apart. No type stands for void.
-fn is_target(layout: &Layout, element: &Option<TypeId>, target: TypeId) -> bool
+pub(crate) fn is_target(layout: &Layout, element: &Option<TypeId>, target: TypeId) -> bool
     requires element { IsIdOrVoid layout.now element.now }
     requires target { IsId layout.now target }
     ensures { result ≡ are_compatible (ctypes.bare (type_or_void layout.now element.now)) (ctypes.bare (type_of layout.now target)) }
@@ -127,7 +127,7 @@ fn is_last_element(layout: &Layout, whole: &Option<TypeId>, rest: &[Part]) -> bo
     is_array(layout, whole) && rest.is_empty()
 }
 
-fn is_array(layout: &Layout, whole: &Option<TypeId>) -> bool
+pub(crate) fn is_array(layout: &Layout, whole: &Option<TypeId>) -> bool
     requires { IsIdOrVoid layout.now whole.now }
     ensures { result ≡ objects.is_array (type_or_void layout.now whole.now) }
 {
