@@ -1,9 +1,6 @@
 //! Why an access to an object may be undefined (6.3.2.1p2, 6.5p2, 6.5p7, 6.2.4p2, 6.7.3p6).
 
 ghost use Rattle.std.specs.Prelude.{◌≡◌, ◌+◌, ◌||◌, ◌&&◌, ◌++◌, not, Some, All, map};
-ghost use Rattle.dm_int.specs.declared.Kind.TheVariants.{Char};
-ghost use Rattle.dm_type.specs.Alike.{are_compatible};
-ghost use Rattle.dm_type.specs.CTypes as ctypes;
 ghost use Rattle.dm_type.specs.Tables.{IsId, Table, type_of};
 ghost use Rattle.dm_meaning.specs.declared.cause.Cause.TheVariants.{Bounds, Conflict, Const, OtherType, Unset};
 ghost use Rattle.dm_meaning.specs.Causes as table;
@@ -15,12 +12,12 @@ ghost use Rattle.dm_exec.specs.Places.{view_of_at, view_of_name};
 
 use crate::blocks::Blocks;
 use crate::causes::{sooner, when};
+use crate::kinds::{is_char, is_text};
 use crate::layout::{Layout, Reached, bare};
 use crate::literal;
 use crate::place::{At, Name};
-use dm_int::Kind;
 use dm_meaning::Cause;
-use dm_type::{Shape, TypeId, Types};
+use dm_type::TypeId;
 
 /// What a place is.
 fn reached_at(layout: &Layout, blocks: &Blocks, at: &At) -> Reached
@@ -81,29 +78,6 @@ fn is_other(layout: &Layout, access: TypeId, reached: &Reached) -> bool
         Reached::Character => !is_char(types, bare(types, access)),
         Reached::Foreign => true,
         Reached::Outside | Reached::Unknown => false,
-    }
-}
-
-/// Whether a type is compatible with that of the array of a string literal.
-fn is_text(types: &Types, id: TypeId, length: u64) -> bool
-    requires { IsId types.now id }
-    ensures { result ≡ are_compatible (ctypes.array (ctypes.integer Char) (Some length)) (type_of types.now id) }
-{
-    match types.shape(id) {
-        Shape::Array(inner, Some(count)) => length == *count && is_char(types, *inner),
-        Shape::Array(inner, None) => is_char(types, *inner),
-        _ => false,
-    }
-}
-
-/// Whether a type is char.
-fn is_char(types: &Types, id: TypeId) -> bool
-    requires { IsId types.now id }
-    ensures { result ≡ are_compatible (ctypes.integer Char) (type_of types.now id) }
-{
-    match types.shape(id) {
-        Shape::Integer(Kind::Char) => true,
-        _ => false,
     }
 }
 

@@ -4,11 +4,12 @@ ghost use Rattle.std.specs.Prelude.{◌≡◌, IfOk, map};
 ghost use Rattle.dm_type.specs.CTypes as ctypes;
 ghost use Rattle.dm_type.specs.Tables.{Has, IsId, type_of};
 ghost use Rattle.dm_meaning.specs.Objects as objects;
-ghost use Rattle.dm_exec.specs.Kinds.{type_or_void, IsIdOrVoid};
+ghost use Rattle.dm_exec.specs.Kinds.{type_of_object, IsKnownType};
 ghost use Rattle.dm_exec.specs.Parts.{view_of_part};
 ghost use Rattle.dm_exec.specs.LaidOut.{laid_out, view_of_element, view_of_reached, IsKnown, IsKnownElement};
 
 use crate::fields::fields;
+use crate::kinds::ObjectType;
 use crate::path::Part;
 use dm_token::{List, Memory};
 use dm_type::{Shape, TypeId, Types};
@@ -128,13 +129,17 @@ impl<'a> Layout<'a> {
     }
 
     /// The type of a member of a struct, where it has one of this number.
-    pub(crate) fn member_kind(&self, structure: u32, number: u32) -> Option<TypeId>
-        ensures kind { type_or_void self.now result ≡ objects.inner_type (laid_out self.now) (ctypes.struct structure) number }
-        ensures known { IsIdOrVoid self.now result }
+    pub(crate) fn member_kind(&self, structure: u32, number: u32) -> ObjectType
+        ensures kind { type_of_object self.now result ≡ objects.inner_type (laid_out self.now) (ctypes.struct structure) number }
+        ensures known { IsKnownType self.now result }
     {
-        let fields = self.fields.items().get(structure as usize)?;
-        let field = fields.items().get(number as usize)?;
-        Some(field.kind)
+        let Some(fields) = self.fields.items().get(structure as usize) else {
+            return ObjectType::Void;
+        };
+        match fields.items().get(number as usize) {
+            Some(field) => ObjectType::Known(field.kind),
+            None => ObjectType::Void,
+        }
     }
 
     /// The first byte of a member of a struct, where it has one of this number.
