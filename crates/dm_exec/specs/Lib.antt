@@ -14,3 +14,4 @@ pub mod Moves
 pub mod Outcomes
 pub mod Truths
 pub mod Distances
+pub mod Named

@@ -21,6 +21,7 @@ mod outcome;
 mod parts;
 mod path;
 mod place;
+mod pointers;
 mod uses;
 mod value;
 
@@ -37,5 +38,6 @@ pub use order::Choices;
 pub use outcome::{Outcome, Turn};
 pub use path::{Part, Path};
 pub use place::{At, Name};
+pub use pointers::{byte_at, distance_at, moved_pointer, to_move};
 pub use uses::{to_follow, to_order, to_use, truth};
 pub use value::{Pointer, Value};
