@@ -41,3 +41,6 @@ pub use place::{At, Name};
 pub use pointers::{byte_at, distance_at, moved_pointer, to_move};
 pub use uses::{to_follow, to_order, to_use, truth};
 pub use value::{Pointer, Value};
+
+#[cfg(test)]
+mod tests;
