@@ -24,3 +24,4 @@ pub mod LaterLemmas
 pub mod ValueLemmas
 pub mod GivesLemmas
 pub mod RuleSteps
+pub mod BoundLemmas

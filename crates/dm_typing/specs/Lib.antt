@@ -7,4 +7,5 @@ pub mod Typing
 pub mod Sound
 pub mod Examples
 pub mod Fitting
+pub mod Bounds
 pub mod Views

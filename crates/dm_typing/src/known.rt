@@ -1,5 +1,7 @@
 //! What is known at a place of a translation unit.
 
+ghost use Rattle.std.specs.Prelude.{length, reverse};
+ghost use Rattle.dm_typing.specs.Bounds.{AreBelow, AreOpen};
 ghost use Rattle.dm_typing.specs.Fitting.{HaveTypes, AreNumbered};
 
 use dm_scope::Scopes;
@@ -19,4 +21,6 @@ pub struct Known {
     pub constants: List<Core>,
     ghost entries: { HaveTypes types declared },
     ghost trees: { AreNumbered types constants },
+    ghost numbers: { AreBelow (length declared) scopes },
+    ghost unfinished: { AreOpen types (reverse begun.items) },
 }
