@@ -1,7 +1,7 @@
 -- What holds of the scopes at a place, and of the structs whose members are being read there.
 --     AreBelow count scopes      the numbers of declarations in the scopes are below the count
 --     AreOpen types begun      none of these structs has its members, and none stands there twice
-use Rattle.std.specs.Prelude.{◌≡◌, ℕ, ◌<◌, false, List, [], ◌∷◌, length, Some, None, All}
+use Rattle.std.specs.Prelude.{◌≡◌, ℕ, ◌<◌, Bool, true, ◌&&◌, not, IsTrue, List, [], ◌∷◌, length, Some, None, All}
 use Rattle.std.specs.FinMap as map
 use Rattle.dm_type.specs.Tables.{Table, members_of}
 use Rattle.dm_scope.specs.Scopes.{Numbers, Scopes}
@@ -14,7 +14,14 @@ IsBelow count scope = (name : List ℕ) (number : ℕ) → map.get scope name �
 abbrev pub AreBelow : ℕ → Scopes → Type 0
 AreBelow count scopes = All (IsBelow count) scopes
 
--- none of these structs has its members, and none stands there twice
+-- there is this struct, and it hasn't its members
+abbrev pub IsUnset : Table → ℕ → Type 0
+IsUnset types number = (number < length types.structs) × (members_of types number ≡ None)
+
+-- none stands there twice
+abbrev pub are_apart : List ℕ → Bool
+are_apart [] = true
+are_apart (number ∷ others) = not (is_among number others) && are_apart others
+
 abbrev pub AreOpen : Table → List ℕ → Type 0
-AreOpen types [] = Unit {0}
-AreOpen types (number ∷ outer) = (number < length types.structs) × (members_of types number ≡ None) × (is_among number outer ≡ false) × AreOpen types outer
+AreOpen types begun = All (IsUnset types) begun × IsTrue (are_apart begun)
