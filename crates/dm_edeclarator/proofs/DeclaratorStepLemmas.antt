@@ -109,9 +109,6 @@ array-fits known type n size h = go (layout_of known.types type) h
 pub array-known : (known : Known) (type : CType) (n size : ℕ) → Some size ≡ size_of known.types type → n * size ≤ greatest_size → (is_complete known type && length_fits known type (Some n)) ≡ true
 array-known known type n size h few = array-fits known type n size (sym h) ∙ le-leb (n * size) greatest_size few
 
-pub array-incomplete : (known : Known) (type : CType) (n : ℕ) → size_of known.types type ≡ None → (is_complete known type && length_fits known type (Some n)) ≡ false
-array-incomplete known type n h = ap (λ (found : Option ℕ). is_some found && length_fits known type (Some n)) h
-
 -- tests of types, whatever numbers come
 pub fits-later : (later : List Shape) (held : Held) (one other : CType) (n : ℕ) → one ≡ other
     → (is_complete (known_over later held) one && length_fits (known_over later held) one (Some n)) ≡ (is_complete (seen held) other && length_fits (seen held) other (Some n))

@@ -1,5 +1,5 @@
 -- Numbers that stay numbered when more types are.
-use Rattle.std.specs.Prelude.{◌≡◌, ℕ, List, [], ◌∷◌, ◌++◌, length, All, Option, Some, None, IfSome, Result, Ok, Err, IfOk, OnOk, OnErr}
+use Rattle.std.specs.Prelude.{◌≡◌, ℕ, List, [], ◌∷◌, ◌++◌, length, All, Result, Ok, Err, IfOk, OnOk, OnErr}
 use Rattle.std.proofs.Common.{arith, sym, subst, length-append}
 use Rattle.std.proofs.Math.Seq.{get_or-append_seam}
 use Rattle.std.proofs.lemmas.List.{get_or_append_left}
@@ -8,9 +8,8 @@ use Rattle.dm_edeclarator.specs.declared.declarators.PlacedStep.{PlacedStep}
 use Rattle.dm_edeclarator.specs.declared.declarators.Step.{Step}
 use Rattle.dm_edeclarator.specs.declared.declarators.Step.TheVariants as step
 use Rattle.dm_edeclarator.specs.declared.declarators.TypedParameter.{TypedParameter}
-use Rattle.dm_edeclarator.specs.declared.fields.Fields.{Fields}
 use Rattle.dm_edeclarator.specs.declared.specifiers.Said.{Said}
-use Rattle.dm_edeclarator.specs.Steps.{SaidFits, ParametersFit, FitsIn, StepsFit, FieldsFit, Anything}
+use Rattle.dm_edeclarator.specs.Steps.{SaidFits, ParametersFit, FitsIn, StepsFit, Anything}
 use Rattle.dm_typing.specs.Views.{Begins}
 use Rattle.dm_typing.proofs.LaterLemmas.{begins-length}
 
@@ -18,17 +17,11 @@ module _ (old new : Table) where
   pub id-later : (id : ℕ) → Begins old.shapes new.shapes → IsId old id → IsId new id
   id-later id more inside = let le = begins-length old.shapes new.shapes more in omega (arith, le, inside)
 
-  pub ids-later : (ids : List ℕ) → Begins old.shapes new.shapes → All (IsId old) ids → All (IsId new) ids
-  ids-later ids more all k d inside = id-later _ more (all k d inside)
-
   pub said-later : (said : Said) → Begins old.shapes new.shapes → SaidFits old said → SaidFits new said
   said-later said more fits k d inside = id-later _ more (fits k d inside)
 
   pub parameters-later : (parameters : List TypedParameter) → Begins old.shapes new.shapes → ParametersFit old parameters → ParametersFit new parameters
   parameters-later parameters more fit k d inside = id-later _ more (fit k d inside)
-
-  pub fields-later : (fields : Fields) → Begins old.shapes new.shapes → FieldsFit old fields → FieldsFit new fields
-  fields-later fields more fit k d inside = id-later _ more (fit k d inside)
 
   step-later : (one : Step) → Begins old.shapes new.shapes → FitsIn old one → FitsIn new one
   step-later (step.Pointing const) more fits = fits
@@ -37,10 +30,6 @@ module _ (old new : Table) where
 
   pub steps-later : (steps : List PlacedStep) → Begins old.shapes new.shapes → StepsFit old steps → StepsFit new steps
   steps-later steps more fit k d inside = step-later _ more (fit k d inside)
-
-  pub found-later : (found : Option ℕ) → Begins old.shapes new.shapes → IfSome found (IsId old) → IfSome found (IsId new)
-  found-later None more fits = tt
-  found-later (Some id) more fits = id-later id more fits
 
 pub anything-if-ok : {A E : Type 0} (types : Table) (result : Result A E) → IfOk result (Anything types)
 anything-if-ok types (Ok it) = tt

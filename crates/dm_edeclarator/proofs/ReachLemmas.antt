@@ -1,5 +1,5 @@
 -- How the steps of the code come to what the definition comes to: what is left to type where the code stands, and what each call leaves.
-use Rattle.std.specs.Prelude.{◌≡◌, ℕ, List, Result, Ok, Err, IfOk, IsErrAnd, refl}
+use Rattle.std.specs.Prelude.{◌≡◌, ℕ, List, Result, Ok, Err, IsErrAnd, refl}
 use Rattle.std.proofs.Common.{sym, ap, ◌∙◌, subst}
 use Rattle.dm_token.specs.declared.stop.Stop.{Stop}
 use Rattle.dm_token.specs.declared.stop.Stop.TheVariants as stop
@@ -119,11 +119,6 @@ module _ {C D : Type 0} (Fits : Table → C → Type 0) (seen : List Shape → C
   -- no memory
   pub starves : (fault : Stop) → Begins old.types.shapes new.types.shapes → fault ≡ stop.Memory → Follows Fits seen source old new (Err fault) whole
   starves fault more same = subst (λ s. Follows Fits seen source old new (Err s) whole) (sym same) (record { shapes = more; numbered = tt; gives = λ later on. tt })
-
--- a step that numbers types alone
-pub grows-so : {C D : Type 0} (Fits : Table → C → Type 0) (seen : List Shape → C → D) (source : Source) (old new : Held) (result : Result C Stop) (outcome : List Shape → Outcome D) → Grows old new
-    → IfOk result (Fits new.types) → ((later : List Shape) → Begins new.types.shapes later → Gives (seen later) source (known_over later new) result (outcome later)) → Follows Fits seen source old new result outcome
-grows-so Fits seen source old new result outcome g numbered gives = record { shapes = g.shapes; numbered = numbered; gives = gives }
 
 -- ---- faults that are handed on
 

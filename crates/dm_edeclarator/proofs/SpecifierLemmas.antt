@@ -1,11 +1,11 @@
 -- Steps through lists of specifiers.
 use Rattle.std.specs.Prelude.{◌≡◌, ℕ, zero, suc, ◌+◌, ◌<◌, ◌≤◌, Bool, true, false, if◌then◌else◌, List, [], ◌∷◌, length, map, drop, slice_get, Option, Some, None, option_map, refl}
-use Rattle.std.proofs.Common.{sym, ap, ◌∙◌, arith, get_or}
+use Rattle.std.proofs.Common.{ap, ◌∙◌, arith}
 use Rattle.dm_type.specs.declared.shape.Shape.{Shape}
 use Rattle.dm_type.specs.CTypes.{CType, function, with_const}
 use Rattle.dm_tree.specs.Scenes.{is_function}
 use Rattle.dm_typing.specs.Known.{Outcome, if_given}
-use Rattle.dm_typing.specs.Specifiers.{Row, sets, are_words, type_among, one_type, is_empty, with_said_const}
+use Rattle.dm_typing.specs.Specifiers.{Row, sets, are_words, type_among, one_type, with_said_const}
 use Rattle.dm_typing.specs.Views.{type_over}
 
 -- ---- const
@@ -56,37 +56,15 @@ rows-past (first ∷ rows) (suc n) h = rows-past rows n (omega (arith, h))
 
 -- ---- the type that is said
 
-nothing-in : (words : List ℕ) → is_empty words ≡ true → words ≡ []
-nothing-in [] h = refl
-nothing-in (word ∷ words) h = absurd (cc)
-
 pub said-none : (later : List Shape) (words ids : List ℕ) → length ids < 1 → one_type words (map (type_over later) ids) ≡ type_among words sets
 said-none later words [] few = refl
 said-none later words (id ∷ ids) few = absurd (omega (arith, few))
-
-pub said-one : (later : List Shape) (words ids : List ℕ) (only : ℕ) → 1 ≤ length ids → length ids < 2 → only ≡ get_or ids 0 only → is_empty words ≡ true
-    → one_type words (map (type_over later) ids) ≡ Some (type_over later only)
-said-one later words [] only some few is none = absurd (omega (arith, some))
-said-one later words (id ∷ []) only some few is none =
-    ap (λ ws. one_type ws (type_over later id ∷ [])) (nothing-in words none) ∙ ap (λ n. Some (type_over later n)) (sym is)
-said-one later words (id ∷ other ∷ ids) only some few is none = absurd (omega (arith, few))
-
-pub said-mixed : (later : List Shape) (words ids : List ℕ) → 1 ≤ length ids → is_empty words ≡ false → one_type words (map (type_over later) ids) ≡ None
-said-mixed later words [] some h = absurd (omega (arith, some))
-said-mixed later [] (id ∷ ids) some h = absurd (cc)
-said-mixed later (word ∷ words) (id ∷ ids) some h = refl
 
 pub said-many : (later : List Shape) (words ids : List ℕ) → 2 ≤ length ids → one_type words (map (type_over later) ids) ≡ None
 said-many later words [] some = absurd (omega (arith, some))
 said-many later words (id ∷ []) some = absurd (omega (arith, some))
 said-many later [] (id ∷ other ∷ ids) some = refl
 said-many later (word ∷ words) (id ∷ other ∷ ids) some = refl
-
--- a type among specifiers, with the type words beside it
-pub said-lone : (later : List Shape) (words ids : List ℕ) (only : ℕ) → 1 ≤ length ids → length ids < 2 → only ≡ get_or ids 0 only
-    → one_type words (map (type_over later) ids) ≡ option_map (type_over later) (if is_empty words then Some only else None)
-said-lone later [] ids only some few is = said-one later [] ids only some few is refl
-said-lone later (word ∷ words) ids only some few is = said-mixed later (word ∷ words) ids some refl
 
 -- ---- what is found by its type
 

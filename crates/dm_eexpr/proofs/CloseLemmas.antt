@@ -87,22 +87,6 @@ module _ (typer : Typer) (used : Bool) (parameters : Parameters) (old inside beh
   entered-is : (later : List Shape) → entered (known_over later old) ≡ known_over later inside
   entered-is later = sym (enters later old inside opens one)
 
-  left-fault : (fault : Stop) (later : List Shape) (outcome : Outcome (List TypedParameter)) → Gives (parameters_over later) (source_of typer) (known_over later behind) (Err fault) outcome
-      → Gives (parameters_over later) (source_of typer) (known_over later behind) (Err fault) (left (known_over later old).scopes outcome)
-  left-fault stop.Memory later outcome g = tt
-  left-fault (stop.Refused refusal) later outcome g = (g.0, g.1, ap (left (known_over later old).scopes) g.2, g.3)
-  left-fault (stop.Limit limit) later outcome g = absurd g
-  left-fault (stop.ReadFault file) later outcome g = absurd g
-
-  pub left-fails : (fault : Stop) → Follows ParametersFit parameters_over (source_of typer) inside behind (Err fault) (λ later. all-of (known_over later inside))
-      → Follows ParametersFit parameters_over (source_of typer) old behind (Err fault) left-whole
-  left-fails fault f = record {
-    shapes = entered-shapes f.shapes;
-    numbered = tt;
-    gives = λ later on. subst (λ known. Gives (parameters_over later) (source_of typer) (known_over later behind) (Err fault) (left (known_over later old).scopes (all-of known))) (sym (entered-is later))
-        (left-fault fault later (all-of (known_over later inside)) (f.gives later on));
-  }
-
   module _ (typed : List ParameterHeld) (f : Follows ParametersFit parameters_over (source_of typer) inside behind (Ok typed) (λ later. all-of (known_over later inside))) where
     pub outer-stays : drop 1 behind.scopes ≡ old.scopes
     outer-stays =

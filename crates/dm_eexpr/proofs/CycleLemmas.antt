@@ -14,7 +14,7 @@ use Rattle.dm_typing.specs.Fitting.{IsNumbered}
 use Rattle.dm_edeclarator.specs.Steps.{Follows}
 use Rattle.dm_eexpr.specs.Parts.{valued}
 use Rattle.dm_typing.specs.Views.{Begins, view_over, known_over, Grows}
-use Rattle.dm_edeclarator.proofs.ReachLemmas.{begins, says, grows, passes, passes-with, fails, fails-making, ends, done}
+use Rattle.dm_edeclarator.proofs.ReachLemmas.{begins, says, grows, passes, passes-with, fails, ends, done}
 
 -- ---- values
 
@@ -85,11 +85,6 @@ three-valued (given then_known first) two three op = two-valued (two then_known)
 
 -- a tree is typed, and its value taken
 module _ (source : Source) (old now new : Held) (one : List Shape → Outcome Tree) where
-  pub value-fails : (fault : Stop) → Follows IsNumbered view_over source old new (Err fault) one → Follows IsNumbered view_over source old new (Err fault) (λ later. valued (one later))
-  value-fails fault f =
-      fails-making IsNumbered view_over source old old new (λ later. valued (one later)) IsNumbered view_over one (λ later behind tree. as_value tree) fault
-      (begins old (λ later. valued (one later)) (λ later. with_it (one later) (λ behind tree. as_value tree)) (λ later. refl)) f
-
   pub value-made : (tree made : Core) → Follows IsNumbered view_over source old now (Ok tree) one → Grows now new → IsNumbered new.types made
       → ((later : List Shape) → Begins new.types.shapes later → view_over later made ≡ as_value (view_over later tree)) → Follows IsNumbered view_over source old new (Ok made) (λ later. valued (one later))
   value-made tree made f g numbered is =

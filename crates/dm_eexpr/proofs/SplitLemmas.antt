@@ -18,7 +18,7 @@ use Rattle.dm_typing.specs.Known.{Known, Setting, Outcome, given, broken, after,
 use Rattle.dm_typing.specs.Operators.{keyword_at}
 use Rattle.dm_typing.specs.Specifiers.{Said, nothing_said, with_word, with_type, Where, elsewhere}
 use Rattle.dm_edeclarator.specs.Steps.{typedef_said}
-use Rattle.dm_eexpr.specs.Parts.{valued, type_of_specifier, declared_type, typed_with, enumerator_with, sized_steps, array_steps, calling_steps}
+use Rattle.dm_eexpr.specs.Parts.{valued, type_of_specifier, declared_type, typed_with, enumerator_with, array_steps, calling_steps}
 use Rattle.dm_typing.specs.Typing.{named, constant_tree, literal_tree, typed_index, typed_member, typed_arrow, typed_count, typed_prefix, typed_sizeof, typed_sizeof_name, typed_cast, typed_binary, typed_choice, typed_assignment, typed_call, comma_of, TypedName, TypedMember, Step, arraying, pointers, direct_at, derived, typed_parameter, parameter_at, name_ended, typed_said, enumerator_implied, typed, typed_within, typed_values, typed_name, typed_specifiers, words_said, word_said, fields_declared, fields_with, enumerator_of, steps_of, direct_steps, parameter_of}
 use Rattle.dm_edeclarator.proofs.ReachLemmas.{after-after}
 use Rattle.dm_eexpr.proofs.CycleLemmas.{after-valued, two-valued, second-valued, three-valued}
@@ -180,10 +180,6 @@ module _ (setting : Setting) (used : Bool) (known : Known) where
   unfolding direct_steps
   enclosed-parts here declarator = refl
 
-  pub array-parts : (here : ℕ) (direct : Direct) → direct_steps setting used known here (tree.array direct) ≡ with_it (direct_steps setting used known here direct) (λ behind steps. arraying here None ∷ steps)
-  unfolding direct_steps
-  array-parts here direct = refl
-
   pub array-view-parts : (here : ℕ) (direct : Direct) (length : Option Expr) → direct_steps setting used known here (view.array_view direct length)
       ≡ after (direct_steps setting used known here direct) (λ behind steps. array_steps setting used behind here steps length)
   unfolding direct_steps
@@ -193,11 +189,6 @@ module _ (setting : Setting) (used : Bool) (known : Known) where
       go (given behind steps) = refl
       go (broken rule at) = refl
   array-view-parts here direct (Some value) = refl
-
-  pub sized-parts : (here : ℕ) (direct : Direct) (value : Expr) → direct_steps setting used known here (tree.sized direct value)
-      ≡ after (direct_steps setting used known here direct) (λ behind steps. sized_steps setting used behind here steps value)
-  unfolding direct_steps
-  sized-parts here direct value = refl
 
   pub function-parts : (here : ℕ) (direct : Direct) (parameters : Parameters) → direct_steps setting used known here (tree.function direct parameters)
       ≡ after (direct_steps setting used known here direct) (λ behind steps. calling_steps setting used behind here steps parameters)

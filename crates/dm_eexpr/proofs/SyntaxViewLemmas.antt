@@ -1,5 +1,5 @@
 -- What the syntax trees of the code stand for, form by form.
-use Rattle.std.specs.Prelude.{◌≡◌, ℕ, Bool, List, map, Option, Some, None, option_map, refl}
+use Rattle.std.specs.Prelude.{◌≡◌, ℕ, Bool, List, map, Option, Some, None, refl}
 use Rattle.std.proofs.Common.{rules, sym, ap, ◌∙◌}
 use Rattle.dm_token.specs.declared.place.Span.{Span}
 use Rattle.dm_syn.specs.declared.expression.Expr.{Expr}
@@ -41,45 +41,6 @@ form-literal span = search (rules, q.the_lemmas)
 
 pub form-paren : (span : Span) (a : Expr) → view.expr_form (form.Paren a) span ≡ tree.paren span (view.expr a)
 form-paren span a = search (rules, q.the_lemmas)
-
-pub form-index : (span : Span) (a b : Expr) → view.expr_form (form.Index a b) span ≡ tree.index span (view.expr a) (view.expr b)
-form-index span a b = search (rules, q.the_lemmas)
-
-pub form-call : (span : Span) (a : Expr) (b : List Expr) → view.expr_form (form.Call a b) span ≡ tree.call span (view.expr a) (view.exprs (map view.expr b))
-form-call span a b = search (rules, q.the_lemmas)
-
-pub form-member : (span : Span) (a : Expr) (name : ℕ) → view.expr_form (form.Member a name) span ≡ tree.member span (view.expr a) name
-form-member span a name = search (rules, q.the_lemmas)
-
-pub form-arrow : (span : Span) (a : Expr) (name : ℕ) → view.expr_form (form.Arrow a name) span ≡ tree.arrow span (view.expr a) name
-form-arrow span a name = search (rules, q.the_lemmas)
-
-pub form-postfix : (span : Span) (a : Expr) (operator : ℕ) → view.expr_form (form.Postfix a operator) span ≡ tree.postfix span (view.expr a) operator
-form-postfix span a operator = search (rules, q.the_lemmas)
-
-pub form-prefix : (span : Span) (operator : ℕ) (a : Expr) → view.expr_form (form.Prefix operator a) span ≡ tree.prefix span operator (view.expr a)
-form-prefix span operator a = search (rules, q.the_lemmas)
-
-pub form-sizeof-expr : (span : Span) (a : Expr) → view.expr_form (form.SizeofExpr a) span ≡ tree.sizeof_expr span (view.expr a)
-form-sizeof-expr span a = search (rules, q.the_lemmas)
-
-pub form-sizeof-name : (span : Span) (a : TypeName) → view.expr_form (form.SizeofName a) span ≡ tree.sizeof_name span (view.type_name a)
-form-sizeof-name span a = search (rules, q.the_lemmas)
-
-pub form-cast : (span : Span) (a : TypeName) (b : Expr) → view.expr_form (form.Cast a b) span ≡ tree.cast span (view.type_name a) (view.expr b)
-form-cast span a b = search (rules, q.the_lemmas)
-
-pub form-binary : (span : Span) (a : Expr) (operator : ℕ) (b : Expr) → view.expr_form (form.Binary a operator b) span ≡ tree.binary span (view.expr a) operator (view.expr b)
-form-binary span a operator b = search (rules, q.the_lemmas)
-
-pub form-conditional : (span : Span) (a b c : Expr) → view.expr_form (form.Conditional a b c) span ≡ tree.conditional span (view.expr a) (view.expr b) (view.expr c)
-form-conditional span a b c = search (rules, q.the_lemmas)
-
-pub form-assign : (span : Span) (a : Expr) (operator : ℕ) (b : Expr) → view.expr_form (form.Assign a operator b) span ≡ tree.assign span (view.expr a) operator (view.expr b)
-form-assign span a operator b = search (rules, q.the_lemmas)
-
-pub form-comma : (span : Span) (a : List Expr) → view.expr_form (form.Comma a) span ≡ tree.comma span (view.exprs (map view.expr a))
-form-comma span a = search (rules, q.the_lemmas)
 
 -- the span of a form
 span-layer : (f : layer.ExprForm-F tree.Direct tree.Specifier (Span → tree.Expr) tree.Declarator tree.Specifier tree.Enumerator tree.Member tree.Parameter tree.Specifiers tree.Specifier tree.TypeName tree.Expr) (span : Span)
@@ -153,15 +114,6 @@ view-declared name = search (rules, q.the_lemmas)
 pub view-enclosed : (a : Declarator) → view.direct (direct.Paren a) ≡ tree.enclosed (view.declarator a)
 view-enclosed a = search (rules, q.the_lemmas)
 
-pub view-array : (a : Direct) → view.direct (direct.Array a None) ≡ tree.array (view.direct a)
-view-array a = search (rules, q.the_lemmas)
-
-pub view-sized : (a : Direct) (b : Expr) → view.direct (direct.Array a (Some b)) ≡ tree.sized (view.direct a) (view.expr b)
-view-sized a b = search (rules, q.the_lemmas)
-
-pub view-function : (a : Direct) (b : List Parameter) → view.direct (direct.Function a b) ≡ tree.function (view.direct a) (view.parameters (map view.parameter b))
-view-function a b = search (rules, q.the_lemmas)
-
 -- ---- structs and enums
 
 struct-alone : (span : Span) (tag : Option ℕ) → view.struct_form (roll-StructForm (record { span = span; tag = tag; members = None })) ≡ tree.struct_only span tag
@@ -230,7 +182,3 @@ view-members one =
     folds.fold_out-MemberForm tree.Direct tree.Specifier (Span → tree.Expr) tree.Declarator tree.Specifier tree.Enumerator tree.Member tree.Parameter tree.Specifiers tree.Specifier tree.TypeName tree.Expr
     view.direct_layer view.specifier_layer view.expr_form_layer view.declarator_layer view.enum_form_layer view.enum_item_layer view.member_form_layer view.parameter_layer view.specifiers_layer
     view.struct_form_layer view.type_name_layer view.expr_layer one
-
-pub view-array-of : (a : Direct) (length : Option Expr) → view.direct (direct.Array a length) ≡ view.array_view (view.direct a) (option_map view.expr length)
-view-array-of a None = view-array a
-view-array-of a (Some value) = view-sized a value

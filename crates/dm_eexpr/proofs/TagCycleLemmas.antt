@@ -1,23 +1,23 @@
--- Structs and enums between where they begin and where they end.
-use Rattle.std.specs.Prelude.{◌≡◌, ℕ, ℤ, negsuc, Bool, not, is_some, List, [], ◌∷◌, reverse, Option, Some, None, option_map, IfSome, Result, Ok, Err, IfOk}
+-- Structs between where they begin and where they end.
+use Rattle.std.specs.Prelude.{◌≡◌, ℕ, Bool, List, [], ◌∷◌, reverse, Option, Some, None, option_map, IfSome, Result, Ok, IfOk}
 use Rattle.std.proofs.Common.{sym, ap, ◌∙◌, subst}
 use Rattle.dm_token.specs.declared.place.Span.{Span}
 use Rattle.dm_token.specs.declared.stop.Stop.{Stop}
 use Rattle.dm_type.specs.declared.shape.Shape.{Shape}
 use Rattle.dm_type.specs.CTypes.{CType}
 use Rattle.dm_type.specs.Tables.{IsId}
-use Rattle.dm_syn.specs.Trees.{Members, Enumerators}
+use Rattle.dm_syn.specs.Trees.{Members}
 use Rattle.dm_edeclarator.specs.declared.fields.Fields.{Fields}
 use Rattle.dm_typing.specs.declared.known.Known.{Known as Held}
 use Rattle.dm_typing.specs.declared.typer.Typer.{Typer}
 use Rattle.dm_typing.specs.Known.{Known, Setting, Outcome, after}
 use Rattle.dm_tree.specs.Units.{Declaration}
 use Rattle.dm_enames.specs.Tags.{struct_at, IsInnermost}
-use Rattle.dm_edeclarator.specs.Steps.{enum_begun_with, enum_ended_with, fields_over, FieldsFit, Anything, number_itself, Follows}
-use Rattle.dm_eexpr.specs.Parts.{begun_with, struct_with, enum_with}
-use Rattle.dm_typing.specs.Typing.{TypedMember, fields_of, enumerators_of, struct_ended, struct_begun, beginning, with_new_struct, tag_inside}
+use Rattle.dm_edeclarator.specs.Steps.{fields_over, FieldsFit, Follows}
+use Rattle.dm_eexpr.specs.Parts.{begun_with, struct_with}
+use Rattle.dm_typing.specs.Typing.{TypedMember, fields_of, struct_ended, struct_begun, beginning, with_new_struct, tag_inside}
 use Rattle.dm_typing.specs.Views.{Begins, type_over, known_over, source_of, setting_of, Gives}
-use Rattle.dm_edeclarator.proofs.ReachLemmas.{Reaches, passes, fails, ends}
+use Rattle.dm_edeclarator.proofs.ReachLemmas.{Reaches, passes, ends}
 use Rattle.dm_eexpr.proofs.KeepLemmas.{KeepsIn, fields-keep}
 use Rattle.dm_typing.proofs.LaterLemmas.{begins-itself, begins-on, type-later}
 use Rattle.dm_eexpr.proofs.CloseLemmas.{new-begun}
@@ -59,9 +59,6 @@ module _ (typer : Typer) (used : Bool) (span : Span) (tag : Option ℕ) (members
     is = λ later on. ap (λ k. after (fields_of (setting_of typer) used k [] members) (struct-next later)) (sym (known later on));
   }
 
-  pub struct-fails : (fault : Stop) → Follows FieldsFit fields_over (source_of typer) begun behind (Err fault) fields-in → Follows IsId type_over (source_of typer) old behind (Err fault) struct-whole
-  struct-fails fault f = fails FieldsFit fields_over (source_of typer) old begun behind struct-whole IsId type_over fields-in struct-next fault struct-reaches f
-
   module _ (fields : Fields) (f : Follows FieldsFit fields_over (source_of typer) begun behind (Ok fields) fields-in) where
     -- the structs whose members are being read are the same behind the members
     still-begun : (later : List Shape) → Begins behind.types.shapes later → reverse behind.begun.items ≡ reverse begun.begun.items
@@ -94,33 +91,3 @@ module _ (typer : Typer) (used : Bool) (span : Span) (tag : Option ℕ) (members
               let on_behind = subst (λ shapes. Begins shapes later) same on in
               gives later on (number-in later) (known_over later old).begun (kind later (begins-on begun.types.shapes behind.types.shapes later f.shapes on_behind)) (outer-begun later on_behind);
         })
-
-module _ (typer : Typer) (used : Bool) (span : Span) (tag : Option ℕ) (enumerators : Enumerators) (old begun behind : Held) (is_new : Bool) (shapes : Begins old.types.shapes begun.types.shapes)
-    (new : (later : List Shape) → Begins begun.types.shapes later → is_new ≡ not (is_some (tag_inside (setting_of typer) (known_over later old) tag)))
-    (known : (later : List Shape) → Begins begun.types.shapes later → known_over later begun ≡ enum_begun_with (setting_of typer) (known_over later old) tag) where
-  abbrev enum-whole : List Shape → Outcome CType
-  enum-whole later = enum_with (setting_of typer) used (known_over later old) span tag enumerators
-
-  abbrev items-in : List Shape → Outcome ℤ
-  items-in later = enumerators_of (setting_of typer) used (known_over later begun) (negsuc 0) enumerators
-
-  abbrev enum-next : List Shape → Known → ℤ → Outcome CType
-  enum-next later now last = enum_ended_with now span is_new
-
-  enum-reaches : Reaches old begun enum-whole (λ later. after (items-in later) (enum-next later))
-  enum-reaches = record {
-    shapes = shapes;
-    is = λ later on.
-        ap (λ k. after (enumerators_of (setting_of typer) used k (negsuc 0) enumerators)
-        (λ now last. enum_ended_with now span (not (is_some (tag_inside (setting_of typer) (known_over later old) tag))))) (sym (known later on))
-        ∙ ap (λ b. after (items-in later) (λ now last. enum_ended_with now span b)) (sym (new later on));
-  }
-
-  pub enum-fails : (fault : Stop) → Follows Anything number_itself (source_of typer) begun behind (Err fault) items-in → Follows IsId type_over (source_of typer) old behind (Err fault) enum-whole
-  enum-fails fault f = fails Anything number_itself (source_of typer) old begun behind enum-whole IsId type_over items-in enum-next fault enum-reaches f
-
-  pub enum-made : (last : ℤ) (ended : Held) (result : Result ℕ Stop) → Follows Anything number_itself (source_of typer) begun behind (Ok last) items-in
-      → Follows IsId type_over (source_of typer) behind ended result (λ later. enum_ended_with (known_over later behind) span is_new) → Follows IsId type_over (source_of typer) old ended result enum-whole
-  enum-made last ended result f g =
-      ends IsId type_over (source_of typer) old behind ended enum-whole (λ later. enum_ended_with (known_over later behind) span is_new)
-      (passes Anything number_itself (source_of typer) old begun behind enum-whole items-in enum-next last enum-reaches f) result g

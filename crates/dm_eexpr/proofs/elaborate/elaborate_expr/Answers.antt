@@ -1,5 +1,5 @@
 -- The types, scopes and declarations are handed in and out.
-use Rattle.std.specs.Prelude.{[], length, reverse, refl}
+use Rattle.std.specs.Prelude.{length, reverse, refl}
 use Rattle.std.proofs.Common.{sym, subst}
 use Rattle.std.proofs.lemmas.List.Elements.{All-nil}
 use Rattle.dm_syn.specs.Views as syntax
