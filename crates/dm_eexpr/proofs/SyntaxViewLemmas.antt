@@ -15,7 +15,6 @@ use Rattle.dm_syn.specs.declared.declaration.EnumForm.{EnumForm, roll-EnumForm, 
 use Rattle.dm_syn.specs.declared.declaration.EnumItem.{EnumItem, roll-EnumItem, out-EnumItem}
 use Rattle.dm_syn.specs.declared.declaration.MemberForm.{MemberForm, out-MemberForm}
 use Rattle.dm_syn.specs.declared.declaration.Declarator.{Declarator}
-use Rattle.dm_syn.specs.declared.declaration.Direct.{Direct}
 use Rattle.dm_syn.specs.declared.declaration.Direct.TheVariants as direct
 use Rattle.dm_syn.specs.declared.declaration.Direct.TheFolds as folds
 use Rattle.dm_syn.specs.declared.declaration.Direct.TheOpen as layer

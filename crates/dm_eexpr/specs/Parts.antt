@@ -2,7 +2,7 @@
 --     valued outcome      the value of what is typed
 --     declared_type setting used known base declarator      the type that a declarator makes of another
 --     type_of_specifier setting used alone known specifier      the type of a struct or an enum among specifiers
-use Rattle.std.specs.Prelude.{ℕ, ℤ, negsuc, Bool, false, not, if◌then◌else◌, is_some, List, [], ◌∷◌, map, Option, Some, None}
+use Rattle.std.specs.Prelude.{ℕ, ℤ, negsuc, Bool, false, not, is_some, List, [], ◌∷◌, map, Option, Some, None}
 use Rattle.dm_token.specs.declared.place.Span.{Span}
 use Rattle.dm_type.specs.declared.shape.Shape.{Shape}
 use Rattle.dm_type.specs.CTypes.{CType}

@@ -1,5 +1,5 @@
 -- Each step of the cycle gives what the definition does: the calls in their order, and what is left behind each.
-use Rattle.std.specs.Prelude.{ℕ, ℤ, pos, ◌+ℤ◌, negsuc, ◌+◌, true, false, List, [], ◌∷◌, ◌++◌, length, map, drop, All, Option, Some, option_map, unwrap_or, slice_get, Ok, Err, refl, ◌≡◌}
+use Rattle.std.specs.Prelude.{ℕ, ℤ, pos, ◌+ℤ◌, negsuc, ◌+◌, false, List, [], ◌∷◌, ◌++◌, map, drop, All, Option, Some, option_map, unwrap_or, slice_get, Ok, Err, refl, ◌≡◌}
 use Rattle.std.proofs.Common.{sym, ap, ◌∙◌, subst, rules, to_z, of_z}
 use Rattle.std.proofs.lemmas.List.{map-append}
 use Rattle.std.proofs.lemmas.List.Elements.{All-nil, All-push}

@@ -3,7 +3,7 @@ use Rattle.std.specs.Prelude.{not, Some, None, Ok, Err}
 use Rattle.std.proofs.Common.{sym, ap, ◌∙◌}
 use Rattle.dm_tree.specs.Scenes.{is_function}
 use Rattle.dm_typing.specs.Known.{given}
-use Rattle.dm_typing.specs.Typing.{typed_parameter, parameter_declared, adjusted}
+use Rattle.dm_typing.specs.Typing.{typed_parameter, parameter_declared}
 use Rattle.dm_typing.specs.Views.{type_over, known_over, source_of, setting_of}
 use Rattle.dm_edeclarator.specs.Steps.{parameter_over, ParameterFits}
 use Rattle.dm_typing.proofs.GivesLemmas.{disobeyed}
