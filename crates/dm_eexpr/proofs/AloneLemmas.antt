@@ -1,5 +1,5 @@
 -- An expression that stands alone: no struct is being read, and there are no trees of type names, before it and behind it.
-use Rattle.std.specs.Prelude.{◌≡◌, ℕ, true, is_some, List, [], ◌∷◌, map, reverse, Result, Ok, Err}
+use Rattle.std.specs.Prelude.{◌≡◌, ℕ, ◌<◌, ◌≤◌, true, is_some, List, [], ◌∷◌, map, reverse, Result, Ok, Err, IfOk, IfErr}
 use Rattle.std.specs.FinMap as finite
 use Rattle.std.proofs.Common.{sym, ap, ◌∙◌, subst}
 use Rattle.dm_token.specs.declared.stop.Stop.{Stop}
@@ -8,6 +8,8 @@ use Rattle.dm_token.specs.declared.token.CToken.{CToken}
 use Rattle.dm_type.specs.declared.shape.Shape.{Shape}
 use Rattle.dm_type.specs.Tables.{Table}
 use Rattle.dm_scope.specs.Scopes.{Scopes, number_of}
+use Rattle.dm_syn.specs.declared.declared.Declared.{Declared as Name}
+use Rattle.dm_syn.specs.Grammar.{IsExpr}
 use Rattle.dm_syn.specs.Spans.{expr_span}
 use Rattle.dm_syn.specs.Trees.{Expr}
 use Rattle.dm_tree.specs.declared.tree.Core.{Core}
@@ -16,9 +18,13 @@ use Rattle.dm_tree.specs.Trees.{Tree}
 use Rattle.dm_tree.specs.Views.{entries_of}
 use Rattle.dm_typing.specs.declared.known.Known.{Known as Held}
 use Rattle.dm_typing.specs.Known.{Known, Setting, given}
+use Rattle.dm_typing.specs.Sound.{AreSoundTokens, BreaksWithin, GivesMore, IsSound, IsSoundKnown}
 use Rattle.dm_typing.specs.Typing.{typed}
 use Rattle.dm_typing.specs.Views.{view_over, table_over, known_over, Gives}
-use Rattle.dm_eexpr.specs.Alone.{source_alone, setting_alone, known_alone}
+use Rattle.dm_typing.proofs.PlaceLemmas.{Plain, within-places}
+use Rattle.dm_typing.proofs.WholeLemmas.{expr-more}
+use Rattle.dm_typing.proofs.WholePlaceLemmas.{expr-placed}
+use Rattle.dm_eexpr.specs.Alone.{source_alone, setting_alone, known_alone, RefusesWithin}
 use Rattle.dm_eexpr.proofs.KeepLemmas.{Keeps, KeepsIn, Leads, SameTrees, expr-keeps, expr-trees}
 
 abbrev with_rest : List Shape → Table → Scopes → List Declared → List ℕ → List Tree → Known
@@ -67,3 +73,26 @@ module _ (tokens : List CToken) (lacking : Scopes) (empty : lacking ≡ finite.e
   gives-alone (Err (stop.Refused refusal)) g = (g.0, g.1, sym typed-alone ∙ g.2, g.3)
   gives-alone (Err (stop.Limit limit)) g = absurd g
   gives-alone (Err (stop.ReadFault file)) g = absurd g
+
+-- what is given for an expression of the grammar is well typed, and a refusal is inside it
+module _ (tokens : List CToken) (names : List Name) (expr : Expr) (formed : IsExpr (source_alone tokens) names expr) (before behind : Known) (view : Core → Tree) where
+  pub sound-alone : AreSoundTokens tokens → IsSoundKnown before → (result : Result Core Stop) → Gives view (source_alone tokens) behind result (typed (setting_alone tokens) true before expr)
+      → IfOk result (λ core. GivesMore before IsSound (given behind (view core)))
+  sound-alone sound known (Ok core) g = subst (GivesMore before IsSound) g (expr-more (setting_alone tokens) sound true before names (expr_span expr) expr formed known)
+  sound-alone sound known (Err stop) g = tt
+
+  inside-places : BreaksWithin (expr_span expr).first (expr_span expr).after (typed (setting_alone tokens) true before expr)
+  inside-places =
+      within-places (expr_span expr).first (expr_span expr).after Plain (typed (setting_alone tokens) true before expr)
+      ((expr-placed (setting_alone tokens) names (expr_span expr) expr formed).1 true before)
+
+  pub inside-alone : (result : Result Core Stop) → Gives view (source_alone tokens) behind result (typed (setting_alone tokens) true before expr)
+      → IfErr result (RefusesWithin (source_alone tokens) (expr_span expr))
+  inside-alone (Ok core) g = tt
+  inside-alone (Err stop.Memory) g = tt
+  inside-alone (Err (stop.Refused refusal)) g =
+      let span = expr_span expr in
+      let within : (span.first ≤ g.1) × (g.1 < span.after) = subst (BreaksWithin span.first span.after) g.2 inside-places in
+      (g.0, g.1, g.3, within.0, within.1)
+  inside-alone (Err (stop.Limit limit)) g = absurd g
+  inside-alone (Err (stop.ReadFault file)) g = absurd g

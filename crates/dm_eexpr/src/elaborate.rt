@@ -1,12 +1,17 @@
 //! The typing of one expression where types, scopes and declarations are known.
 
-ghost use Rattle.std.specs.Prelude.{true, List, length, IfOk};
+ghost use Rattle.std.specs.Prelude.{true, List, length, IfOk, IfErr};
 ghost use Rattle.dm_type.specs.declared.shape.Shape.{Shape as OneShape};
+ghost use Rattle.dm_syn.specs.declared.declared.Declared.{Declared as Name};
+ghost use Rattle.dm_syn.specs.Grammar.{IsExpr};
+ghost use Rattle.dm_syn.specs.Spans.{expr_span};
 ghost use Rattle.dm_syn.specs.Views as syntax;
 ghost use Rattle.dm_typing.specs.Bounds.{AreBelow};
 ghost use Rattle.dm_typing.specs.Fitting.{HaveTypes, IsNumbered};
+ghost use Rattle.dm_typing.specs.Known.{given};
+ghost use Rattle.dm_typing.specs.Sound.{AreSoundTokens, IsSoundKnown, GivesMore, IsSound};
 ghost use Rattle.dm_typing.specs.Typing as typing;
-ghost use Rattle.dm_eexpr.specs.Alone.{source_alone, setting_alone, known_alone};
+ghost use Rattle.dm_eexpr.specs.Alone.{source_alone, setting_alone, known_alone, RefusesWithin};
 ghost use Rattle.dm_typing.specs.Views.{Begins, view_over, Gives};
 
 use crate::expressions::typed;
@@ -34,6 +39,11 @@ pub fn elaborate_expr(
     requires numbers { AreBelow (length declared.old) scopes.old }
     ensures gives { (later : List OneShape) → Begins types.new.shapes later → Gives (view_over later) (source_alone tokens.now) (known_alone later types.new scopes.new declared.new) result
         (typing.typed (setting_alone tokens.now) true (known_alone later types.old scopes.old declared.old) (syntax.expr tree.now)) }
+    ensures well_typed { let before = known_alone types.new.shapes types.old scopes.old declared.old in
+        AreSoundTokens tokens.now → (names : List Name) → IsExpr (source_alone tokens.now) names (syntax.expr tree.now) → IsSoundKnown before →
+        IfOk result (λ core. GivesMore before IsSound (given (known_alone types.new.shapes types.new scopes.new declared.new) (view_over types.new.shapes core))) }
+    ensures inside { (names : List Name) → IsExpr (source_alone tokens.now) names (syntax.expr tree.now) →
+        IfErr result (RefusesWithin (source_alone tokens.now) (expr_span (syntax.expr tree.now))) }
     ensures numbered { IfOk result (IsNumbered types.new) }
     ensures shapes { Begins types.old.shapes types.new.shapes }
     ensures types { HaveTypes types.new declared.new }
