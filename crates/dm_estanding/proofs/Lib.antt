@@ -1,0 +1,12 @@
+pub mod CompositeLemmas
+pub mod LinkLemmas
+pub mod UndoLemmas
+pub mod SummaryLemmas
+pub mod SeenLemmas
+pub mod ScopeLemmas
+pub mod AgreementLemmas
+pub mod RetypeLemmas
+pub mod WholeLemmas
+pub mod WithinLemmas
+pub mod NameLemmas
+pub mod DefiningLemmas

@@ -1,0 +1,4 @@
+pub mod Kinds
+pub mod Summaries
+pub mod Undoing
+pub mod Wholes

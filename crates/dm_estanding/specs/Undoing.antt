@@ -1,0 +1,33 @@
+-- Entries that have another type in a scope, which they lose behind it (6.2.7p4).
+--     set_kind number kind entries      entries, of which one has another type
+--     undone changes entries      entries with the types of before the changes, of which the last is undone first
+--     KeepsTypes old new      all but scopes and entries is the same
+--     IsWithin old new      what is known now, in the scopes that were open or in further ones inside the innermost, can be undone
+use Rattle.std.specs.Prelude.{◌≡◌, ℕ, zero, suc, List, [], ◌∷◌, ◌++◌, length, take, drop}
+use Rattle.dm_tree.specs.declared.unit.Declared.{Declared}
+use Rattle.dm_typing.specs.declared.known.Known.{Known}
+use Rattle.dm_estanding.specs.declared.standing.Retyped.{Retyped}
+use Rattle.dm_estanding.specs.declared.standing.Standing.{Standing as Held}
+
+-- all but scopes and entries is the same
+pub record KeepsTypes (old new : Known) : Type 0 where
+  pub types : new.types ≡ old.types
+  pub begun : new.begun.items ≡ old.begun.items
+  pub constants : new.constants ≡ old.constants
+
+abbrev pub set_kind : ℕ → ℕ → List Declared → List Declared
+set_kind n kind [] = []
+set_kind zero kind (entry ∷ entries) = record entry { kind = kind } ∷ entries
+set_kind (suc n) kind (entry ∷ entries) = entry ∷ set_kind n kind entries
+
+abbrev pub undone : List Retyped → List Declared → List Declared
+undone [] entries = entries
+undone (change ∷ changes) entries = set_kind change.number change.kind (undone changes entries)
+
+-- The entries of before have their types again once the changes since then are undone, and the scopes around the innermost are the same.
+pub record IsWithin (old new : Held) : Type 0 where
+  pub changes : List Retyped
+  pub retyped : new.retyped.items ≡ old.retyped.items ++ changes
+  pub entries : take (length old.known.declared) (undone changes new.known.declared) ≡ old.known.declared
+  pub scopes : drop 1 new.known.scopes ≡ drop 1 old.known.scopes
+  pub depth : length new.known.scopes ≡ length old.known.scopes
