@@ -203,7 +203,7 @@ module _ (setting : Setting) where
 
 completed-covers : (setting : Setting) (type : CType) (one : Initialiser) → covers (completed setting type one) type ≡ true
 completed-covers setting (array type None) (tree.value span (tree.literal at)) = covers-itself type
-completed-covers setting (array type None) (tree.braces span items trailing) = covers-itself type
+completed-covers setting (array type None) (tree.braces span (tree.more_initialisers first others) trailing) = covers-itself type
 completed-covers setting (array type None) one = covers-itself (array type None)
 completed-covers setting (array type (Some n)) one = covers-itself (array type (Some n))
 completed-covers setting type one = covers-itself type
@@ -215,7 +215,7 @@ completed-shut setting type one h = refl
 
 completed-type : (setting : Setting) (known : Known) (type : CType) (one : Initialiser) → IsType known type → IsType known (completed setting type one)
 completed-type setting known (array type None) (tree.value span (tree.literal at)) is = (is.0, λ number e. absurd (cc))
-completed-type setting known (array type None) (tree.braces span items trailing) is = (is.0, λ number e. absurd (cc))
+completed-type setting known (array type None) (tree.braces span (tree.more_initialisers first others) trailing) is = (is.0, λ number e. absurd (cc))
 completed-type setting known (array type None) one is = is
 completed-type setting known (array type (Some n)) one is = is
 completed-type setting known type one is = is

@@ -182,7 +182,8 @@ count_items (tree.more_initialisers first others) = count_items others + 1
 abbrev pub completed : Setting → CType → Initialiser → CType
 completed setting (array_type type None) (tree.value span (tree.literal at)) =
     array_type type (Some (length (spelling_at setting.source at.first) + 1))
-completed setting (array_type type None) (tree.braces span items trailing) = array_type type (Some (count_items items))
+completed setting (array_type type None) (tree.braces span (tree.more_initialisers first others) trailing) =
+    array_type type (Some (count_items others + 1))
 completed setting type initialiser = type
 
 -- ---- the syntax
