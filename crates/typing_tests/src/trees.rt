@@ -438,7 +438,7 @@ const STORES: [(&str, &str); 33] = [
         "p += c",
         "(Update Add in int *:int * p:int * (Read:char c:char))",
     ),
-    ("p -= 1l", "(Update Sub in int *:int * p:int * 1:long)"),
+    ("p -= 2l", "(Update Sub in int *:int * p:int * 2:long)"),
     (
         "c <<= l",
         "(Update Shl in int:char c:char (Read:long l:long))",
