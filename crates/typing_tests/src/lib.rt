@@ -8,6 +8,8 @@ mod scene;
 #[cfg(test)]
 mod showing;
 #[cfg(test)]
+mod sizes;
+#[cfg(test)]
 mod spans;
 #[cfg(test)]
 mod trees;

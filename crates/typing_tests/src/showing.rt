@@ -209,3 +209,11 @@ pub fn show(alloc: Global, scene: &Scene, spans: bool, core: &Core) -> Result<St
     put_tree(&mut out, scene, spans, core)?;
     Ok(out)
 }
+
+/// The outermost node of a tree with trees below it: what it is, and its type.
+pub fn show_outermost(alloc: Global, scene: &Scene, core: &Core) -> Result<String, Fail> {
+    let mut out = String::new(alloc);
+    put_label(&mut out, scene, &core.form)?;
+    put_kind(&mut out, scene, false, core)?;
+    Ok(out)
+}

@@ -13,7 +13,7 @@ use std::fmt::Write;
 use std::test::Fail;
 
 /// The expression that tokens are.
-fn expression_of(alloc: Global, tokens: &List<CToken>) -> Result<Option<Boxed<Expr>>, Fail> {
+pub fn expression_of(alloc: Global, tokens: &List<CToken>) -> Result<Option<Boxed<Expr>>, Fail> {
     let typedefs = typedefs_of(alloc)?;
     if tokens.len() > u32::MAX as usize {
         return Ok(None);
@@ -27,7 +27,7 @@ fn expression_of(alloc: Global, tokens: &List<CToken>) -> Result<Option<Boxed<Ex
 }
 
 /// The typed tree of an expression, and the scene behind it.
-fn tree_of(
+pub fn tree_of(
     alloc: Global,
     scene: Scene,
     tokens: &[CToken],

@@ -62,7 +62,7 @@ fn spelling_of(word: &str) -> &str {
 }
 
 /// The token of a word, at a column.
-fn token_of(alloc: Global, word: &str, column: u32) -> Result<CToken, Fail> {
+pub fn token_of(alloc: Global, word: &str, column: u32) -> Result<CToken, Fail> {
     let (value, kind) = constant_of(word);
     Ok(CToken {
         class: class_of(word),
