@@ -29,7 +29,7 @@ enum What {
 }
 
 // What is declared, with the words of its type.
-const DECLARATIONS: [(What, &str, &str); 58] = [
+const DECLARATIONS: [(What, &str, &str); 57] = [
     (
         What::Kind,
         "",
@@ -47,7 +47,6 @@ const DECLARATIONS: [(What, &str, &str); 58] = [
     (What::Typedef, "Int", "int"),
     (What::Typedef, "Fixed", "const int"),
     (What::Typedef, "Three", "int [ 3 ]"),
-    (What::Typedef, "Pair", "struct T"),
     (What::Object, "i", "int"),
     (What::Object, "j", "int"),
     (What::Object, "ci", "const int"),
@@ -99,7 +98,7 @@ const DECLARATIONS: [(What, &str, &str); 58] = [
 ];
 
 // The types that trees of the tests have, as the tests write them.
-const KINDS: [&str; 68] = [
+const KINDS: [&str; 53] = [
     "void",
     "_Bool",
     "char",
@@ -114,49 +113,35 @@ const KINDS: [&str; 68] = [
     "long long",
     "unsigned long long",
     "const int",
-    "const char",
     "int *",
     "int * *",
     "int * const",
-    "int * const *",
     "const int *",
-    "const int * *",
     "char *",
-    "const char *",
     "void *",
     "const void *",
-    "unsigned int *",
-    "long *",
-    "char * *",
     "int [ ]",
     "int [ 2 ]",
     "int [ 3 ]",
     "int [ 4 ]",
     "const int [ 2 ]",
     "int [ 2 ] [ 3 ]",
-    "char [ 1 ]",
     "char [ 4 ]",
     "int ( * ) [ ]",
-    "int ( * ) [ 2 ]",
     "int ( * ) [ 3 ]",
     "int ( * ) [ 4 ]",
     "const int ( * ) [ 2 ]",
-    "int ( * ) [ 2 ] [ 3 ]",
     "char ( * ) [ 4 ]",
     "int * [ 3 ]",
     "struct S",
     "struct S *",
-    "const struct S",
     "struct S [ 2 ]",
     "struct T",
     "struct T *",
     "const struct T",
     "const struct T *",
     "struct T * const",
-    "struct T * *",
-    "const struct T * *",
     "struct N",
-    "struct N *",
     "struct D",
     "struct U",
     "struct U *",
@@ -167,7 +152,6 @@ const KINDS: [&str; 68] = [
     "int ( _Bool , struct T * )",
     "int * ( const void * , struct T )",
     "int [ 8 ] [ 3 ]",
-    "unsigned char *",
 ];
 
 /// What is known where the expressions stand, and the words of types.
@@ -333,7 +317,7 @@ fn scene_of(known: Known, kinds: List<(TypeId, &'static str)>) -> Scene {
 }
 
 /// The scene of the tests.
-pub fn scene(alloc: Global) -> Result<Scene, Fail> {
+pub fn full_scene(alloc: Global) -> Result<Scene, Fail> {
     let typedefs = typedefs_of(alloc)?;
     let mut known = nothing(alloc)?;
     let _refused = add_rows(alloc, &mut known, &typedefs)?;

@@ -133,9 +133,12 @@ fn put_kind(out: &mut String, scene: &Scene, spans: bool, core: &Core) -> Result
     Ok(())
 }
 
-/// A tree.
+/// A tree, behind a blank where something stands before it.
 #[cycle(showing)]
 fn put_tree(out: &mut String, scene: &Scene, spans: bool, core: &Core) -> Result<(), Fail> {
+    if !out.is_empty() {
+        out.push_str(" ")?;
+    }
     if is_leaf(&core.form) {
         put_leaf(out, scene, &core.form)?;
         return put_kind(out, scene, spans, core);
@@ -148,18 +151,11 @@ fn put_tree(out: &mut String, scene: &Scene, spans: bool, core: &Core) -> Result
     Ok(())
 }
 
-/// A tree below another.
-#[cycle(showing)]
-fn put_part(out: &mut String, scene: &Scene, spans: bool, core: &Core) -> Result<(), Fail> {
-    out.push_str(" ")?;
-    put_tree(out, scene, spans, core)
-}
-
 /// Trees below another.
 #[cycle(showing)]
 fn put_list(out: &mut String, scene: &Scene, spans: bool, trees: &[Core]) -> Result<(), Fail> {
     for tree in trees {
-        put_part(out, scene, spans, tree)?;
+        put_tree(out, scene, spans, tree)?;
     }
     Ok(())
 }
@@ -174,28 +170,28 @@ fn put_parts(out: &mut String, scene: &Scene, spans: bool, form: &Form) -> Resul
         | Form::Follow(a)
         | Form::Member(a, _)
         | Form::Unary(_, a)
-        | Form::SizeofTree(a) => put_part(out, scene, spans, a.get()),
+        | Form::SizeofTree(a) => put_tree(out, scene, spans, a.get()),
         Form::Count {
             plus: _,
             before: _,
             object,
-        } => put_part(out, scene, spans, object.get()),
+        } => put_tree(out, scene, spans, object.get()),
         Form::Binary(_, a, b)
         | Form::Both(a, b)
         | Form::Either(a, b)
         | Form::Comma(a, b)
         | Form::Store(a, b)
         | Form::Update(_, _, a, b) => {
-            put_part(out, scene, spans, a.get())?;
-            put_part(out, scene, spans, b.get())
+            put_tree(out, scene, spans, a.get())?;
+            put_tree(out, scene, spans, b.get())
         }
         Form::Choose(a, b, c) => {
-            put_part(out, scene, spans, a.get())?;
-            put_part(out, scene, spans, b.get())?;
-            put_part(out, scene, spans, c.get())
+            put_tree(out, scene, spans, a.get())?;
+            put_tree(out, scene, spans, b.get())?;
+            put_tree(out, scene, spans, c.get())
         }
         Form::Convert(a, trees) | Form::Call(a, trees) => {
-            put_part(out, scene, spans, a.get())?;
+            put_tree(out, scene, spans, a.get())?;
             put_list(out, scene, spans, trees.items())
         }
         Form::SizeofKind(_, trees) => put_list(out, scene, spans, trees.items()),

@@ -1,6 +1,6 @@
 //! High, long and wide expressions.
 
-use crate::scene::scene;
+use crate::scene::full_scene;
 use crate::showing::show_outermost;
 use crate::typing::{expression_of, tree_of};
 use crate::words::{token_of, tokens_of};
@@ -14,8 +14,9 @@ fn outermost(alloc: Global, tokens: &List<CToken>) -> Result<String, Fail> {
     let Some(expr) = expression_of(alloc, tokens)? else {
         return Ok(String::new(alloc));
     };
-    match tree_of(alloc, scene(alloc)?, tokens.items(), expr.get()) {
-        Ok((core, after)) => show_outermost(alloc, &after, core.get()),
+    let mut scene = full_scene(alloc)?;
+    match tree_of(alloc, &mut scene, tokens.items(), expr.get()) {
+        Ok(core) => show_outermost(alloc, &scene, core.get()),
         Err(_) => Ok(String::new(alloc)),
     }
 }

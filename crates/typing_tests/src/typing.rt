@@ -1,6 +1,6 @@
 //! What the tests ask of `elaborate_expr`.
 
-use crate::scene::{Scene, plain_scene, scene};
+use crate::scene::{Scene, full_scene, plain_scene};
 use crate::showing::show;
 use crate::words::{tokens_of, typedefs_of};
 use dm_eexpr::elaborate_expr;
@@ -26,28 +26,22 @@ pub fn expression_of(alloc: Global, tokens: &List<CToken>) -> Result<Option<Boxe
     }
 }
 
-/// The typed tree of an expression, and the scene behind it.
+/// The typed tree of an expression. After an `Err` the scene isn't to be used again.
 pub fn tree_of(
     alloc: Global,
-    scene: Scene,
+    scene: &mut Scene,
     tokens: &[CToken],
     expr: &Expr,
-) -> Result<(Boxed<Core>, Scene), Stop> {
-    let Scene {
-        mut types,
-        mut scopes,
-        mut declared,
-        kinds,
-    } = scene;
-    let core = elaborate_expr(alloc, &mut types, &mut scopes, &mut declared, tokens, expr)?;
-    let core = Boxed::new(alloc, core)?;
-    let scene = Scene {
-        types,
-        scopes,
-        declared,
-        kinds,
-    };
-    Ok((core, scene))
+) -> Result<Boxed<Core>, Stop> {
+    let core = elaborate_expr(
+        alloc,
+        &mut scene.types,
+        &mut scene.scopes,
+        &mut scene.declared,
+        tokens,
+        expr,
+    )?;
+    Ok(Boxed::new(alloc, core)?)
 }
 
 /// Why an expression is refused: the rule, and the column of its place.
@@ -62,61 +56,43 @@ fn refused(alloc: Global, stop: Stop) -> Result<String, Fail> {
     Ok(out)
 }
 
-/// What typing makes of the expression that words are: its typed tree, or why it is refused. Empty where they are none.
-/// The scene is that behind it, or that of the tests anew.
-fn typed(alloc: Global, before: Scene, words: &str, spans: bool) -> Result<(String, Scene), Fail> {
-    let tokens = tokens_of(alloc, words)?;
-    let Some(expr) = expression_of(alloc, &tokens)? else {
-        return Ok((String::new(alloc), before));
-    };
-    match tree_of(alloc, before, tokens.items(), expr.get()) {
-        Ok((core, after)) => {
-            let line = show(alloc, &after, spans, core.get())?;
-            Ok((line, after))
-        }
-        Err(stop) => Ok((refused(alloc, stop)?, scene(alloc)?)),
-    }
-}
-
-/// The first of some expressions that has another typed tree than the row says, and what it has. Empty where none has.
-pub fn first_other(
-    alloc: Global,
-    rows: &[(&'static str, &'static str)],
-    spans: bool,
-) -> Result<(&'static str, String), Fail> {
-    let mut at = scene(alloc)?;
-    for (words, wanted) in rows {
-        let (line, after) = typed(alloc, at, words, spans)?;
-        if line.as_str() != *wanted {
-            return Ok((*words, line));
-        }
-        at = after;
-    }
-    Ok(("", String::new(alloc)))
-}
-
-/// Why the expression that words are is refused. Empty where it isn't.
-fn refusal(alloc: Global, words: &str) -> Result<String, Fail> {
+/// What typing makes of the expression that words are: its typed tree, or why it is refused, after which the scene isn't
+/// to be used again. Empty where the words are no expression.
+fn typed(alloc: Global, scene: &mut Scene, words: &str, spans: bool) -> Result<String, Fail> {
     let tokens = tokens_of(alloc, words)?;
     let Some(expr) = expression_of(alloc, &tokens)? else {
         return Ok(String::new(alloc));
     };
-    match tree_of(alloc, plain_scene(alloc)?, tokens.items(), expr.get()) {
-        Ok(_) => Ok(String::new(alloc)),
+    match tree_of(alloc, scene, tokens.items(), expr.get()) {
+        Ok(core) => show(alloc, scene, spans, core.get()),
         Err(stop) => refused(alloc, stop),
     }
 }
 
-/// The first of some expressions that isn't refused as the row says, and why it is refused. Empty where all are.
-pub fn first_not_refused(
-    alloc: Global,
-    rows: &[(&'static str, &'static str)],
-) -> Result<(&'static str, String), Fail> {
-    for (words, wanted) in rows {
-        let line = refusal(alloc, words)?;
-        if line.as_str() != *wanted {
-            return Ok((*words, line));
+/// Of lines with an expression and its typed tree, the first whose expression has another, and that one. Empty where
+/// there is none.
+pub fn first_other(alloc: Global, rows: &str, spans: bool) -> Result<String, Fail> {
+    let mut scene = full_scene(alloc)?;
+    for row in rows.lines() {
+        let (words, wanted) = row.split_once(" => ").ok_or("no tree")?;
+        let line = typed(alloc, &mut scene, words, spans)?;
+        if line.as_str() != wanted {
+            return Ok(format!(in alloc; "{words} => {line}")?);
         }
     }
-    Ok(("", String::new(alloc)))
+    Ok(String::new(alloc))
+}
+
+/// Of lines with an expression and why it is refused, the first that isn't refused so, and what it comes to. Empty where
+/// there is none.
+pub fn first_not_refused(alloc: Global, rows: &str) -> Result<String, Fail> {
+    for row in rows.lines() {
+        let (words, wanted) = row.split_once(" => ").ok_or("no rule")?;
+        let mut scene = plain_scene(alloc)?;
+        let line = typed(alloc, &mut scene, words, false)?;
+        if line.as_str() != wanted {
+            return Ok(format!(in alloc; "{words} => {line}")?);
+        }
+    }
+    Ok(String::new(alloc))
 }

@@ -7,15 +7,13 @@ use std::alloc::Global;
 use std::test::Fail;
 
 // The constants that the tests write, with their values and the numbers of their kinds (6.4.4).
-const CONSTANTS: [(&str, i128, u8); 21] = [
+const CONSTANTS: [(&str, i128, u8); 18] = [
     ("0", 0, 6),
     ("1", 1, 6),
     ("2", 2, 6),
     ("3", 3, 6),
     ("4", 4, 6),
     ("5", 5, 6),
-    ("7", 7, 6),
-    ("8", 8, 6),
     ("12", 12, 6),
     ("0u", 0, 7),
     ("1u", 1, 7),
@@ -23,7 +21,6 @@ const CONSTANTS: [(&str, i128, u8); 21] = [
     ("0l", 0, 8),
     ("2l", 2, 8),
     ("3l", 3, 8),
-    ("3ul", 3, 9),
     ("4000000000", 4_000_000_000, 8),
     ("'a'", 97, 6),
     ("2147483647", 2_147_483_647, 6),
@@ -95,7 +92,7 @@ pub fn tokens_of(alloc: Global, words: &str) -> Result<List<CToken>, Fail> {
 /// The names of types that the tests use.
 pub fn typedefs_of(alloc: Global) -> Result<Names, Fail> {
     let mut typedefs = Names::new(alloc);
-    for name in ["Int", "Fixed", "Three", "Pair"] {
+    for name in ["Int", "Fixed", "Three"] {
         typedefs.set(&Text::new(alloc, name)?, Some(true))?;
     }
     Ok(typedefs)
