@@ -19,140 +19,119 @@ use std::alloc::Global;
 use std::process::Abort;
 use std::test::Fail;
 
-/// What a row declares. A type's own row declares its tag and its enumerators.
-#[derive(Clone, Copy, PartialEq, Eq)]
-enum What {
-    Kind,
-    Typedef,
-    Object,
-    Function,
-}
-
-// What is declared, with the words of its type.
-const DECLARATIONS: [(What, &str, &str); 57] = [
-    (
-        What::Kind,
-        "",
-        "struct S { int m ; const int k ; int a [ 2 ] ; }",
-    ),
-    (
-        What::Kind,
-        "",
-        "struct T { int m ; int a [ 2 ] ; struct T * next ; }",
-    ),
-    (What::Kind, "", "struct N { struct T in ; char c ; }"),
-    (What::Kind, "", "struct D { struct S in [ 2 ] ; }"),
-    (What::Kind, "", "struct U"),
-    (What::Kind, "", "enum En { E5 = 5 , E6 , Em = - 1 }"),
-    (What::Typedef, "Int", "int"),
-    (What::Typedef, "Fixed", "const int"),
-    (What::Typedef, "Three", "int [ 3 ]"),
-    (What::Object, "i", "int"),
-    (What::Object, "j", "int"),
-    (What::Object, "ci", "const int"),
-    (What::Object, "c", "char"),
-    (What::Object, "sc", "signed char"),
-    (What::Object, "uc", "unsigned char"),
-    (What::Object, "sh", "short"),
-    (What::Object, "us", "unsigned short"),
-    (What::Object, "u", "unsigned int"),
-    (What::Object, "l", "long"),
-    (What::Object, "ul", "unsigned long"),
-    (What::Object, "ll", "long long"),
-    (What::Object, "ull", "unsigned long long"),
-    (What::Object, "b", "_Bool"),
-    (What::Object, "p", "int *"),
-    (What::Object, "q", "int *"),
-    (What::Object, "cp", "const int *"),
-    (What::Object, "pc", "int * const"),
-    (What::Object, "s", "char *"),
-    (What::Object, "v", "void *"),
-    (What::Object, "cv", "const void *"),
-    (What::Object, "pp", "int * *"),
-    (What::Object, "cpp", "const int * *"),
-    (What::Object, "a", "int [ 4 ]"),
-    (What::Object, "ca", "const int [ 2 ]"),
-    (What::Object, "aa", "int [ 2 ] [ 3 ]"),
-    (What::Object, "xa", "int [ ]"),
-    (What::Object, "pa", "int ( * ) [ 4 ]"),
-    (What::Object, "pi", "int ( * ) [ ]"),
-    (What::Object, "st", "struct S"),
-    (What::Object, "ps", "struct S *"),
-    (What::Object, "t", "struct T"),
-    (What::Object, "r", "struct T"),
-    (What::Object, "pt", "struct T *"),
-    (What::Object, "ct", "const struct T"),
-    (What::Object, "cpt", "const struct T *"),
-    (What::Object, "n", "struct N"),
-    (What::Object, "d", "struct D"),
-    (What::Object, "pu", "struct U *"),
-    (What::Object, "pv", "struct U *"),
-    (What::Object, "xu", "struct U"),
-    (What::Object, "e", "enum En"),
-    (What::Function, "f", "int ( int , char * )"),
-    (What::Function, "g", "void ( void )"),
-    (What::Function, "h", "struct T ( void )"),
-    (What::Function, "k", "const int ( const int k )"),
-    (What::Function, "w", "int * ( const void * , struct T )"),
-    (What::Function, "z", "int ( _Bool , struct T * )"),
-];
+// In each line what is declared, its name, and the words of its type. The words of a tag declare it and its enumerators.
+const DECLARATIONS: &str = "tag S => struct S { int m ; const int k ; int a [ 2 ] ; }
+tag T => struct T { int m ; int a [ 2 ] ; struct T * next ; }
+tag N => struct N { struct T in ; char c ; }
+tag D => struct D { struct S in [ 2 ] ; }
+tag U => struct U
+tag En => enum En { E5 = 5 , E6 , Em = - 1 }
+typedef Int => int
+typedef Fixed => const int
+typedef Three => int [ 3 ]
+object i => int
+object j => int
+object ci => const int
+object c => char
+object sc => signed char
+object uc => unsigned char
+object sh => short
+object us => unsigned short
+object u => unsigned int
+object l => long
+object ul => unsigned long
+object ll => long long
+object ull => unsigned long long
+object b => _Bool
+object p => int *
+object q => int *
+object cp => const int *
+object pc => int * const
+object s => char *
+object v => void *
+object cv => const void *
+object pp => int * *
+object cpp => const int * *
+object a => int [ 4 ]
+object ca => const int [ 2 ]
+object aa => int [ 2 ] [ 3 ]
+object xa => int [ ]
+object pa => int ( * ) [ 4 ]
+object pi => int ( * ) [ ]
+object st => struct S
+object ps => struct S *
+object t => struct T
+object r => struct T
+object pt => struct T *
+object ct => const struct T
+object cpt => const struct T *
+object n => struct N
+object d => struct D
+object pu => struct U *
+object pv => struct U *
+object xu => struct U
+object e => enum En
+function f => int ( int , char * )
+function g => void ( void )
+function h => struct T ( void )
+function k => const int ( const int k )
+function w => int * ( const void * , struct T )
+function z => int ( _Bool , struct T * )";
 
 // The types that trees of the tests have, as the tests write them.
-const KINDS: [&str; 53] = [
-    "void",
-    "_Bool",
-    "char",
-    "signed char",
-    "unsigned char",
-    "short",
-    "unsigned short",
-    "int",
-    "unsigned int",
-    "long",
-    "unsigned long",
-    "long long",
-    "unsigned long long",
-    "const int",
-    "int *",
-    "int * *",
-    "int * const",
-    "const int *",
-    "char *",
-    "void *",
-    "const void *",
-    "int [ ]",
-    "int [ 2 ]",
-    "int [ 3 ]",
-    "int [ 4 ]",
-    "const int [ 2 ]",
-    "int [ 2 ] [ 3 ]",
-    "char [ 4 ]",
-    "int ( * ) [ ]",
-    "int ( * ) [ 3 ]",
-    "int ( * ) [ 4 ]",
-    "const int ( * ) [ 2 ]",
-    "char ( * ) [ 4 ]",
-    "int * [ 3 ]",
-    "struct S",
-    "struct S *",
-    "struct S [ 2 ]",
-    "struct T",
-    "struct T *",
-    "const struct T",
-    "const struct T *",
-    "struct T * const",
-    "struct N",
-    "struct D",
-    "struct U",
-    "struct U *",
-    "int ( int , char * )",
-    "void ( void )",
-    "struct T ( void )",
-    "const int ( const int )",
-    "int ( _Bool , struct T * )",
-    "int * ( const void * , struct T )",
-    "int [ 8 ] [ 3 ]",
-];
+const KINDS: &str = "void
+_Bool
+char
+signed char
+unsigned char
+short
+unsigned short
+int
+unsigned int
+long
+unsigned long
+long long
+unsigned long long
+const int
+int *
+int * *
+int * const
+const int *
+char *
+void *
+const void *
+int [ ]
+int [ 2 ]
+int [ 3 ]
+int [ 4 ]
+const int [ 2 ]
+int [ 2 ] [ 3 ]
+char [ 4 ]
+int ( * ) [ ]
+int ( * ) [ 3 ]
+int ( * ) [ 4 ]
+const int ( * ) [ 2 ]
+char ( * ) [ 4 ]
+int * [ 3 ]
+struct S
+struct S *
+struct S [ 2 ]
+struct T
+struct T *
+const struct T
+const struct T *
+struct T * const
+struct N
+struct D
+struct U
+struct U *
+int ( int , char * )
+void ( void )
+struct T ( void )
+const int ( const int )
+int ( _Bool , struct T * )
+int * ( const void * , struct T )
+int [ 8 ] [ 3 ]";
 
 /// What is known where the expressions stand, and the words of types.
 #[derive(Drop)]
@@ -199,27 +178,30 @@ fn kind_of(
     Ok(named.kind)
 }
 
-/// What a name is declared as.
-fn sort_of(what: What) -> Sort {
-    match what {
-        What::Kind => Sort::Tag,
-        What::Typedef => Sort::Typedef,
-        What::Object => Sort::Object { fixed: true },
-        What::Function => Sort::Function,
+/// What a name is declared as. None of a tag, which its type declares.
+fn sort_of(word: &str) -> Option<Sort> {
+    if word == "object" {
+        Some(Sort::Object { fixed: true })
+    } else if word == "function" {
+        Some(Sort::Function)
+    } else if word == "typedef" {
+        Some(Sort::Typedef)
+    } else {
+        None
     }
 }
 
 /// Declares a name, unless it is declared.
-fn add(alloc: Global, known: &mut Known, what: What, name: &str, kind: TypeId) -> Result<(), Memory>
+fn add(alloc: Global, known: &mut Known, sort: Sort, name: &str, kind: TypeId) -> Result<(), Memory>
     requires { IsId known.old.types kind }
 {
     let key = Text::new(alloc, name)?;
-    if what == What::Kind || known.scopes.is_declared(&key) {
+    if known.scopes.is_declared(&key) {
         return Ok(());
     }
     let entry = Declared {
         name: key.copy()?,
-        sort: sort_of(what),
+        sort,
         kind,
         linkage: Linkage::External,
         place: Place {
@@ -249,36 +231,37 @@ fn kind_of_words(
 }
 
 /// Adds what a row declares. False where its type is refused.
-fn add_row(
-    alloc: Global,
-    known: &mut Known,
-    typedefs: &Names,
-    row: (What, &str, &str),
-) -> Result<bool, Fail> {
-    let (what, name, words) = row;
-    match kind_of_words(alloc, known, typedefs, words)? {
-        Some(kind) => add(alloc, known, what, name, kind)?,
-        None => return Ok(false),
+fn add_row(alloc: Global, known: &mut Known, typedefs: &Names, row: &str) -> Result<bool, Fail> {
+    let (declared, words) = row.split_once(" => ").ok_or("no type")?;
+    let (sort, name) = declared.split_once(' ').ok_or("no name")?;
+    let Some(kind) = kind_of_words(alloc, known, typedefs, words)? else {
+        return Ok(false);
+    };
+    if let Some(sort) = sort_of(sort) {
+        add(alloc, known, sort, name, kind)?;
     }
     Ok(true)
 }
 
 /// Where nothing is declared.
 fn nothing(alloc: Global) -> Result<Known, Memory> {
-    Ok(Known {
-        types: Types::new(alloc)?,
-        scopes: Scopes::new(alloc)?,
+    let types = Types::new(alloc)?;
+    let scopes = Scopes::new(alloc)?;
+    let known = Known {
+        types,
+        scopes,
         declared: List::new(alloc),
         begun: Vec::new(alloc),
         constants: List::new(alloc),
-    })
+    };
+    Ok(known)
 }
 
-/// Adds what all rows declare: the first words that are refused. Empty where there are none.
+/// Adds what all rows declare: the first row whose type is refused. Empty where there is none.
 fn add_rows(alloc: Global, known: &mut Known, typedefs: &Names) -> Result<&'static str, Fail> {
-    for row in DECLARATIONS {
+    for row in DECLARATIONS.lines() {
         if !add_row(alloc, known, typedefs, row)? {
-            return Ok(row.2);
+            return Ok(row);
         }
     }
     Ok("")
@@ -291,7 +274,7 @@ fn kinds_of(
     typedefs: &Names,
 ) -> Result<List<(TypeId, &'static str)>, Fail> {
     let mut kinds = List::new(alloc);
-    for words in KINDS {
+    for words in KINDS.lines() {
         if let Some(kind) = kind_of_words(alloc, known, typedefs, words)? {
             kinds.push((kind, words))?;
         }
@@ -339,6 +322,6 @@ fn all_is_declared(rt: HostRuntime) -> Result<(), Fail> {
     let mut known = nothing(rt.alloc())?;
     assert_eq!(rt; add_rows(rt.alloc(), &mut known, &typedefs)?, "");
     let kinds = kinds_of(rt.alloc(), &mut known, &typedefs)?;
-    assert_eq!(rt; kinds.len(), KINDS.len());
+    assert_eq!(rt; kinds.len(), KINDS.lines().count());
     Ok(())
 }

@@ -21,6 +21,14 @@ fn outermost(alloc: Global, tokens: &List<CToken>) -> Result<String, Fail> {
     }
 }
 
+/// The tokens of words behind others.
+fn append(alloc: Global, tokens: &mut List<CToken>, words: &str) -> Result<(), Fail> {
+    for word in words.split(' ') {
+        tokens.push(token_of(alloc, word, 0)?)?;
+    }
+    Ok(())
+}
+
 /// The words, then other words so many times, then the last ones.
 fn repeated(
     alloc: Global,
@@ -31,13 +39,9 @@ fn repeated(
 ) -> Result<List<CToken>, Fail> {
     let mut tokens = tokens_of(alloc, first)?;
     for _ in 0..count {
-        for word in words.split(' ') {
-            tokens.push(token_of(alloc, word, 0)?)?;
-        }
+        append(alloc, &mut tokens, words)?;
     }
-    for word in last.split(' ') {
-        tokens.push(token_of(alloc, word, 0)?)?;
-    }
+    append(alloc, &mut tokens, last)?;
     Ok(tokens)
 }
 
@@ -76,13 +80,10 @@ fn types_rows_of_members(rt: HostRuntime) -> Result<(), Fail> {
 fn members(alloc: Global, count: u32) -> Result<List<CToken>, Fail> {
     let mut tokens = tokens_of(alloc, "sizeof ( struct {")?;
     for number in 0..count {
-        tokens.push(token_of(alloc, "int", 0)?)?;
-        let name = format!(in alloc; "m{number}")?;
-        tokens.push(token_of(alloc, name.as_str(), 0)?)?;
-        tokens.push(token_of(alloc, ";", 0)?)?;
+        let member = format!(in alloc; "int m{number} ;")?;
+        append(alloc, &mut tokens, member.as_str())?;
     }
-    tokens.push(token_of(alloc, "}", 0)?)?;
-    tokens.push(token_of(alloc, ")", 0)?)?;
+    append(alloc, &mut tokens, "} )")?;
     Ok(tokens)
 }
 

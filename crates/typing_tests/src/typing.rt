@@ -69,29 +69,40 @@ fn typed(alloc: Global, scene: &mut Scene, words: &str, spans: bool) -> Result<S
     }
 }
 
-/// Of lines with an expression and its typed tree, the first whose expression has another, and that one. Empty where
+/// What typing makes of the expression of a row, where the row says something else.
+fn other(alloc: Global, scene: &mut Scene, row: &str, spans: bool) -> Result<Option<String>, Fail> {
+    let (words, wanted) = row.split_once(" => ").ok_or("no result")?;
+    let line = typed(alloc, scene, words, spans)?;
+    if line.as_str() == wanted {
+        return Ok(None);
+    }
+    Ok(Some(format!(in alloc; "{words} => {line}")?))
+}
+
+/// Of rows with an expression and its typed tree, the first whose expression has another, and that one. Empty where
 /// there is none.
 pub fn first_other(alloc: Global, rows: &str, spans: bool) -> Result<String, Fail> {
     let mut scene = full_scene(alloc)?;
     for row in rows.lines() {
-        let (words, wanted) = row.split_once(" => ").ok_or("no tree")?;
-        let line = typed(alloc, &mut scene, words, spans)?;
-        if line.as_str() != wanted {
-            return Ok(format!(in alloc; "{words} => {line}")?);
+        if let Some(line) = other(alloc, &mut scene, row, spans)? {
+            return Ok(line);
         }
     }
     Ok(String::new(alloc))
 }
 
-/// Of lines with an expression and why it is refused, the first that isn't refused so, and what it comes to. Empty where
+/// The same in a scene that is as at first, and without the words of types.
+fn other_anew(alloc: Global, row: &str) -> Result<Option<String>, Fail> {
+    let mut scene = plain_scene(alloc)?;
+    other(alloc, &mut scene, row, false)
+}
+
+/// Of rows with an expression and why it is refused, the first that isn't refused so, and what it comes to. Empty where
 /// there is none.
 pub fn first_not_refused(alloc: Global, rows: &str) -> Result<String, Fail> {
     for row in rows.lines() {
-        let (words, wanted) = row.split_once(" => ").ok_or("no rule")?;
-        let mut scene = plain_scene(alloc)?;
-        let line = typed(alloc, &mut scene, words, false)?;
-        if line.as_str() != wanted {
-            return Ok(format!(in alloc; "{words} => {line}")?);
+        if let Some(line) = other_anew(alloc, row)? {
+            return Ok(line);
         }
     }
     Ok(String::new(alloc))
