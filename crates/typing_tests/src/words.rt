@@ -7,13 +7,14 @@ use std::alloc::Global;
 use std::test::Fail;
 
 // The constants that the tests write, with their values and the numbers of their kinds (6.4.4).
-const CONSTANTS: [(&str, i128, u8); 18] = [
+const CONSTANTS: [(&str, i128, u8); 19] = [
     ("0", 0, 6),
     ("1", 1, 6),
     ("2", 2, 6),
     ("3", 3, 6),
     ("4", 4, 6),
     ("5", 5, 6),
+    ("8", 8, 6),
     ("12", 12, 6),
     ("0u", 0, 7),
     ("1u", 1, 7),
