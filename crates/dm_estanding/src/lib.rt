@@ -2,6 +2,7 @@
 //! what is declared, and the types that all declarations of an object or a function say together.
 #![tactic(auto)]
 
+mod declaring;
 mod defining;
 mod laws;
 mod links;
