@@ -29,6 +29,7 @@ impl Standing {
         ensures number { IfOk result (λ number. (later : Sequence OneShape) (before : standings.Standing) → StandsFor later self.old.known self.old.links before
             → IsSoundStanding before → number ≡ linkages.number_here before (entry_over later entry)) }
         ensures within { OnOk result (IsWithin self.old self.new) }
+        ensures types { OnOk result (Begins self.old.known.types.shapes self.new.known.types.shapes) }
     {
         self.declared_as(entry, kind, false)
     }
@@ -44,6 +45,7 @@ impl Standing {
         ensures number { IfOk result (λ number. (later : Sequence OneShape) (before : standings.Standing) → StandsFor later self.old.known self.old.links before
             → IsSoundStanding before → number ≡ linkages.number_here before (entry_over later entry)) }
         ensures within { OnOk result (IsWithin self.old self.new) }
+        ensures types { OnOk result (Begins self.old.known.types.shapes self.new.known.types.shapes) }
     {
         self.declared_as(entry, kind, true)
     }
@@ -58,6 +60,7 @@ impl Standing {
         ensures number { IfOk result (λ number. (later : Sequence OneShape) (before : standings.Standing) → StandsFor later self.old.known self.old.links before
             → IsSoundStanding before → number ≡ linkages.number_here before (entry_over later entry)) }
         ensures within { OnOk result (IsWithin self.old self.new) }
+        ensures types { OnOk result (Begins self.old.known.types.shapes self.new.known.types.shapes) }
     {
         let linked = has_linkage(entry.linkage);
         let own = entry.kind;
