@@ -11,3 +11,4 @@ pub mod WithinLemmas
 pub mod NameLemmas
 pub mod DefiningLemmas
 pub mod DeclaringLemmas
+pub mod UnitedLemmas
