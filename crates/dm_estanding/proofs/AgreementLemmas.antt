@@ -19,7 +19,7 @@ use Rattle.dm_edecl.proofs.NamingLemmas.{three-hold}
 use Rattle.dm_estanding.specs.Summaries.{AreSeenCompatible}
 
 -- the entry of a name that has linkage has declarations
-linked-found : (name : List ℕ) (declared : List Declaration) (linked : List Linked) (number : ℕ) → number_linked name declared linked ≡ Some number → is_linked number linked ≡ true
+pub linked-found : (name : List ℕ) (declared : List Declaration) (linked : List Linked) (number : ℕ) → number_linked name declared linked ≡ Some number → is_linked number linked ≡ true
 linked-found name declared [] number h = absurd (cc)
 linked-found name declared (one ∷ others) number h = go (linked-found name declared others number) (is_called name (slice_get declared one.number)) h
   where

@@ -15,7 +15,7 @@ use Rattle.dm_estanding.specs.Undoing.{set_kind}
 use Rattle.dm_estanding.proofs.RetypeLemmas.{kinds-put}
 use Rattle.dm_estanding.proofs.ScopeLemmas.{names-set, numbers-same-names}
 
-summary-renamed : (later : List Shape) (links : Links) (one other : List Declaration) (linked : List Linked)
+pub summary-renamed : (later : List Shape) (links : Links) (one other : List Declaration) (linked : List Linked)
     → ((name : List ℕ) → number_linked name other linked ≡ number_linked name one linked) → Summarises later links one linked → Summarises later links other linked
 summary-renamed later links one other linked same summary = record { single = summary.single; names = λ name. same name ∙ summary.names name; wholes = summary.wholes }
 

@@ -10,3 +10,5 @@ pub mod WholeLemmas
 pub mod WithinLemmas
 pub mod NameLemmas
 pub mod DefiningLemmas
+pub mod DeclaringLemmas
+pub mod UnitedLemmas

@@ -5,6 +5,8 @@
 --     Summarises later links declared linked      the code's summary is that of these declarations
 --     StandsFor later known links standing      what the code knows at a place is what the definition does
 --     MayBeAdded declared linked name number kind defines      a declaration more agrees with those of its entry
+--     declared_as standing entry defines      what is known behind a declarator, of a definition or not
+--     IsUnited standing      a name means one entry with linkage, in whatever scope (6.2.2p2)
 --     AreSeenCompatible standing entry      an entry has a type compatible with that of the earlier one
 use Rattle.std.specs.Prelude.{◌≡◌, ℕ, ◌<◌, Bool, true, ◌||◌, List, [], ◌∷◌, length, option_map, Option, Some, None, IfSome, slice_get}
 use Rattle.dm_type.specs.declared.shape.Shape.{Shape}
@@ -18,7 +20,7 @@ use Rattle.dm_tree.specs.Views.{view_of_declared}
 use Rattle.dm_typing.specs.declared.known.Known.{Known as Held}
 use Rattle.dm_typing.specs.Views.{Begins, type_over, known_over}
 use Rattle.dm_edecl.specs.Standing.{Linked, Standing}
-use Rattle.dm_edecl.specs.Linkages.{Storage, unsaid, typedef, extern, static, whole_kind, is_called, number_linked, number_shared, is_defined, with_link}
+use Rattle.dm_edecl.specs.Linkages.{Storage, unsaid, typedef, extern, static, whole_kind, is_called, number_linked, number_shared, is_defined, with_link, with_link_if, number_here, named_here}
 use Rattle.dm_edecl.specs.Settled.{IsBound, AreProperLinks}
 use Rattle.dm_estanding.specs.Kinds.{whole_in}
 use Rattle.dm_estanding.specs.declared.links.Links.{Links}
@@ -88,3 +90,15 @@ pub record MayBeAdded (declared : List Declaration) (linked : List Linked) (name
   pub once : IfSome (number_linked name declared linked) (λ other. other ≡ number)
   pub proper : AreProperLinks (with_link number kind defines linked)
   pub bounds : (bound : CType) × IsBound bound number (with_link number kind defines linked)
+
+-- a name means one entry with linkage, in whatever scope (6.2.2p2)
+abbrev pub IsUnited : Standing → Type 0
+IsUnited standing = (name : List ℕ) (number : ℕ) (entry : Declaration) → number_of standing.known.scopes name ≡ Some number
+    → slice_get standing.known.declared number ≡ Some entry → has_linkage entry.linkage ≡ true → number_linked name standing.known.declared standing.linked ≡ Some number
+
+-- what is known behind a declarator, of a definition or not
+abbrev pub declared_as : Standing → Declaration → Bool → Standing
+declared_as standing entry defines = record standing {
+  known = named_here standing entry;
+  linked = with_link_if (has_linkage entry.linkage) (number_here standing entry) entry.kind defines standing.linked;
+}

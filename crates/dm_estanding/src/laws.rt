@@ -1,11 +1,12 @@
 //! What holds of declarations that come again.
 
-ghost use Rattle.std.specs.Prelude.{◌≡◌, true};
+ghost use Rattle.std.specs.Prelude.{◌≡◌, Bool, true, length};
 ghost use Rattle.dm_tree.specs.Units.{Declaration};
+ghost use Rattle.dm_typing.specs.Bounds.{AreBelow};
 ghost use Rattle.dm_edecl.specs.Standing.{Standing};
 ghost use Rattle.dm_edecl.specs.Linkages.{may_be_declared};
 ghost use Rattle.dm_edecl.specs.Settled.{IsSoundStanding};
-ghost use Rattle.dm_estanding.specs.Summaries.{AreSeenCompatible};
+ghost use Rattle.dm_estanding.specs.Summaries.{AreSeenCompatible, IsUnited, declared_as};
 ghost use Rattle.dm_estanding.specs.Undoing.{IsWithin};
 ghost use Rattle.dm_estanding.specs.declared.standing.Standing.{Standing as Held};
 
@@ -17,4 +18,10 @@ pub fn redeclared_types_are_compatible()
 /// What can be undone from one place to the next, and from there to a third, can be undone from the first to the third.
 pub fn changes_add_up()
     ensures { (first second third : Held) → IsWithin first second → IsWithin second third → IsWithin first third }
+{}
+
+/// A name that means one entry with linkage in whatever scope does so behind a declarator too.
+pub fn names_stay_united()
+    ensures { (standing : Standing) (entry : Declaration) (defines : Bool) → IsSoundStanding standing → AreBelow (length standing.known.declared) standing.known.scopes → IsUnited standing
+        → IsUnited (declared_as standing entry defines) }
 {}

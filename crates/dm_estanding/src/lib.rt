@@ -2,6 +2,7 @@
 //! what is declared, and the types that all declarations of an object or a function say together.
 #![tactic(auto)]
 
+mod declaring;
 mod defining;
 mod laws;
 mod links;
@@ -13,7 +14,7 @@ mod standing;
 pub mod storage;
 mod wholes;
 
-pub use laws::{changes_add_up, redeclared_types_are_compatible};
+pub use laws::{changes_add_up, names_stay_united, redeclared_types_are_compatible};
 pub use links::{Links, Whole, composite};
 pub use standing::{Mark, Retyped, Standing};
 pub use wholes::with_whole_kinds;
