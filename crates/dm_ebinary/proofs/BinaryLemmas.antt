@@ -1,7 +1,6 @@
 -- Operators between two operands, as the code types them.
-use Rattle.std.specs.Prelude.{◌≡◌, ℕ, ◌<◌, Bool, true, false, ◌&&◌, if◌then◌else◌, is_some, List, [], length, Option, Some, None, option_map, option_and_then, Result, refl}
-use Rattle.std.proofs.Common.{sym, ap, ◌∙◌, subst, arith}
-use Rattle.dm_token.specs.declared.stop.Stop.{Stop}
+use Rattle.std.specs.Prelude.{◌≡◌, ℕ, ◌<◌, Bool, true, false, ◌&&◌, if◌then◌else◌, is_some, List, [], length, Option, Some, None, option_map, option_and_then, refl}
+use Rattle.std.proofs.Common.{sym, ap, ◌∙◌, arith}
 use Rattle.dm_int.specs.declared.Kind.{Kind}
 use Rattle.dm_int.specs.declared.Kind.TheVariants as k
 use Rattle.dm_int.specs.declared.Op.{Op}
@@ -9,7 +8,6 @@ use Rattle.dm_int.specs.declared.Op.TheVariants as o
 use Rattle.dm_type.specs.declared.shape.Shape.{Shape}
 use Rattle.dm_type.specs.CTypes.{CType, integer}
 use Rattle.dm_type.specs.Tables.{Table, type_of, IsId}
-use Rattle.dm_syn.specs.Sources.{Source}
 use Rattle.dm_syn.specs.declared.symbol.Symbol.{Symbol}
 use Rattle.dm_syn.specs.declared.symbol.Symbol.TheVariants as symbol
 use Rattle.dm_tree.specs.declared.tree.Core.{Core, out-Core}
@@ -19,19 +17,19 @@ use Rattle.dm_tree.specs.Scenes.{is_integer, is_pointer}
 use Rattle.dm_tree.specs.Trees.{Tree, kind_of}
 use Rattle.dm_typing.specs.declared.extent.Extent.{Extent}
 use Rattle.dm_typing.specs.declared.known.Known.{Known as Held}
-use Rattle.dm_typing.specs.Known.{Known, Setting, Outcome}
+use Rattle.dm_typing.specs.Known.{Known, Setting}
 use Rattle.dm_typing.specs.Operators.{row_at, operator_of_row}
 use Rattle.dm_typing.specs.Conversions.{as_type, as_kind}
 use Rattle.dm_typing.specs.Fitting.{IsNumbered}
 use Rattle.dm_typing.specs.Rules.{Pair, pair, indexed, points_to_complete, point_alike, is_void_pointer, of_integers, of_pointer_and_integer, of_others, of_kinds, operated, ordered, equated}
 use Rattle.dm_typing.specs.Typing.{typed_operation, typed_binary}
-use Rattle.dm_typing.specs.Views.{Begins, type_over, view_over, known_over, seen, Grows, Gives}
+use Rattle.dm_typing.specs.Views.{Begins, type_over, view_over, known_over, seen}
 use Rattle.dm_ebinary.specs.declared.ways.Sides.{Sides}
 use Rattle.dm_ebinary.specs.declared.operations.Brought.{Brought}
 use Rattle.dm_ebinary.specs.declared.operations.Brought.TheVariants as brought
 use Rattle.dm_ebinary.specs.Pairs.{both_kinds, sides_of, pair_by, IsWay, compared_as, by_kinds, family_of, by_family, moves_by, have_distance, is_beside_null, equal_by, equated_by}
 use Rattle.dm_typing.proofs.GivesLemmas.{complete-alone}
-use Rattle.dm_typing.proofs.LaterLemmas.{begins-on, begins-length}
+use Rattle.dm_typing.proofs.LaterLemmas.{begins-length}
 use Rattle.dm_typing.proofs.ValueLemmas.{kind-later, kind-view, kind-known}
 
 -- ---- symbols
@@ -43,23 +41,7 @@ binary-other setting known extent operator a b symbol.And one other = absurd (on
 binary-other setting known extent operator a b symbol.Or one other = absurd (other refl)
 binary-other setting known extent operator a b it one other = refl
 
--- what is given, by an equal outcome
-pub gives-same : {A B : Type 0} (view : A → B) (source : Source) (behind : Known) (result : Result A Stop) (one other : Outcome B) → one ≡ other
-    → Gives view source behind result one → Gives view source behind result other
-gives-same view source behind result one other e gives = subst (Gives view source behind result) e gives
-
--- ---- what is known
-
--- one step after the other
-pub grows-on : (a b c : Held) → Grows a b → Grows b c → Grows a c
-grows-on a b c first second = record {
-  shapes = begins-on a.types.shapes b.types.shapes c.types.shapes first.shapes second.shapes;
-  structs = second.structs ∙ first.structs;
-  scopes = second.scopes ∙ first.scopes;
-  declared = second.declared ∙ first.declared;
-  begun = second.begun ∙ first.begun;
-  constants = second.constants ∙ first.constants;
-}
+-- ---- tests of two types
 
 -- what a test says of the types of two trees, whatever numbers come
 pub two-later : {X : Type 0} (found : Known → CType → CType → X) (held : Held) (later : List Shape) (a b : Core) → Begins held.types.shapes later

@@ -153,18 +153,3 @@ module _ {A B C D : Type 0} (Fits : Table → A → Type 0) (view : List Shape �
 
   pub with-fails : (fault : Stop) → Follows Fits view source old new (Err fault) one → Follows FitsAll seen source old new (Err fault) whole
   with-fails fault f = fails-making Fits view source old old new whole FitsAll seen one (λ later behind it. made later it) fault (begins old whole (λ later. with_it (one later) (λ behind it. made later it)) e) f
-
--- ---- growing
-
-pub grows-itself : (held : Held) → Grows held held
-grows-itself held = record { shapes = begins-itself held.types.shapes; structs = refl; scopes = refl; declared = refl; begun = refl; constants = refl }
-
-pub grows-on : (a b c : Held) → Grows a b → Grows b c → Grows a c
-grows-on a b c first second = record {
-  shapes = begins-on a.types.shapes b.types.shapes c.types.shapes first.shapes second.shapes;
-  structs = second.structs ∙ first.structs;
-  scopes = second.scopes ∙ first.scopes;
-  declared = second.declared ∙ first.declared;
-  begun = second.begun ∙ first.begun;
-  constants = second.constants ∙ first.constants;
-}

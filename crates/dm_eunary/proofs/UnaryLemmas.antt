@@ -1,14 +1,12 @@
 -- Operators of one operand, from what the code finds to what the rules say.
-use Rattle.std.specs.Prelude.{◌≡◌, ◌≢◌, ℕ, Bool, true, false, not, ◌&&◌, ◌||◌, if◌then◌else◌, is_some, List, [], ◌∷◌, Option, Some, None, option_map, Result, refl}
-use Rattle.std.proofs.Common.{sym, ap, ap₂, ◌∙◌, subst}
+use Rattle.std.specs.Prelude.{◌≡◌, ◌≢◌, ℕ, Bool, true, false, not, ◌&&◌, ◌||◌, if◌then◌else◌, is_some, List, [], ◌∷◌, Option, Some, None, option_map, refl}
+use Rattle.std.proofs.Common.{sym, ap, ap₂, ◌∙◌}
 use Rattle.dm_int.specs.declared.Kind.{Kind}
 use Rattle.dm_int.specs.declared.Kind.TheVariants as k
 use Rattle.dm_int.specs.Kinds.{promote}
-use Rattle.dm_token.specs.declared.stop.Stop.{Stop}
 use Rattle.dm_type.specs.declared.shape.Shape.{Shape}
 use Rattle.dm_type.specs.CTypes.{CType, integer}
 use Rattle.dm_type.specs.Tables.{type_of, IsId}
-use Rattle.dm_syn.specs.Sources.{Source}
 use Rattle.dm_syn.specs.declared.symbol.Symbol.{Symbol}
 use Rattle.dm_syn.specs.declared.symbol.Symbol.TheVariants as symbol
 use Rattle.dm_tree.specs.declared.tree.Core.{Core, out-Core}
@@ -27,25 +25,10 @@ use Rattle.dm_typing.specs.Fitting.{IsNumbered}
 use Rattle.dm_typing.specs.Rules.{is_modifiable, points_to_complete, may_be_cast, may_become_pointer, signed, signed_integer}
 use Rattle.dm_typing.specs.Typing.{typed_prefix, typed_sign}
 use Rattle.dm_eunary.specs.Unary.{typed_by_sign, is_whole_object, may_be_integer}
-use Rattle.dm_typing.specs.Views.{Begins, type_over, view_over, known_over, seen, Grows, Gives}
+use Rattle.dm_typing.specs.Views.{Begins, type_over, view_over, known_over, seen}
 use Rattle.dm_typing.proofs.GivesLemmas.{complete-alone, complete-later}
-use Rattle.dm_typing.proofs.LaterLemmas.{begins-on, type-later}
+use Rattle.dm_typing.proofs.LaterLemmas.{type-later}
 use Rattle.dm_typing.proofs.ValueLemmas.{kind-later}
-
--- what is given is so where the definition says the same
-pub gives-so : {A B : Type 0} (view : A → B) (source : Source) (behind : Known) (result : Result A Stop) (one other : Outcome B) → one ≡ other → Gives view source behind result one → Gives view source behind result other
-gives-so view source behind result one other same gives = subst (Gives view source behind result) same gives
-
--- what grows and grows again
-pub grows-on : (a b c : Held) → Grows a b → Grows b c → Grows a c
-grows-on a b c first second = record {
-  shapes = begins-on a.types.shapes b.types.shapes c.types.shapes first.shapes second.shapes;
-  structs = second.structs ∙ first.structs;
-  scopes = second.scopes ∙ first.scopes;
-  declared = second.declared ∙ first.declared;
-  begun = second.begun ∙ first.begun;
-  constants = second.constants ∙ first.constants;
-}
 
 -- ---- C16
 

@@ -1,18 +1,18 @@
 -- What the code gives, put together.
-use Rattle.std.specs.Prelude.{◌≡◌, ℕ, ◌<◌, Bool, true, false, ◌&&◌, if◌then◌else◌, is_some, option_and_then, IsTrue, List, [], ◌∷◌, length, map, reverse, Option, Some, None, option_map, IfSome, Result, Ok, Err, refl}
+use Rattle.std.specs.Prelude.{◌≡◌, ℕ, Bool, true, false, ◌&&◌, if◌then◌else◌, is_some, option_and_then, IsTrue, List, length, map, reverse, Option, Some, None, Result, Err, refl}
 use Rattle.std.proofs.Common.{sym, ap, ap₂, ◌∙◌, subst}
 use Rattle.dm_token.specs.declared.stop.Stop.{Stop}
 use Rattle.dm_token.specs.declared.stop.Stop.TheVariants as stop
 use Rattle.dm_type.specs.declared.shape.Shape.{Shape}
 use Rattle.dm_type.specs.declared.shape.Struct.{Struct as StructEntry}
 use Rattle.dm_type.specs.CTypes.{CType}
-use Rattle.dm_type.specs.Tables.{Table, type_of, IsId}
+use Rattle.dm_type.specs.Tables.{type_of, IsId}
 use Rattle.dm_scope.specs.Scopes.{Scopes}
 use Rattle.dm_syn.specs.Sources.{Source}
 use Rattle.dm_tree.specs.declared.tree.Core.{Core, out-Core}
 use Rattle.dm_tree.specs.declared.unit.Declared.{Declared}
 use Rattle.dm_tree.specs.Scenes.{target}
-use Rattle.dm_tree.specs.Trees.{Tree, kind_of}
+use Rattle.dm_tree.specs.Trees.{kind_of}
 use Rattle.dm_tree.specs.TypeNumbers.{are_known}
 use Rattle.dm_tree.specs.Views.{entries_of}
 use Rattle.dm_typing.specs.declared.known.Known.{Known as Held}
@@ -20,7 +20,7 @@ use Rattle.dm_typing.specs.Known.{Known, Outcome, given, broken, obeys, if_given
 use Rattle.dm_typing.specs.Conversions.{is_complete, if_complete, complete_target}
 use Rattle.dm_typing.specs.Fitting.{IsNumbered}
 use Rattle.dm_typing.specs.Views.{Begins, type_over, view_over, known_over, seen, Grows, refusal_at, Gives}
-use Rattle.dm_typing.proofs.LaterLemmas.{type-later}
+use Rattle.dm_typing.proofs.LaterLemmas.{begins-itself, begins-on, type-later}
 use Rattle.dm_typing.proofs.ValueLemmas.{kind-later, size-alone}
 
 -- ---- tests of rules
@@ -43,6 +43,11 @@ pub refused : {A B : Type 0} (view : A → B) (source : Source) (behind : Known)
 refused view source behind outcome rule at answer is same =
     let P : Stop → Type 0 = λ s. Gives view source behind (Err s) outcome in subst P (sym same) (rule, at, is, refl)
 
+-- what is given is so where the definition says the same
+pub gives-so : {A B : Type 0} (view : A → B) (source : Source) (behind : Known) (result : Result A Stop) (one other : Outcome B) → one ≡ other
+    → Gives view source behind result one → Gives view source behind result other
+gives-so view source behind result one other same gives = subst (Gives view source behind result) same gives
+
 -- ---- what is known
 
 abbrev known_from : List Shape → List StructEntry → Scopes → List Declared → List ℕ → List Core → Known
@@ -62,6 +67,20 @@ grown later old new g =
     ∙ ap (λ x. known_from later new.types.structs new.scopes x old.begun.items old.constants) (sym g.declared)
     ∙ ap (λ x. known_from later new.types.structs new.scopes new.declared x old.constants) (sym g.begun)
     ∙ ap (λ x. known_from later new.types.structs new.scopes new.declared new.begun.items x) (sym g.constants)
+
+-- it grows by no step, and by one step after the other
+pub grows-itself : (held : Held) → Grows held held
+grows-itself held = record { shapes = begins-itself held.types.shapes; structs = refl; scopes = refl; declared = refl; begun = refl; constants = refl }
+
+pub grows-on : (a b c : Held) → Grows a b → Grows b c → Grows a c
+grows-on a b c first second = record {
+  shapes = begins-on a.types.shapes b.types.shapes c.types.shapes first.shapes second.shapes;
+  structs = second.structs ∙ first.structs;
+  scopes = second.scopes ∙ first.scopes;
+  declared = second.declared ∙ first.declared;
+  begun = second.begun ∙ first.begun;
+  constants = second.constants ∙ first.constants;
+}
 
 pub given-so : {A : Type 0} (known behind : Known) (one other : A) → known ≡ behind → one ≡ other → given known one ≡ given behind other
 given-so known behind one other k e = ap₂ given k e

@@ -4,14 +4,13 @@ use Rattle.dm_syn.specs.Sources.{symbol_at}
 use Rattle.dm_tree.specs.declared.tree.Core.{Core}
 use Rattle.dm_typing.specs.Typing.{typed_assignment, typed_update}
 use Rattle.dm_typing.specs.Views.{view_over, known_over, source_of, setting_of}
-use Rattle.dm_typing.proofs.GivesLemmas.{refused}
+use Rattle.dm_typing.proofs.GivesLemmas.{refused, gives-so}
 use Rattle.dm_ebinary.proofs.AssignLemmas.{assignment-other}
-use Rattle.dm_ebinary.proofs.BinaryLemmas.{gives-same}
 use Rattle.dm_ebinary.proofs.assignments.typed_assignment.Goals as goal
 
 pub returns-in-Equals-clause-gives : goal.returns-in-Equals-clause-gives
 returns-in-Equals-clause-gives c = λ later begins.
-    gives-same {A = Core} (view_over later) (source_of c.args.typer.now) (known_over later c.args.known.now) c.typed_store.result _ _
+    gives-so {A = Core} (view_over later) (source_of c.args.typer.now) (known_over later c.args.known.now) c.typed_store.result _ _
     (ap (typed_assignment (setting_of c.args.typer.now) (known_over later c.args.known.now) c.args.at c.args.operator (view_over later c.args.object) (view_over later c.args.value)) c.in-Equals.ensures)
     (c.typed_store.ensures.gives later begins)
 
@@ -21,7 +20,7 @@ returns-in-Some-clause-gives c = λ later begins.
     let known = known_over later c.args.known.now in
     let object = view_over later c.args.object in
     let value = view_over later c.args.value in
-    gives-same {A = Core} (view_over later) (source_of c.args.typer.now) (known_over later c.updated.new.known) c.updated.result _ _
+    gives-so {A = Core} (view_over later) (source_of c.args.typer.now) (known_over later c.updated.new.known) c.updated.result _ _
     (ap (typed_update setting known c.args.at object value) c.in-Some.ensures
     ∙ sym (assignment-other setting known c.args.at c.args.operator object value (symbol_at (source_of c.args.typer.now) c.args.operator)
     (λ e. c.in_default.not-Equals (c.symbol.ensures ∙ e))))

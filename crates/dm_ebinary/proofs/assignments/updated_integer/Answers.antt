@@ -5,7 +5,8 @@ use Rattle.dm_typing.specs.Conversions.{as_type, as_kind}
 use Rattle.dm_typing.specs.Views.{type_over}
 use Rattle.dm_typing.proofs.LaterLemmas.{begins-on}
 use Rattle.dm_ebinary.proofs.AssignLemmas.{two-parts, update-brought, brought-kinds}
-use Rattle.dm_ebinary.proofs.BinaryLemmas.{grows-on, still-numbered}
+use Rattle.dm_ebinary.proofs.BinaryLemmas.{still-numbered}
+use Rattle.dm_typing.proofs.GivesLemmas.{grows-on}
 use Rattle.dm_ebinary.proofs.assignments.updated_integer.Goals as goal
 
 pub returns-clause-operand : goal.returns-clause-operand

@@ -2,7 +2,7 @@
 use Rattle.std.proofs.Common.{ap, ◌∙◌}
 use Rattle.dm_type.specs.CTypes.{pointer}
 use Rattle.dm_typing.proofs.LaterLemmas.{begins-on}
-use Rattle.dm_ebinary.proofs.BinaryLemmas.{grows-on}
+use Rattle.dm_typing.proofs.GivesLemmas.{grows-on}
 use Rattle.dm_ebinary.proofs.choices.pointer_to.Goals as goal
 
 pub returns-clause-number : goal.returns-clause-number

@@ -4,7 +4,7 @@ use Rattle.std.proofs.Common.{ap₂, sym, ◌∙◌}
 use Rattle.dm_type.specs.CTypes.{pointer, is_const}
 use Rattle.dm_typing.specs.Rules.{with_const_if}
 use Rattle.dm_typing.proofs.LaterLemmas.{begins-on}
-use Rattle.dm_ebinary.proofs.BinaryLemmas.{grows-on}
+use Rattle.dm_typing.proofs.GivesLemmas.{grows-on}
 use Rattle.dm_ebinary.proofs.ChoiceStepLemmas.{numbers-later}
 use Rattle.dm_ebinary.proofs.choices.pointer_to_void.Goals as goal
 

@@ -3,7 +3,8 @@ use Rattle.std.proofs.Common.{ap, ◌∙◌}
 use Rattle.dm_typing.specs.Conversions.{as_type}
 use Rattle.dm_typing.specs.Views.{type_over}
 use Rattle.dm_typing.proofs.LaterLemmas.{begins-on}
-use Rattle.dm_ebinary.proofs.BinaryLemmas.{integers-so, grows-on, still-numbered}
+use Rattle.dm_ebinary.proofs.BinaryLemmas.{integers-so, still-numbered}
+use Rattle.dm_typing.proofs.GivesLemmas.{grows-on}
 use Rattle.dm_ebinary.proofs.operations.of_integers.Goals as goal
 
 pub returns-clause-way : goal.returns-clause-way

@@ -8,7 +8,8 @@ use Rattle.dm_typing.specs.Known.{Known, Outcome, after}
 use Rattle.dm_edeclarator.specs.Steps.{step_over, steps_over, StepFits, StepsFit}
 use Rattle.dm_typing.specs.Typing.{derived, stepped}
 use Rattle.dm_typing.specs.Views.{type_over, known_over, source_of}
-use Rattle.dm_edeclarator.proofs.ReachLemmas.{begins, says, passes, grows-itself, grows-on}
+use Rattle.dm_edeclarator.proofs.ReachLemmas.{begins, says, passes}
+use Rattle.dm_typing.proofs.GivesLemmas.{grows-itself, grows-on}
 use Rattle.dm_edeclarator.proofs.DeclaratorStepLemmas.{steps-more}
 use Rattle.dm_edeclarator.proofs.FitLemmas.{all-parts, steps-later}
 use Rattle.dm_edeclarator.proofs.declarators.derived.Goals as goal

@@ -5,8 +5,7 @@ use Rattle.dm_type.specs.Tables.{IsId}
 use Rattle.dm_typing.specs.Specifiers.{type_said}
 use Rattle.dm_edeclarator.specs.Steps.{where_of, said_over, type_allowed}
 use Rattle.dm_typing.specs.Views.{type_over, known_over, source_of, Gives}
-use Rattle.dm_edeclarator.proofs.ReachLemmas.{grows-on}
-use Rattle.dm_typing.proofs.GivesLemmas.{found-it, found-none, refused, grown}
+use Rattle.dm_typing.proofs.GivesLemmas.{found-it, found-none, refused, grown, grows-on}
 use Rattle.dm_typing.proofs.LaterLemmas.{begins-on}
 use Rattle.dm_edeclarator.proofs.specifiers.typed_said.Goals as goal
 

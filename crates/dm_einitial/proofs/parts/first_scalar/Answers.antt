@@ -5,13 +5,12 @@ use Rattle.dm_type.specs.Tables.{IsId}
 use Rattle.dm_tree.specs.Scenes.{is_scalar, part_type}
 use Rattle.dm_typing.specs.Known.{Known}
 use Rattle.dm_typing.specs.Views.{type_over, known_over}
-use Rattle.dm_typing.proofs.GivesLemmas.{grown}
+use Rattle.dm_typing.proofs.GivesLemmas.{grown, grows-on}
 use Rattle.dm_typing.proofs.LaterLemmas.{begins-on, type-later}
 use Rattle.dm_einitial.specs.declared.parts.First.{First as FirstHeld}
 use Rattle.dm_edecl.specs.Initialising.{first_within}
 use Rattle.dm_einitial.specs.Steps.{first_over, within}
 use Rattle.dm_einitial.proofs.PartLemmas.{first_at, ends-here, ends-nowhere, goes-below, ends-last, stands-at, fuel-left, no-fuel, if-first}
-use Rattle.dm_edeclarator.proofs.ReachLemmas.{grows-on}
 use Rattle.dm_einitial.proofs.parts.first_scalar.Goals as goal
 
 pub returns-then-is_scalar-clause-first : goal.returns-then-is_scalar-clause-first

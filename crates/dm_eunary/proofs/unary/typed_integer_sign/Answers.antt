@@ -9,9 +9,9 @@ use Rattle.dm_tree.specs.Trees as label
 use Rattle.dm_tree.specs.TypeNumbers.{are_known}
 use Rattle.dm_typing.specs.Conversions.{made}
 use Rattle.dm_typing.specs.Views.{view_over, known_over, source_of, setting_of}
-use Rattle.dm_typing.proofs.GivesLemmas.{refused, given-so, grown}
+use Rattle.dm_typing.proofs.GivesLemmas.{refused, given-so, grown, grows-on}
 use Rattle.dm_typing.proofs.LaterLemmas.{begins-on, known-later}
-use Rattle.dm_eunary.proofs.UnaryLemmas.{grows-on, sign-of, sign-other}
+use Rattle.dm_eunary.proofs.UnaryLemmas.{sign-of, sign-other}
 use Rattle.dm_typing.proofs.ValueLemmas.{kind-later, node-known}
 use Rattle.dm_eunary.proofs.unary.typed_integer_sign.Goals as goal
 

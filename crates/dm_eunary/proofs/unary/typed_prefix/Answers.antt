@@ -4,7 +4,8 @@ use Rattle.dm_syn.specs.Sources.{symbol_at}
 use Rattle.dm_tree.specs.declared.tree.Core.{Core}
 use Rattle.dm_typing.specs.Typing.{typed_prefix}
 use Rattle.dm_typing.specs.Views.{view_over, known_over, source_of, setting_of}
-use Rattle.dm_eunary.proofs.UnaryLemmas.{gives-so, other-symbol}
+use Rattle.dm_eunary.proofs.UnaryLemmas.{other-symbol}
+use Rattle.dm_typing.proofs.GivesLemmas.{gives-so}
 use Rattle.dm_eunary.proofs.unary.typed_prefix.Goals as goal
 
 pub returns-in-Increment-clause-gives : goal.returns-in-Increment-clause-gives

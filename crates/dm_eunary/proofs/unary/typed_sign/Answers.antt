@@ -6,8 +6,7 @@ use Rattle.dm_tree.specs.declared.tree.Sign.TheVariants as s
 use Rattle.dm_typing.specs.Typing.{typed_sign}
 use Rattle.dm_eunary.specs.Unary.{sign_at, typed_by_sign}
 use Rattle.dm_typing.specs.Views.{view_over, known_over, source_of, setting_of}
-use Rattle.dm_typing.proofs.GivesLemmas.{found-it, found-none, refused}
-use Rattle.dm_eunary.proofs.UnaryLemmas.{gives-so}
+use Rattle.dm_typing.proofs.GivesLemmas.{found-it, found-none, refused, gives-so}
 use Rattle.dm_eunary.proofs.unary.typed_sign.Goals as goal
 
 pub returns-in-Some-Not-clause-gives : goal.returns-in-Some-Not-clause-gives

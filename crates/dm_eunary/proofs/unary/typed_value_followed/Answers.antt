@@ -4,8 +4,7 @@ use Rattle.dm_tree.specs.declared.tree.Core.{Core}
 use Rattle.dm_typing.specs.Conversions.{as_value}
 use Rattle.dm_typing.specs.Typing.{typed_follow}
 use Rattle.dm_typing.specs.Views.{view_over, known_over, source_of, setting_of}
-use Rattle.dm_typing.proofs.GivesLemmas.{grown}
-use Rattle.dm_eunary.proofs.UnaryLemmas.{gives-so}
+use Rattle.dm_typing.proofs.GivesLemmas.{grown, gives-so}
 use Rattle.dm_eunary.proofs.unary.typed_value_followed.Goals as goal
 
 pub returns-clause-gives : goal.returns-clause-gives

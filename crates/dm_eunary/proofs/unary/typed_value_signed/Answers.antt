@@ -4,9 +4,8 @@ use Rattle.dm_tree.specs.declared.tree.Core.{Core}
 use Rattle.dm_typing.specs.Conversions.{as_value}
 use Rattle.dm_typing.specs.Typing.{typed_sign}
 use Rattle.dm_typing.specs.Views.{view_over, known_over, source_of, setting_of}
-use Rattle.dm_typing.proofs.GivesLemmas.{grown}
+use Rattle.dm_typing.proofs.GivesLemmas.{grown, gives-so, grows-on}
 use Rattle.dm_typing.proofs.LaterLemmas.{begins-on}
-use Rattle.dm_eunary.proofs.UnaryLemmas.{gives-so, grows-on}
 use Rattle.dm_eunary.proofs.unary.typed_value_signed.Goals as goal
 
 pub returns-clause-gives : goal.returns-clause-gives
