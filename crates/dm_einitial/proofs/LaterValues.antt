@@ -1,73 +1,40 @@
 -- Constants and addresses are the same whatever numbers come.
-use Rattle.std.specs.Prelude.{◌≡◌, ℤ, pos, false, ◌&&◌, not, if◌then◌else◌, is_some, List, [], ◌∷◌, length, Option, None, option_map, slice_get, refl}
-use Rattle.std.proofs.Common.{sym, ap, ap₂, ◌∙◌, arith}
-use Rattle.std.proofs.lemmas.List.Elements.{All-head, All-tail}
+use Rattle.std.specs.Prelude.{◌≡◌, false, ◌&&◌, not, if◌then◌else◌, is_some, List, [], ◌∷◌, None, slice_get, refl}
+use Rattle.std.proofs.Common.{sym, ap, ap₂, ◌∙◌}
 use Rattle.dm_type.specs.declared.shape.Shape.{Shape}
 use Rattle.dm_type.specs.CTypes.{CType}
-use Rattle.dm_type.specs.Tables.{Table, type_of, IsId}
+use Rattle.dm_type.specs.Tables.{Table, type_of}
 use Rattle.dm_int.specs.declared.Op.TheVariants.{Add}
 use Rattle.dm_tree.specs.declared.tree.Core.{Core, out-Core}
-use Rattle.dm_tree.specs.declared.unit.Declared.{Declared}
-use Rattle.dm_tree.specs.Constants.{is_constant_form, value_at, kinds_in, constant_value, constant_values}
+use Rattle.dm_tree.specs.Constants.{is_constant_form, constant_value}
 use Rattle.dm_tree.specs.Initialisers.{Reach, nowhere, start, element_address, reach_of_object, reach_at, reach, reaches}
 use Rattle.dm_tree.specs.Scenes.{Scene, constant_of}
-use Rattle.dm_tree.specs.Trees.{Label, Spans, Tree, Trees, node, no_trees, more_trees, sizeof_tree, sizeof_kind, object, binary, address, listed}
-use Rattle.dm_tree.specs.Units.{Declaration}
-use Rattle.dm_tree.specs.ViewLaws.{stays}
+use Rattle.dm_tree.specs.Trees.{Label, Spans, Tree, Trees, node, no_trees, more_trees, object, binary, address, listed}
 use Rattle.dm_tree.specs.Views.{Opened, opened, opened_form, node_of, view, entries_of}
 use Rattle.dm_typing.specs.declared.known.Known.{Known as Held}
 use Rattle.dm_typing.specs.Known.{Known}
-use Rattle.dm_typing.specs.Fitting.{HaveTypes, IsNumbered}
+use Rattle.dm_typing.specs.Fitting.{IsNumbered}
 use Rattle.dm_typing.specs.Sound.{scene_of}
 use Rattle.dm_typing.specs.Views.{Begins, table_over, view_over, known_over, seen}
-use Rattle.dm_typing.proofs.LaterLemmas.{type-later, view-later}
-use Rattle.dm_typing.proofs.ValueLemmas.{size-alone}
+use Rattle.dm_typing.proofs.LaterLemmas.{view-later}
+use Rattle.dm_typing.proofs.ValueLemmas.{entries-later, value-alone, shapes-alone}
 use Rattle.dm_edecl.specs.Initialising.{has_comma, is_constant_expression, is_place, is_start, is_address_constant}
 use Rattle.dm_einitial.specs.Steps.{is_address}
 use Rattle.dm_tree.proofs.ViewLemmas.{view-core}
 use Rattle.dm_einitial.proofs.ConstantLemmas.{comma-same}
 
--- ---- declarations
-
-abbrev of_type : Declared → CType → Declaration
-of_type entry type = record { name = entry.name; sort = entry.sort; kind = type; linkage = entry.linkage; place = entry.place }
-
-entries-stay : (old : Table) (later : List Shape) (entries : List Declared) → Begins old.shapes later → HaveTypes old entries → entries_of (table_over later old) entries ≡ entries_of old entries
-entries-stay old later [] begins all = refl
-entries-stay old later (entry ∷ entries) begins all =
-    ap₂ (λ t es. of_type entry t ∷ es)
-    (type-later old.shapes later entry.kind begins (All-head (λ (e : Declared). IsId old e.kind) entry entries all))
-    (entries-stay old later entries begins (All-tail (λ (e : Declared). IsId old e.kind) entry entries all))
-
 -- ---- values
 
-module _ (table : Table) (later : List Shape) (entries : List Declaration) where
-  at-stays : (label : Label) (kind : CType) (kinds : List CType) (values : List (Option ℤ)) → value_at (table_over later table) entries label kind kinds values ≡ value_at table entries label kind kinds values
-  at-stays sizeof_tree kind (operand ∷ []) values = ap (option_map pos) (size-alone table later operand)
-  at-stays (sizeof_kind type) kind kinds values = ap (option_map pos) (size-alone table later type)
-  at-stays label kind kinds values = refl
-
-  mutual
-    value-stays : (tree : Tree) → constant_value (table_over later table) entries tree ≡ constant_value table entries tree
-    value-stays (node label kind spans parts) =
-        at-stays label kind (kinds_in parts) (constant_values (table_over later table) entries parts)
-        ∙ ap (value_at table entries label kind (kinds_in parts)) (values-stay parts)
-
-    values-stay : (parts : Trees) → constant_values (table_over later table) entries parts ≡ constant_values table entries parts
-    values-stay no_trees = refl
-    values-stay (more_trees first rest) = ap₂ (λ v vs. v ∷ vs) (value-stays first) (values-stay rest)
-
--- the shapes of a table are all that trees need of it
+-- a tree is the same
 tree-stays : (held : Held) (later : List Shape) (core : Core) → Begins held.types.shapes later → IsNumbered held.types core → view_over later core ≡ view held.types core
 tree-stays held later core begins known =
-    view-later held.types.shapes later core begins known
-    ∙ (stays (length held.types.shapes) (length held.types.shapes) (omega arith) held.types (record { shapes = held.types.shapes; structs = [] }) (λ id inside. refl) core known).0
+    view-later held.types.shapes later core begins known ∙ shapes-alone held.types core known
 
 module _ (held : Held) (later : List Shape) (begins : Begins held.types.shapes later) where
   values-same : (tree : Tree) → constant_value (known_over later held).types (known_over later held).declared tree ≡ constant_value (seen held).types (seen held).declared tree
   values-same tree =
-      ap (λ entries. constant_value (table_over later held.types) entries tree) (entries-stay held.types later held.declared begins held.entries)
-      ∙ value-stays held.types later (entries_of held.types held.declared) tree
+      ap (λ entries. constant_value (table_over later held.types) entries tree) (entries-later held.types later held.declared begins held.entries)
+      ∙ value-alone held.types later (entries_of held.types held.declared) tree
 
   pub comma-later : (core : Core) → IsNumbered held.types core → has_comma (known_over later held) (view_over later core) ≡ has_comma (seen held) (view held.types core)
   comma-later core known = comma-same (known_over later held) (seen held) values-same (view_over later core) ∙ ap (has_comma (seen held)) (tree-stays held later core begins known)
@@ -87,7 +54,7 @@ module _ (held : Held) (later : List Shape) (begins : Begins held.types.shapes l
   constants-same tree = ap (λ v. if is_constant_form tree then v else None) (values-same tree)
 
   reach-at-same : (label : Label) (spans : Spans) (parts : List Tree) (all : List Reach) → reach_at there label spans parts all ≡ reach_at here label spans parts all
-  reach-at-same (object at) spans parts all = ap (λ entries. reach_of_object (slice_get entries at)) (entries-stay held.types later held.declared begins held.entries)
+  reach-at-same (object at) spans parts all = ap (λ entries. reach_of_object (slice_get entries at)) (entries-later held.types later held.declared begins held.entries)
   reach-at-same (binary Add) spans (left ∷ right ∷ []) (start ∷ rest) = ap (λ found. if is_some found then element_address else nowhere) (constants-same right)
   reach-at-same (binary Add) spans (left ∷ right ∷ []) (first ∷ start ∷ rest) = by-first first
     where

@@ -1,6 +1,6 @@
 -- Values and conversions, as the code makes them.
-use Rattle.std.specs.Prelude.{◌≡◌, ℕ, ℤ, pos, ◌<◌, ◌==◌, Bool, true, false, ◌&&◌, not, nat_lt, IsTrue, List, [], ◌∷◌, length, map, slice_index_or, All, if◌then◌else◌, Option, Some, None, option_map, refl}
-use Rattle.std.proofs.Common.{sym, ap, ◌∙◌, subst, arith}
+use Rattle.std.specs.Prelude.{◌≡◌, ℕ, ℤ, pos, ◌<◌, ◌==◌, Bool, true, false, ◌&&◌, nat_lt, IsTrue, List, [], ◌∷◌, length, if◌then◌else◌, Option, Some, None, option_map, refl}
+use Rattle.std.proofs.Common.{sym, ap, ◌∙◌, arith}
 use Rattle.std.proofs.lemmas.Bool.{and_parts, and_from, ltb-true, lt-ltb}
 use Rattle.std.proofs.lemmas.List.Elements.{All-head, All-tail}
 use Rattle.dm_int.specs.Kinds.{number_of}
@@ -21,9 +21,9 @@ use Rattle.dm_tree.specs.ViewLaws.{stays}
 use Rattle.dm_tree.specs.Views.{Opened, opened, opened_form, node_of, view, entries_of}
 use Rattle.dm_typing.specs.declared.known.Known.{Known as Held}
 use Rattle.dm_typing.specs.Known.{Known}
-use Rattle.dm_typing.specs.Conversions.{is_same, are_same, is_same_length, over, value_of_lvalue, as_value, as_type, constant_of, is_zero, is_zero_value, is_null}
+use Rattle.dm_typing.specs.Conversions.{is_same, are_same, is_same_length, over, value_of_lvalue, as_value, as_type, constant_of, is_zero, is_null}
 use Rattle.dm_typing.specs.Fitting.{HaveTypes, IsNumbered}
-use Rattle.dm_typing.specs.Views.{Begins, type_over, table_over, view_over, known_over, elements, is_plain_void_pointer, is_conversion, Grows}
+use Rattle.dm_typing.specs.Views.{Begins, type_over, table_over, view_over, known_over, elements, is_plain_void_pointer, is_conversion}
 use Rattle.dm_typing.proofs.FormLemmas.{view-core, known-core, opened-Member}
 use Rattle.dm_typing.proofs.KindLemmas.{same-numbers, numbers-same}
 use Rattle.dm_typing.proofs.LaterLemmas.{type-later, view-later}
@@ -156,7 +156,7 @@ lvalue-member types core whole k is =
 abbrev of_type : Declared → CType → Declaration
 of_type entry type = record { name = entry.name; sort = entry.sort; kind = type; linkage = entry.linkage; place = entry.place }
 
-entries-later : (old : Table) (later : List Shape) (entries : List Declared) → Begins old.shapes later → HaveTypes old entries
+pub entries-later : (old : Table) (later : List Shape) (entries : List Declared) → Begins old.shapes later → HaveTypes old entries
     → entries_of (table_over later old) entries ≡ entries_of old entries
 entries-later old later [] begins all = refl
 entries-later old later (entry ∷ entries) begins all =
@@ -184,7 +184,7 @@ module _ (table : Table) (later : List Shape) where
     at-alone label kind kinds values = refl
 
     mutual
-      value-alone : (tree : Tree) → constant_value (table_over later table) entries tree ≡ constant_value table entries tree
+      pub value-alone : (tree : Tree) → constant_value (table_over later table) entries tree ≡ constant_value table entries tree
       value-alone (node label kind spans parts) =
           at-alone label kind (kinds_in parts) (constant_values (table_over later table) entries parts)
           ∙ ap (value_at table entries label kind (kinds_in parts)) (values-alone parts)
@@ -198,7 +198,7 @@ module _ (table : Table) (later : List Shape) where
     structs-alone tree = ap (λ v. if is_constant_form tree then v else None) (value-alone tree)
 
 -- the shapes of a table are all that trees need of it
-shapes-alone : (table : Table) (core : Core) → IsNumbered table core → view_over table.shapes core ≡ view table core
+pub shapes-alone : (table : Table) (core : Core) → IsNumbered table core → view_over table.shapes core ≡ view table core
 shapes-alone table core known =
     (stays (length table.shapes) (length table.shapes) (omega arith) table (record { shapes = table.shapes; structs = [] }) (λ id inside. refl) core known).0
 
