@@ -1,6 +1,6 @@
 //! Integer constant expressions, with a value or without (6.6).
 
-ghost use Rattle.std.specs.Prelude.{◌≡◌, length, pos, false, IsTrue, List as Sequence, Some, option_map, option_and_then, if◌then◌else◌, ◌||◌, ◌&&◌};
+ghost use Rattle.std.specs.Prelude.{◌≡◌, pos, false, IsTrue, List as Sequence, Some, option_map, option_and_then, if◌then◌else◌, ◌||◌, ◌&&◌};
 ghost use Rattle.dm_type.specs.declared.shape.Shape.{Shape as OneShape};
 ghost use Rattle.dm_type.specs.Layouts.{size_of};
 ghost use Rattle.dm_type.specs.Tables.{IsId, type_of};
@@ -8,62 +8,16 @@ ghost use Rattle.dm_int.specs.Kinds.{InRange, is_in_range};
 ghost use Rattle.dm_int.specs.Operators.{IsRight};
 ghost use Rattle.dm_tree.specs.Constants as constants;
 ghost use Rattle.dm_tree.specs.Evaluation.{is_right, is_true};
-ghost use Rattle.dm_tree.specs.Opened.{is_constant_view};
-ghost use Rattle.dm_tree.specs.TypeNumbers.{are_known, are_known_in_form};
-ghost use Rattle.dm_tree.specs.Views.{entries_of, opened_form, view};
+ghost use Rattle.dm_tree.specs.Views.{entries_of, view};
 ghost use Rattle.dm_typing.specs.Fitting.{IsNumbered};
 ghost use Rattle.dm_typing.specs.Views.{Begins, seen, view_over, known_over};
 ghost use Rattle.dm_edecl.specs.Initialising as initialising;
 
 use dm_int::{Kind, Op, binary, convert, greatest, least};
-use dm_tree::{Core, Form, Sign, Sort, is_nonzero, unary};
+use dm_tree::{Core, Form, Sign, Sort, has_constant_form, is_nonzero, unary};
 use dm_type::{TypeId, Types};
 use dm_typing::Known;
 use dm_typing::looks::integer_kind;
-
-/// Whether the operands and operators of a tree are such as an integer constant expression may have (6.6p3, p6).
-#[cycle(constant_form)]
-pub fn has_constant_form(core: &Core, types: &Types) -> bool
-    requires { IsTrue (are_known (length types.now.shapes) core.now) }
-    ensures { result ≡ constants.is_constant_form (view types.now core.now) }
-{
-    let mut at = core;
-    while let Form::Comma(left, right) = &at.form {
-        if integer_kind(types, at.kind).is_none() || !has_constant_form(right.get(), types) {
-            return false;
-        }
-        at = left.get();
-    }
-    integer_kind(types, at.kind).is_some() && parts_have_constant_form(&at.form, types)
-}
-
-/// The same of a form alone.
-#[cycle(constant_form)]
-fn parts_have_constant_form(form: &Form, types: &Types) -> bool
-    requires { IsTrue (are_known_in_form (length types.now.shapes) form.now) }
-    ensures { result ≡ is_constant_view (opened_form types.now form.now) }
-{
-    match form {
-        Form::Number(_) | Form::Enumerator(_) | Form::SizeofTree(_) | Form::SizeofKind(_, _) => {
-            true
-        }
-        Form::Convert(a, _) | Form::Unary(_, a) => has_constant_form(a.get(), types),
-        Form::Binary(_, a, b) => has_constant_form(a.get(), types)
-            && has_constant_form(b.get(), types),
-        Form::Both(a, b) => has_constant_form(a.get(), types) && has_constant_form(b.get(), types),
-        Form::Either(a, b) => has_constant_form(a.get(), types)
-            && has_constant_form(b.get(), types),
-        Form::Comma(a, b) => has_constant_form(a.get(), types) && has_constant_form(b.get(), types),
-        Form::Choose(a, b, c) => {
-            let second = b.get();
-            let third = c.get();
-            has_constant_form(a.get(), types)
-                && has_constant_form(second, types)
-                && has_constant_form(third, types)
-        }
-        _ => false,
-    }
-}
 
 /// What the evaluation of a tree comes to.
 #[derive(Clone, Copy)]

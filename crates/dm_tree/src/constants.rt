@@ -29,7 +29,7 @@ pub fn constant(core: &Core, declared: &List<Declared>, types: &Types) -> Option
 
 /// Whether the operands and operators of a tree are such as an integer constant expression may have (6.6p3, p6).
 #[cycle(constant_form)]
-fn has_constant_form(core: &Core, types: &Types) -> bool
+pub fn has_constant_form(core: &Core, types: &Types) -> bool
     requires { IsTrue (are_known (length types.now.shapes) core.now) }
     ensures { result ≡ constants.is_constant_form (view types.now core.now) }
 {

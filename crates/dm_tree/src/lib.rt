@@ -8,7 +8,7 @@ mod kinds;
 mod tree;
 mod unit;
 
-pub use constants::constant;
+pub use constants::{constant, has_constant_form};
 pub use evaluation::{counted, is_nonzero, unary, updated};
 pub use tree::{Core, Form, Initial, Local, Sign};
 pub use unit::{CoreExternal, CoreExternalForm, CoreUnit, Declared, Linkage, Sort};
