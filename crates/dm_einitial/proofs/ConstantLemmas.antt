@@ -26,9 +26,6 @@ module _ (types : Table) (core : Core) (known : IsTrue (are_known (length types.
   abbrev n : ℕ
   n = length types.shapes
 
-  abbrev seen : Opened → Tree
-  seen o = node_of o (type_of types (out-Core core).kind) (out-Core core).inner (out-Core core).outer (out-Core core).place
-
   -- the form of a tree that has it
   pub form-is : IsTrue (is_constant_view (opened_form types (out-Core core).form))
   form-is =

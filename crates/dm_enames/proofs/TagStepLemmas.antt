@@ -1,12 +1,12 @@
 -- What the code knows while tags are declared and the members of structs are read.
-use Rattle.std.specs.Prelude.{◌≡◌, ℕ, zero, suc, ◌+◌, ◌<◌, ◌==◌, Bool, true, false, ◌||◌, if◌then◌else◌, List, [], ◌∷◌, ◌++◌, length, map, reverse, drop, All, slice_get, slice_set, slice_index_or, Option, Some, None, is_some, option_and_then, option_map, ℤ, IfNone, IsSome, Result, Ok, Err, OnErr, refl}
+use Rattle.std.specs.Prelude.{◌≡◌, ℕ, zero, suc, ◌+◌, ◌<◌, ◌==◌, Bool, true, false, ◌||◌, if◌then◌else◌, List, [], ◌∷◌, ◌++◌, length, reverse, drop, All, slice_get, slice_set, slice_index_or, Option, Some, None, is_some, option_and_then, option_map, ℤ, IfNone, IsSome, Result, Ok, Err, OnErr, refl}
 use Rattle.std.proofs.Common.{sym, ap, ◌∙◌, subst, arith, cond, length-append}
 use Rattle.std.specs.Cmp.Lexicographic.{slice_cmp}
 use Rattle.std.specs.Ordering.{nat_cmp, eq_by_cmp}
 use Rattle.std.specs.FinMap as finite
 use Rattle.std.proofs.lemmas.Bool.{eqb-true, eqb-false, or_parts}
 use Rattle.std.proofs.lemmas.Cmp.{nat_list_cmp_total}
-use Rattle.std.proofs.lemmas.List.{reverse-append, length-set, map-append, length-map}
+use Rattle.std.proofs.lemmas.List.{reverse-append, length-set}
 use Rattle.std.proofs.lemmas.List.Elements.{All-head, All-tail, All-cons, All-nil, All-weaker}
 use Rattle.dm_type.specs.declared.shape.Content.{Content}
 use Rattle.dm_type.specs.declared.shape.Member.{Member}
@@ -20,19 +20,17 @@ use Rattle.dm_type.specs.Tables.{Table, types_of, type_of, IsId, AreDistinct, me
 use Rattle.dm_scope.specs.Scopes.{Numbers, Scopes, number_of, declared, or_else}
 use Rattle.dm_token.specs.declared.place.Place.{Place}
 use Rattle.dm_token.specs.declared.place.Span.{Span}
-use Rattle.dm_tree.specs.declared.tree.Core.{Core}
 use Rattle.dm_tree.specs.declared.unit.Declared.{Declared}
 use Rattle.dm_tree.specs.declared.unit.Linkage.TheVariants.{Absent}
 use Rattle.dm_tree.specs.declared.unit.Sort.TheVariants.{Enumerator as EnumeratorSort}
 use Rattle.dm_tree.specs.Units.{Declaration}
-use Rattle.dm_tree.specs.Views.{view_of_declared, entries_of}
 use Rattle.dm_typing.specs.declared.known.Known.{Known as Held}
 use Rattle.dm_typing.specs.Bounds.{IsBelow, AreBelow, IsUnset, AreOpen}
 use Rattle.dm_typing.specs.Conversions.{is_same}
 use Rattle.dm_typing.specs.Known.{Known, obeys, given, declaring}
 use Rattle.dm_enames.specs.Tags.{ended, fields_over, IsUnopened, type_meant, struct_at}
 use Rattle.dm_typing.specs.Typing.{is_among, number_among, number_of_type, fields, struct_ended, beginning, struct_begun, may_have_members, number_if_struct}
-use Rattle.dm_typing.specs.Views.{Begins, type_over, table_over, view_over, known_over, seen}
+use Rattle.dm_typing.specs.Views.{Begins, type_over, table_over, known_over, seen}
 use Rattle.dm_typing.proofs.BoundLemmas.{open-parts, open-with}
 use Rattle.dm_typing.proofs.LaterLemmas.{begins-length, type-later}
 use Rattle.dm_typing.proofs.TypeLemmas.{same-types}
@@ -244,32 +242,6 @@ entered-below count scopes all = All-cons (IsBelow count) finite.empty scopes (�
 pub left-below : (count : ℕ) (scopes : Scopes) → AreBelow count scopes → AreBelow count (drop 1 scopes)
 left-below count [] all = all
 left-below count (scope ∷ scopes) all = All-tail (IsBelow count) scope scopes all
-
--- ---- one declaration more
-
-abbrev put : List Shape → List StructEntry → Scopes → List Declared → List ℕ → List Core → Known
-put later structs scopes entries begun constants = record {
-  types = record { shapes = later; structs = structs };
-  scopes = scopes;
-  declared = entries_of (record { shapes = later; structs = structs }) entries;
-  begun = reverse begun;
-  constants = map (view_over later) constants;
-}
-
-pub declares : (later : List Shape) (old new : Held) (key : List ℕ) (entry : Declared) → new.types ≡ old.types → new.scopes ≡ declared old.scopes key (length old.declared)
-    → new.declared ≡ old.declared ++ entry ∷ [] → new.begun.items ≡ old.begun.items → new.constants ≡ old.constants
-    → known_over later new ≡ declaring (known_over later old) key (view_of_declared (table_over later old.types) entry)
-declares later old new key entry t s d b k =
-    let types : Table = table_over later old.types in
-    ap (λ (x : Table). put later x.structs new.scopes new.declared new.begun.items new.constants) t
-    ∙ ap (λ x. put later old.types.structs x new.declared new.begun.items new.constants) s
-    ∙ ap (λ x. put later old.types.structs (declared old.scopes key (length old.declared)) x new.begun.items new.constants) d
-    ∙ ap (λ x. put later old.types.structs (declared old.scopes key (length old.declared)) (old.declared ++ entry ∷ []) x new.constants) b
-    ∙ ap (λ x. put later old.types.structs (declared old.scopes key (length old.declared)) (old.declared ++ entry ∷ []) old.begun.items x) k
-    ∙ ap (λ (entries : List Declaration). record (known_over later old) { declared = entries; scopes = declared old.scopes key (length old.declared) })
-    (map-append (view_of_declared types) old.declared (entry ∷ []))
-    ∙ ap (λ (n : ℕ). record (known_over later old) { declared = entries_of types old.declared ++ view_of_declared types entry ∷ []; scopes = declared old.scopes key n })
-    (sym (length-map old.declared (view_of_declared types)))
 
 -- ---- a struct that ends
 

@@ -70,16 +70,6 @@ no-pointer type h = absurd (cc)
 pub integer-value : (type : CType) → type ≡ bare type → is_integer type ≡ true → (kind : Kind) × (type ≡ integer kind)
 integer-value type e h = let one = integer-of (bare type) h in (one.0, e ∙ one.1)
 
-kind-of : (type : CType) (kind : Kind) → kind_if_integer type ≡ Some kind → type ≡ integer kind
-kind-of (integer one) kind h = ap integer (inside one kind h)
-  where
-    inside : (a b : Kind) → Some a ≡ Some b → a ≡ b
-    inside a b h = cc
-kind-of type kind h = absurd (cc)
-
-pub kind-value : (type : CType) (kind : Kind) → type ≡ bare type → integer_kind type ≡ Some kind → type ≡ integer kind
-kind-value type kind e h = e ∙ kind-of (bare type) kind h
-
 pub pointer-value : (type to : CType) → type ≡ bare type → target type ≡ Some to → type ≡ pointer to
 pointer-value type to e h = e ∙ pointer-of (bare type) to h
 

@@ -27,10 +27,9 @@ use Rattle.dm_tree.specs.Typing.{FitsExpression, IsWellTyped, AreWellTyped, insi
 use Rattle.dm_tree.specs.Units.{Declaration}
 use Rattle.dm_typing.specs.Known.{Known}
 use Rattle.dm_typing.specs.Later.{IsCompletion, IsLater}
-use Rattle.dm_typing.specs.Sound.{AreComplete, KnowsMore, scene_of, IsSound, IsSoundValue, AreSound, AreConstants}
+use Rattle.dm_typing.specs.Sound.{AreComplete, KnowsMore, scene_of, IsSound, AreConstants}
 use Rattle.dm_typing.proofs.ExpressionLemmas.{AreExpressions, value-expression, expressions-in, expression-fits, fits-expression, inside-expression}
 use Rattle.dm_typing.proofs.CoverLemmas.{covers-itself, covers-through}
-use Rattle.dm_typing.proofs.RuleLemmas.{value-sound}
 use Rattle.dm_typing.proofs.TypeLemmas.{both-hold, both-true}
 
 -- ---- answers
@@ -370,13 +369,6 @@ module _ (old new : Known) (more : KnowsMore old new) (complete : AreComplete ol
 
   pub sound-stays : (tree : Tree) → IsSound old tree → IsSound new tree
   sound-stays tree h = (h.0, h.1, h.2, typed-stays tree h.0 h.3)
-
-  pub value-sound-stays : (tree : Tree) → IsSoundValue old tree → IsSoundValue new tree
-  value-sound-stays tree h = (h.0, h.1, h.2, typed-stays tree (value-sound old tree h).0 h.3)
-
-  pub all-sound-stay : (all : List Tree) → AreSound old all → AreSound new all
-  all-sound-stay [] h = tt
-  all-sound-stay (first ∷ rest) h = (value-sound-stays first h.0, all-sound-stay rest h.1)
 
   typed-list-stays : (all : List Tree) → All (IsConstant (scene_of old)) all → AreWellTyped (scene_of old) (trees all) → AreWellTyped (scene_of new) (trees all)
   typed-list-stays [] are h = tt
