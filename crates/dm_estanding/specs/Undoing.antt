@@ -3,9 +3,12 @@
 --     undone changes entries      entries with the types of before the changes, of which the last is undone first
 --     KeepsTypes old new      all but scopes and entries is the same
 --     IsWithin old new      what is known now, in the scopes that were open or in further ones inside the innermost, can be undone
-use Rattle.std.specs.Prelude.{◌≡◌, ℕ, zero, suc, List, [], ◌∷◌, ◌++◌, length, take, drop}
+use Rattle.std.specs.Prelude.{◌≡◌, ℕ, zero, suc, List, [], ◌∷◌, ◌++◌, length, map, take, drop}
+use Rattle.dm_type.specs.declared.shape.Shape.{Shape}
 use Rattle.dm_tree.specs.declared.unit.Declared.{Declared}
 use Rattle.dm_typing.specs.declared.known.Known.{Known}
+use Rattle.dm_typing.specs.Views.{Begins}
+use Rattle.dm_estanding.specs.Summaries.{entry_over}
 use Rattle.dm_estanding.specs.declared.standing.Retyped.{Retyped}
 use Rattle.dm_estanding.specs.declared.standing.Standing.{Standing as Held}
 
@@ -26,8 +29,10 @@ undone (change ∷ changes) entries = set_kind change.number change.kind (undone
 
 -- The entries of before have their types again once the changes since then are undone, and the scopes around the innermost are the same.
 pub record IsWithin (old new : Held) : Type 0 where
+  pub shapes : Begins old.known.types.shapes new.known.types.shapes
   pub changes : List Retyped
   pub retyped : new.retyped.items ≡ old.retyped.items ++ changes
-  pub entries : take (length old.known.declared) (undone changes new.known.declared) ≡ old.known.declared
+  pub entries : (later : List Shape) → Begins new.known.types.shapes later
+      → map (entry_over later) (take (length old.known.declared) (undone changes new.known.declared)) ≡ map (entry_over later) old.known.declared
   pub scopes : drop 1 new.known.scopes ≡ drop 1 old.known.scopes
   pub depth : length new.known.scopes ≡ length old.known.scopes
