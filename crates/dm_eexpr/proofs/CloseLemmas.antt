@@ -92,7 +92,7 @@ module _ (typer : Typer) (used : Bool) (parameters : Parameters) (old inside beh
     outer-stays =
         let shapes = behind.types.shapes in
         let keeps = subst (KeepsIn (known_over shapes inside)) (f.gives shapes (begins-itself shapes)) (parameters-keep (setting_of typer) used (known_over shapes inside) parameters) in
-        keeps.leads.outer ∙ ap (drop 1) one
+        keeps.leads.adds.outer ∙ ap (drop 1) one
 
     pub left-open : 0 < length old.scopes → 1 < length behind.scopes
     left-open some = outside-open behind.scopes old.scopes outer-stays some

@@ -1,11 +1,20 @@
--- What typing leaves as it is: the scopes outside the innermost one, and which structs are being read.
-use Rattle.std.specs.Prelude.{◌≡◌, ℕ, ℤ, pos, ◌+ℤ◌, negsuc, Bool, true, false, if◌then◌else◌, List, [], ◌∷◌, drop, Option, Some, None, is_some, refl, ◌&&◌, option_and_then, unwrap_or, bytes_eq, codes, not}
-use Rattle.std.proofs.Common.{◌∙◌}
+-- What typing leaves as it is: the scopes outside the innermost one, and which structs are being read. What it declares has no linkage, and
+-- its names are new in the innermost scope.
+use Rattle.std.specs.Prelude.{◌≡◌, ℕ, ◌≤◌, ◌⊎◌, ℤ, pos, ◌+ℤ◌, negsuc, Bool, true, false, if◌then◌else◌, List, [], ◌∷◌, ◌++◌, length, drop, All, Option, Some, None, is_some, refl, ◌&&◌, option_and_then, unwrap_or, bytes_eq, codes, not}
+use Rattle.std.specs.Cmp.Lexicographic.{slice_cmp}
+use Rattle.std.specs.FinMap as finite
+use Rattle.std.specs.Ordering.{nat_cmp, eq_by_cmp}
+use Rattle.std.proofs.Common.{sym, ap, ◌∙◌, cond, arith, inl, inr, ⊎_elim, append-nil, append_assoc}
+use Rattle.std.proofs.lemmas.Cmp.{nat_list_cmp_total}
+use Rattle.std.proofs.lemmas.List.{length-append}
+use Rattle.std.proofs.lemmas.List.Elements.{All-nil, All-cons, All-append}
 use Rattle.dm_token.specs.declared.place.Span.{Span}
 use Rattle.dm_int.specs.declared.Kind.TheVariants as k
-use Rattle.dm_type.specs.Layouts.{struct_layout}
-use Rattle.dm_type.specs.CTypes.{CType, integer, bare}
-use Rattle.dm_scope.specs.Scopes.{Scopes, number_of, is_declared, declared as declared_in}
+use Rattle.dm_type.specs.Layouts.{contained, struct_layout}
+use Rattle.dm_type.specs.CTypes.{CType, integer, struct, bare}
+use Rattle.dm_type.specs.TableLaws.{injected}
+use Rattle.dm_type.specs.Tables.{with_struct, with_content}
+use Rattle.dm_scope.specs.Scopes.{Numbers, Scopes, number_of, is_declared, declared as declared_in}
 use Rattle.dm_syn.specs.declared.symbol.Symbol.{Symbol}
 use Rattle.dm_syn.specs.declared.symbol.Symbol.TheVariants as symbol
 use Rattle.dm_syn.specs.Sources.{spelling_at, symbol_at}
@@ -17,6 +26,7 @@ use Rattle.dm_int.specs.declared.Op.{Op}
 use Rattle.dm_tree.specs.Trees.{Tree, kind_of, label_of}
 use Rattle.dm_tree.specs.Trees as label
 use Rattle.dm_tree.specs.Scenes.{is_lvalue, is_integer, is_scalar, is_function}
+use Rattle.dm_tree.specs.Typing.{has_linkage}
 use Rattle.dm_tree.specs.Units.{Declaration}
 use Rattle.dm_typing.specs.declared.extent.Extent.{Extent}
 use Rattle.dm_typing.specs.Rules.{named_by_sort, indexed, member_by_name, may_be_counted, signed, may_be_cast, operated, rule_of, arms, is_modifiable, is_assignable, called, updated}
@@ -26,11 +36,26 @@ use Rattle.dm_typing.specs.Conversions.{as_value, made, is_complete, complete_ta
 use Rattle.dm_typing.specs.Specifiers.{type_said, are_allowed, Said, Where, elsewhere, nothing_said}
 use Rattle.dm_edeclarator.specs.Steps.{enum_begun_with}
 use Rattle.dm_eexpr.specs.Parts.{begun_with}
-use Rattle.dm_typing.specs.Typing.{comma_of, may_be_used, is_name, is_function_label, number_if_struct, fields, is_file_scope, enumerator_entry, is_int, with_constant, length_fits, is_result, natural, parameter_entry, is_named, name_of, named, typed_sign, typed_operation, typed_update, new_struct, typed_index, typed_member, typed_arrow, typed_count, typed_prefix, typed_sizeof, typed_sizeof_name, typed_cast, typed_binary, typed_choice, typed_assignment, typed_call, tag_declared, tag_inside, tag_seen, struct_named, enum_named, with_new_struct, struct_begun, struct_ended, beginning, enumerator_declared, enumerator_implied, enumerator_valued, TypedMember, typed_field, typed_said, name_ended, Step, arraying, calling, derived, stepped, pointing, direct_at, length_of, typed_parameter, parameter_declared, adjusted, parameter_at, entered, left, extent, typed, typed_within, typed_values, typed_name, typed_specifiers, words_said, word_said, fields_of, fields_declared, fields_with, enumerators_of, enumerator_of, steps_of, direct_steps, parameters_of, parameter_of}
+use Rattle.dm_typing.specs.Typing.{comma_of, may_be_used, is_name, is_function_label, number_if_struct, fields, is_file_scope, enumerator_entry, is_int, with_constant, length_fits, is_result, natural, parameter_entry, is_named, name_of, named, spelled, typed_sign, typed_operation, typed_update, new_struct, typed_index, typed_member, typed_arrow, typed_count, typed_prefix, typed_sizeof, typed_sizeof_name, typed_cast, typed_binary, typed_choice, typed_assignment, typed_call, tag_declared, tag_inside, tag_seen, struct_named, enum_named, with_new_struct, struct_begun, struct_ended, beginning, enumerator_declared, enumerator_implied, enumerator_valued, TypedMember, typed_field, typed_said, name_ended, Step, arraying, calling, derived, stepped, pointing, direct_at, length_of, typed_parameter, parameter_declared, adjusted, parameter_at, entered, left, extent, typed, typed_within, typed_values, typed_name, typed_specifiers, words_said, word_said, fields_of, fields_declared, fields_with, enumerators_of, enumerator_of, steps_of, direct_steps, parameters_of, parameter_of}
 
--- the outer scopes and the structs that are being read
-pub record Keeps (known behind : Known) : Type 0 where
+-- the number that a name has in the innermost scope
+abbrev pub number_inside : Scopes → List ℕ → Option ℕ
+number_inside [] name = None
+number_inside (scope ∷ scopes) name = finite.get scope name
+
+-- declarations are added, none of them with linkage, and their names to the innermost scope
+pub record Adds (known behind : Known) : Type 0 where
   pub outer : drop 1 behind.scopes ≡ drop 1 known.scopes
+  pub depth : length behind.scopes ≡ length known.scopes
+  pub more : List Declaration
+  pub declared : behind.declared ≡ known.declared ++ more
+  pub unlinked : All (λ (entry : Declaration). has_linkage entry.linkage ≡ false) more
+  pub inside : (name : List ℕ) (number : ℕ) → number_inside behind.scopes name ≡ Some number → (number_inside known.scopes name ≡ Some number) ⊎ (length known.declared ≤ number)
+  pub still : (name : List ℕ) → is_declared known.scopes name ≡ true → is_declared behind.scopes name ≡ true
+
+-- the structs that are being read are the same
+pub record Keeps (known behind : Known) : Type 0 where
+  pub adds : Adds known behind
   pub begun : behind.begun ≡ known.begun
 
 -- what is known behind, if anything is given, is so related
@@ -48,11 +73,43 @@ KeepsIn known outcome = Leads Keeps known outcome
 abbrev pub SameTrees : Known → Known → Type 0
 SameTrees known behind = behind.constants ≡ known.constants
 
+-- nothing is declared
+pub adds-none : (known behind : Known) → behind.scopes ≡ known.scopes → behind.declared ≡ known.declared → Adds known behind
+adds-none known behind s d = record {
+  outer = ap (drop 1) s;
+  depth = ap length s;
+  more = [];
+  declared = d ∙ sym (append-nil known.declared);
+  unlinked = All-nil (λ (entry : Declaration). has_linkage entry.linkage ≡ false);
+  inside = λ name number h. inl (sym (ap (λ scopes. number_inside scopes name) s) ∙ h);
+  still = λ name h. ap (λ scopes. is_declared scopes name) s ∙ h;
+}
+
+more-declared : (known behind : Known) → Adds known behind → length known.declared ≤ length behind.declared
+more-declared known behind adds =
+    let l = length-append known.declared adds.more in let e = ap length adds.declared in omega (arith, l, e)
+
+pub adds-on : (a b c : Known) → Adds a b → Adds b c → Adds a c
+adds-on a b c first second = record {
+  outer = second.outer ∙ first.outer;
+  depth = second.depth ∙ first.depth;
+  more = first.more ++ second.more;
+  declared = second.declared ∙ ap (λ entries. entries ++ second.more) first.declared ∙ append_assoc a.declared first.more second.more;
+  unlinked = All-append (λ (entry : Declaration). has_linkage entry.linkage ≡ false) first.more second.more first.unlinked second.unlinked;
+  inside = λ name number h.
+      ⊎_elim (λ old. first.inside name number old) (λ new. let fewer = more-declared a b first in inr (omega (arith, new, fewer))) (second.inside name number h);
+  still = λ name h. second.still name (first.still name h);
+}
+
 pub keeps-itself : (known : Known) → Keeps known known
-keeps-itself known = record { outer = refl; begun = refl }
+keeps-itself known = record { adds = adds-none known known refl refl; begun = refl }
 
 keeps-on : (a b c : Known) → Keeps a b → Keeps b c → Keeps a c
-keeps-on a b c first second = record { outer = second.outer ∙ first.outer; begun = second.begun ∙ first.begun }
+keeps-on a b c first second = record { adds = adds-on a b c first.adds second.adds; begun = second.begun ∙ first.begun }
+
+-- nothing is declared, and the same structs are being read
+keeps-all : (known behind : Known) → behind.scopes ≡ known.scopes → behind.declared ≡ known.declared → behind.begun ≡ known.begun → Keeps known behind
+keeps-all known behind s d b = record { adds = adds-none known behind s d; begun = b }
 
 -- ---- outcomes
 
@@ -61,42 +118,42 @@ module _ (R : Known → Known → Type 0) (itself : (known : Known) → R known 
   outcome-leads a b first (given behind it) h = record { leads = on a b behind first h.leads }
   outcome-leads a b first (broken rule at) h = record { leads = tt }
 
-  after-leads : {A B : Type 0} (known : Known) (one : Outcome A) (next : Known → A → Outcome B) → Leads R known one
+  pub after-leads : {A B : Type 0} (known : Known) (one : Outcome A) (next : Known → A → Outcome B) → Leads R known one
       → ((behind : Known) (it : A) → Leads R behind (next behind it)) → Leads R known (after one next)
   after-leads known (given behind it) next h more = outcome-leads known behind h.leads (next behind it) (more behind it)
   after-leads known (broken rule at) next h more = record { leads = tt }
 
 module _ (R : Known → Known → Type 0) where
-  with-leads : {A B : Type 0} (known : Known) (one : Outcome A) (made : Known → A → B) → Leads R known one → Leads R known (with_it one made)
+  pub with-leads : {A B : Type 0} (known : Known) (one : Outcome A) (made : Known → A → B) → Leads R known one → Leads R known (with_it one made)
   with-leads known (given behind it) made h = record { leads = h.leads }
   with-leads known (broken rule at) made h = record { leads = tt }
 
-  obeys-leads : {A : Type 0} (known : Known) (test : Bool) (rule at : ℕ) (next : Outcome A) → Leads R known next → Leads R known (obeys test rule at next)
+  pub obeys-leads : {A : Type 0} (known : Known) (test : Bool) (rule at : ℕ) (next : Outcome A) → Leads R known next → Leads R known (obeys test rule at next)
   obeys-leads known true rule at next h = h
   obeys-leads known false rule at next h = record { leads = tt }
 
-  if-leads : {A B : Type 0} (known : Known) (found : Option A) (rule at : ℕ) (next : A → Outcome B) → ((it : A) → Leads R known (next it)) → Leads R known (if_given found rule at next)
+  pub if-leads : {A B : Type 0} (known : Known) (found : Option A) (rule at : ℕ) (next : A → Outcome B) → ((it : A) → Leads R known (next it)) → Leads R known (if_given found rule at next)
   if-leads known (Some it) rule at next h = h it
   if-leads known None rule at next h = record { leads = tt }
 
 -- nothing more is known
-stays : {A : Type 0} (R : Known → Known → Type 0) (known : Known) (it : A) → R known known → Leads R known (given known it)
+pub stays : {A : Type 0} (R : Known → Known → Type 0) (known : Known) (it : A) → R known known → Leads R known (given known it)
 stays R known it h = record { leads = h }
 
 outcome-on : {A : Type 0} (a b : Known) → Keeps a b → (outcome : Outcome A) → KeepsIn b outcome → KeepsIn a outcome
 outcome-on a b first outcome h = outcome-leads Keeps keeps-itself keeps-on a b first outcome h
 
-after-keeps : {A B : Type 0} (known : Known) (one : Outcome A) (next : Known → A → Outcome B) → KeepsIn known one
+pub after-keeps : {A B : Type 0} (known : Known) (one : Outcome A) (next : Known → A → Outcome B) → KeepsIn known one
     → ((behind : Known) (it : A) → KeepsIn behind (next behind it)) → KeepsIn known (after one next)
 after-keeps known one next h more = after-leads Keeps keeps-itself keeps-on known one next h more
 
-with-keeps : {A B : Type 0} (known : Known) (one : Outcome A) (made : Known → A → B) → KeepsIn known one → KeepsIn known (with_it one made)
+pub with-keeps : {A B : Type 0} (known : Known) (one : Outcome A) (made : Known → A → B) → KeepsIn known one → KeepsIn known (with_it one made)
 with-keeps known one made h = with-leads Keeps known one made h
 
-obeys-keeps : {A : Type 0} (known : Known) (test : Bool) (rule at : ℕ) (next : Outcome A) → KeepsIn known next → KeepsIn known (obeys test rule at next)
+pub obeys-keeps : {A : Type 0} (known : Known) (test : Bool) (rule at : ℕ) (next : Outcome A) → KeepsIn known next → KeepsIn known (obeys test rule at next)
 obeys-keeps known test rule at next h = obeys-leads Keeps known test rule at next h
 
-if-keeps : {A B : Type 0} (known : Known) (found : Option A) (rule at : ℕ) (next : A → Outcome B) → ((it : A) → KeepsIn known (next it)) → KeepsIn known (if_given found rule at next)
+pub if-keeps : {A B : Type 0} (known : Known) (found : Option A) (rule at : ℕ) (next : A → Outcome B) → ((it : A) → KeepsIn known (next it)) → KeepsIn known (if_given found rule at next)
 if-keeps known found rule at next h = if-leads Keeps known found rule at next h
 
 -- ---- nodes
@@ -168,16 +225,52 @@ declared-outside : (scopes : Scopes) (name : List ℕ) (number : ℕ) → drop 1
 declared-outside [] name number = refl
 declared-outside (scope ∷ scopes) name number = refl
 
-declaring-keeps : (known : Known) (name : List ℕ) (entry : Declaration) → Keeps known (declaring known name entry)
-declaring-keeps known name entry = record { outer = declared-outside known.scopes name _; begun = refl }
+declared-depth : (scopes : Scopes) (name : List ℕ) (number : ℕ) → length (declared_in scopes name number) ≡ length scopes
+declared-depth [] name number = refl
+declared-depth (scope ∷ scopes) name number = refl
+
+inside-put : (scopes : Scopes) (name : List ℕ) (n : ℕ) (other : List ℕ) (number : ℕ) → number_inside (declared_in scopes name n) other ≡ Some number
+    → (number_inside scopes other ≡ Some number) ⊎ (number ≡ n)
+inside-put [] name n other number h = inl h
+inside-put (scope ∷ scopes) name n other number h =
+    go (eq_by_cmp (slice_cmp nat_cmp) other name) (sym (finite.get-insert nat_list_cmp_total scope name n other) ∙ h)
+  where
+    go : (test : Bool) → cond test (Some n) (finite.get scope other) ≡ Some number → (finite.get scope other ≡ Some number) ⊎ (number ≡ n)
+    go true e = inr (sym (injected n number e))
+    go false e = inl e
+
+still-put : (scopes : Scopes) (name : List ℕ) (n : ℕ) (other : List ℕ) → is_declared scopes other ≡ true → is_declared (declared_in scopes name n) other ≡ true
+still-put [] name n other h = absurd (cc)
+still-put (scope ∷ scopes) name n other h =
+    ap is_some (finite.get-insert nat_list_cmp_total scope name n other) ∙ go (eq_by_cmp (slice_cmp nat_cmp) other name) (finite.get scope other) h
+  where
+    go : (test : Bool) (found : Option ℕ) → is_some found ≡ true → is_some (cond test (Some n) found) ≡ true
+    go true found e = refl
+    go false found e = e
+
+declaring-adds : (known : Known) (name : List ℕ) (entry : Declaration) → has_linkage entry.linkage ≡ false → Adds known (declaring known name entry)
+declaring-adds known name entry none = record {
+  outer = declared-outside known.scopes name (length known.declared);
+  depth = declared-depth known.scopes name (length known.declared);
+  more = entry ∷ [];
+  declared = refl;
+  unlinked = let P : Declaration → Type 0 = λ one. has_linkage one.linkage ≡ false in All-cons P entry [] none (All-nil P);
+  inside = λ other number h.
+      ⊎_elim (λ old. inl old) (λ new. inr (omega (arith, new))) (inside-put known.scopes name (length known.declared) other number h);
+  still = λ other h. still-put known.scopes name (length known.declared) other h;
+}
+
+declaring-keeps : (known : Known) (name : List ℕ) (entry : Declaration) → has_linkage entry.linkage ≡ false → Keeps known (declaring known name entry)
+declaring-keeps known name entry none = record { adds = declaring-adds known name entry none; begun = refl }
 
 tag-keeps : (setting : Setting) (known : Known) (tag : Option ℕ) (type : CType) → Keeps known (tag_declared setting known tag type)
 tag-keeps setting known None type = keeps-itself known
-tag-keeps setting known (Some at) type = declaring-keeps known (tag_key (spelling_at setting.source at)) (tag_entry (spelling_at setting.source at) type (place_at setting.source at))
+tag-keeps setting known (Some at) type = declaring-keeps known (tag_key (spelling_at setting.source at)) (tag_entry (spelling_at setting.source at) type (place_at setting.source at)) refl
 
 pub new-keeps : (setting : Setting) (known : Known) (tag : Option ℕ) → Keeps known (new_struct setting known tag)
-new-keeps setting known None = record { outer = refl; begun = refl }
-new-keeps setting known (Some at) = record { outer = declared-outside known.scopes _ _; begun = refl }
+new-keeps setting known tag =
+    let grown : Known = record known { types = with_struct known.types (spelled setting tag) } in
+    keeps-on known grown (new_struct setting known tag) (keeps-all known grown refl refl refl) (tag-keeps setting grown tag (struct (length known.types.structs)))
 
 struct-named-keeps : (setting : Setting) (known : Known) (span : Span) (tag : Option ℕ) (found : Option Declaration) → KeepsIn known (struct_named setting known span tag found)
 struct-named-keeps setting known span tag None = record { leads = new-keeps setting known tag }
@@ -192,21 +285,24 @@ new-outside : (setting : Setting) (known : Known) (tag : Option ℕ) (found : Op
 new-outside setting known tag None = new-keeps setting known tag
 new-outside setting known tag (Some entry) = keeps-itself known
 
-beginning-outside : (known : Known) (number : Option ℕ) → drop 1 (beginning known number).scopes ≡ drop 1 known.scopes
-beginning-outside known None = refl
-beginning-outside known (Some at) = refl
+beginning-adds : (known : Known) (number : Option ℕ) → Adds known (beginning known number)
+beginning-adds known None = adds-none known known refl refl
+beginning-adds known (Some at) = adds-none known (record known { begun = at ∷ known.begun }) refl refl
 
-begun-outside : (setting : Setting) (known : Known) (tag : Option ℕ) → drop 1 (begun_with setting known tag).scopes ≡ drop 1 known.scopes
+begun-outside : (setting : Setting) (known : Known) (tag : Option ℕ) → Adds known (begun_with setting known tag)
 begun-outside setting known tag =
-    beginning-outside (with_new_struct setting known tag (tag_inside setting known tag)) (struct_begun known (tag_inside setting known tag)) ∙ (new-outside setting known tag (tag_inside setting known tag)).outer
+    let new = with_new_struct setting known tag (tag_inside setting known tag) in
+    adds-on known new (begun_with setting known tag) (new-outside setting known tag (tag_inside setting known tag)).adds (beginning-adds new (struct_begun known (tag_inside setting known tag)))
 
-ended-keeps : (known begun : Known) (span : Span) (number : Option ℕ) → drop 1 begun.scopes ≡ drop 1 known.scopes → (outcome : Outcome (List TypedMember)) → KeepsIn begun outcome
+ended-keeps : (known begun : Known) (span : Span) (number : Option ℕ) → Adds known begun → (outcome : Outcome (List TypedMember)) → KeepsIn begun outcome
     → KeepsIn known (after outcome (λ behind members. struct_ended behind span number known.begun members))
 ended-keeps known begun span number outside (broken rule at) h = record { leads = tt }
 ended-keeps known begun span None outside (given behind members) h = record { leads = tt }
 ended-keeps known begun span (Some at) outside (given behind []) h = record { leads = tt }
 ended-keeps known begun span (Some at) outside (given behind (first ∷ others)) h =
-    obeys-keeps known (is_some (struct_layout behind.types (fields behind.types (first ∷ others)))) 5 span.first _ (record { leads = record { outer = h.leads.outer ∙ outside; begun = refl } })
+    let done : Known = record behind { types = with_content behind.types at (contained behind.types (fields behind.types (first ∷ others))); begun = known.begun } in
+    obeys-keeps known (is_some (struct_layout behind.types (fields behind.types (first ∷ others)))) 5 span.first _
+    (record { leads = record { adds = adds-on known begun done outside (adds-on begun behind done h.leads.adds (adds-none behind done refl refl)); begun = refl } })
 
 enum-begun-keeps : (setting : Setting) (known : Known) (tag : Option ℕ) (test : Bool) → Keeps known (if test then known else tag_declared setting known tag (integer k.Int))
 enum-begun-keeps setting known tag true = keeps-itself known
@@ -216,7 +312,7 @@ enumerator-declared-keeps : (setting : Setting) (known : Known) (at : ℕ) (valu
 enumerator-declared-keeps setting known at value =
     obeys-keeps known (not (is_declared known.scopes (spelling_at setting.source at))) 2 at _
     (obeys-keeps known (not (is_file_scope known.scopes && bytes_eq (spelling_at setting.source at) (codes "main"))) 36 at _
-    (record { leads = declaring-keeps known (spelling_at setting.source at) (enumerator_entry setting at value) }))
+    (record { leads = declaring-keeps known (spelling_at setting.source at) (enumerator_entry setting at value) refl }))
 
 implied-keeps : (setting : Setting) (known : Known) (at : ℕ) (value : ℤ) → KeepsIn known (enumerator_implied setting known at value)
 implied-keeps setting known at value = obeys-keeps known (is_int value) 7 at _ (enumerator-declared-keeps setting known at value)
@@ -224,11 +320,11 @@ implied-keeps setting known at value = obeys-keeps known (is_int value) 7 at _ (
 valued-keeps : (setting : Setting) (known : Known) (at here : ℕ) (tree : Tree) → KeepsIn known (enumerator_valued setting known at here tree)
 valued-keeps setting known at here tree =
     if-keeps known (constant_of known tree) 7 here _ (λ value. obeys-keeps known (is_int value) 7 here _
-    (outcome-on known (with_constant known tree) (record { outer = refl; begun = refl }) (enumerator_declared setting (with_constant known tree) at value) (enumerator-declared-keeps setting (with_constant known tree) at value)))
+    (outcome-on known (with_constant known tree) (keeps-all known (with_constant known tree) refl refl refl) (enumerator_declared setting (with_constant known tree) at value) (enumerator-declared-keeps setting (with_constant known tree) at value)))
 
 -- ---- specifiers and declarators
 
-said-keeps : (known : Known) (stands : Where) (here : ℕ) (said : Said) → KeepsIn known (typed_said known stands here said)
+pub said-keeps : (known : Known) (stands : Where) (here : ℕ) (said : Said) → KeepsIn known (typed_said known stands here said)
 said-keeps known stands here said = if-keeps known (type_said said) 3 here _ (λ type. obeys-keeps known (are_allowed stands said) 3 here _ (stays Keeps known _ (keeps-itself known)))
 
 stepped-keeps : (known : Known) (type : CType) (step : Step) → KeepsIn known (stepped known type step)
@@ -236,16 +332,16 @@ stepped-keeps known type (pointing at const) = obeys-keeps known (not (is_functi
 stepped-keeps known type (arraying at n) = obeys-keeps known (is_complete known type && length_fits known type n) 5 at _ (stays Keeps known _ (keeps-itself known))
 stepped-keeps known type (calling at parameters) = obeys-keeps known (is_result known type) 5 at _ (stays Keeps known _ (keeps-itself known))
 
-derived-keeps : (known : Known) (type : CType) (steps : List Step) → KeepsIn known (derived known type steps)
+pub derived-keeps : (known : Known) (type : CType) (steps : List Step) → KeepsIn known (derived known type steps)
 derived-keeps known type [] = stays Keeps known _ (keeps-itself known)
 derived-keeps known type (step ∷ steps) = after-keeps known (stepped known type step) _ (stepped-keeps known type step) (λ behind made. derived-keeps behind made steps)
 
 length-keeps : (known : Known) (here : ℕ) (tree : Tree) → KeepsIn known (length_of known here tree)
-length-keeps known here tree = if-keeps known (option_and_then natural (constant_of known tree)) 5 here _ (λ n. record { leads = record { outer = refl; begun = refl } })
+length-keeps known here tree = if-keeps known (option_and_then natural (constant_of known tree)) 5 here _ (λ n. record { leads = keeps-all known (with_constant known tree) refl refl refl })
 
-parameter-keeps : (setting : Setting) (known : Known) (type : CType) (name : Option ℕ) → KeepsIn known (parameter_declared setting known type name)
+pub parameter-keeps : (setting : Setting) (known : Known) (type : CType) (name : Option ℕ) → KeepsIn known (parameter_declared setting known type name)
 parameter-keeps setting known type None = stays Keeps known _ (keeps-itself known)
-parameter-keeps setting known type (Some at) = obeys-keeps known (not (is_declared known.scopes (spelling_at setting.source at))) 2 at _ (record { leads = declaring-keeps known (spelling_at setting.source at) (parameter_entry setting at type) })
+parameter-keeps setting known type (Some at) = obeys-keeps known (not (is_declared known.scopes (spelling_at setting.source at))) 2 at _ (record { leads = declaring-keeps known (spelling_at setting.source at) (parameter_entry setting at type) refl })
 
 typed-parameter-keeps : (setting : Setting) (known : Known) (here : ℕ) (type : CType) (name : Option ℕ) → KeepsIn known (typed_parameter setting known here type name)
 typed-parameter-keeps setting known here type name = obeys-keeps known (not (is_function type)) 5 here _ (parameter-keeps setting known (adjusted type) name)
@@ -254,11 +350,28 @@ field-keeps : (setting : Setting) (known : Known) (here : ℕ) (name : Option �
 field-keeps setting known here name before type = obeys-keeps known (is_complete known type) 5 here _ (obeys-keeps known (not (is_named (name_of setting name) before)) 6 (unwrap_or name here) _ (stays Keeps known _ (keeps-itself known)))
 
 left-keeps : {A : Type 0} (known : Known) (outcome : Outcome A) → KeepsIn (entered known) outcome → KeepsIn known (left known.scopes outcome)
-left-keeps known (given behind it) h = record { leads = record { outer = refl; begun = h.leads.begun } }
+left-keeps known (given behind it) h = record { leads = record {
+  adds = record {
+    outer = refl;
+    depth = refl;
+    more = h.leads.adds.more;
+    declared = h.leads.adds.declared;
+    unlinked = h.leads.adds.unlinked;
+    inside = λ name number e. inl e;
+    still = λ name e. e;
+  };
+  begun = h.leads.begun;
+} }
 left-keeps known (broken rule at) h = record { leads = tt }
 
 ended-name-keeps : (known : Known) (outcome : Outcome CType) → KeepsIn (record known { constants = [] }) outcome → KeepsIn known (name_ended known.constants outcome)
-ended-name-keeps known (given behind kind) h = record { leads = record { outer = h.leads.outer; begun = h.leads.begun } }
+ended-name-keeps known (given behind kind) h =
+    let bare : Known = record known { constants = [] } in
+    let done : Known = record behind { constants = known.constants } in
+    record { leads = record {
+      adds = adds-on known bare done (adds-none known bare refl refl) (adds-on bare behind done h.leads.adds (adds-none behind done refl refl));
+      begun = h.leads.begun;
+    } }
 ended-name-keeps known (broken rule at) h = record { leads = tt }
 
 same-itself : (known : Known) → SameTrees known known
@@ -332,7 +445,7 @@ module _ (setting : Setting) where
     specifiers-keep used stands alone known (tree.listed span words) =
         after-keeps known (words_said setting used alone known nothing_said words) _ (words-keep used alone known nothing_said words) (λ behind said. said-keeps behind stands span.first said)
 
-    words-keep : (used alone : Bool) (known : Known) (said : Said) (words : Words) → KeepsIn known (words_said setting used alone known said words)
+    pub words-keep : (used alone : Bool) (known : Known) (said : Said) (words : Words) → KeepsIn known (words_said setting used alone known said words)
     words-keep used alone known said tree.no_words = stays Keeps known _ (keeps-itself known)
     words-keep used alone known said (tree.more_words first others) =
         after-keeps known (word_said setting used alone known said first) _ (word-keeps used alone known said first) (λ behind so_far. words-keep used alone behind so_far others)
@@ -401,7 +514,7 @@ module _ (setting : Setting) where
     parameters-keep used known (tree.more_parameters first others) =
         after-keeps known (parameter_of setting used known first) _ (one-parameter-keeps used known first) (λ then_known made. with-keeps then_known _ _ (parameters-keep used then_known others))
 
-    one-parameter-keeps : (used : Bool) (known : Known) (parameter : Parameter) → KeepsIn known (parameter_of setting used known parameter)
+    pub one-parameter-keeps : (used : Bool) (known : Known) (parameter : Parameter) → KeepsIn known (parameter_of setting used known parameter)
     one-parameter-keeps used known (tree.parameter span specifiers declarator) =
         after-keeps known (typed_specifiers setting used elsewhere false known specifiers) _ (specifiers-keep used elsewhere false known specifiers) (λ then_known base.
         after-keeps then_known (steps_of setting used then_known declarator) _ (steps-keep used then_known declarator) (λ then_more steps.
