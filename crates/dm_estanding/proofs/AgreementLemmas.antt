@@ -13,9 +13,10 @@ use Rattle.dm_typing.proofs.KindLemmas.{numbers-same}
 use Rattle.dm_typing.proofs.TypeLemmas.{both-hold}
 use Rattle.dm_edecl.specs.Standing.{Linked, Standing}
 use Rattle.dm_edecl.specs.Linkages.{composite_with, whole_kind, is_called, number_linked, number_shared, meaning_here, is_linked_if_there, is_same_typedef, is_same_linkage, agree, agrees_with, agrees_if_there, may_be_declared}
-use Rattle.dm_edecl.specs.Settled.{IsBound, is_linked, IsSoundStanding}
+use Rattle.dm_edecl.specs.Settled.{IsBound, is_linked}
 use Rattle.dm_edecl.proofs.LinkLemmas.{some-now, some-then, bound-front, bound-last, agree-push}
 use Rattle.dm_edecl.proofs.NamingLemmas.{three-hold}
+use Rattle.dm_estanding.specs.Proceeding.{IsLawful}
 use Rattle.dm_estanding.specs.Summaries.{AreSeenCompatible}
 
 -- the entry of a name that has linkage has declarations
@@ -29,7 +30,7 @@ linked-found name declared (one ∷ others) number h = go (linked-found name dec
         some-now (one.number == number) (composite_with one.kind (whole_kind number others)) (whole_kind number others) (numbers-same one.number number (injected one.number number e))
     go further false e = some-then (one.number == number) (composite_with one.kind (whole_kind number others)) (whole_kind number others) (further e)
 
-module _ (s : Standing) (entry : Declaration) (sound : IsSoundStanding s) (may : may_be_declared s entry ≡ true) where
+module _ (s : Standing) (entry : Declaration) (lawful : IsLawful s) (may : may_be_declared s entry ≡ true) where
   agrees : has_linkage entry.linkage ≡ true → agrees_if_there s entry (number_shared s entry.name) ≡ true
   agrees linkage =
       (both-hold (is_linked_if_there (meaning_here s.known entry.name)) (agrees_if_there s entry (number_shared s entry.name))
@@ -50,7 +51,7 @@ module _ (s : Standing) (entry : Declaration) (sound : IsSoundStanding s) (may :
           (are_compatible (unwrap_or (whole_kind number s.linked) old.kind) entry.kind) agreed).2
 
       all : (bound : CType) × IsBound bound number (s.linked ++ one ∷ [])
-      all = agree-push one s.linked sound.proper sound.agree (λ whole e. subst (λ found. are_compatible (unwrap_or found old.kind) entry.kind ≡ true) e alike) number
+      all = agree-push one s.linked lawful.proper lawful.agree (λ whole e. subst (λ found. are_compatible (unwrap_or found old.kind) entry.kind ≡ true) e alike) number
 
       earlier : covers all.0 old.kind ≡ true
-      earlier = sound.kinds number old all.0 (linked-found entry.name s.known.declared s.linked number shared) there (bound-front one all.0 number s.linked all.1)
+      earlier = lawful.kinds number old all.0 (linked-found entry.name s.known.declared s.linked number shared) there (bound-front one all.0 number s.linked all.1)

@@ -22,12 +22,13 @@ use Rattle.dm_typing.proofs.TypeLemmas.{both-hold}
 use Rattle.dm_enames.proofs.TagStepLemmas.{number-below}
 use Rattle.dm_edecl.specs.Standing.{Linked, Standing}
 use Rattle.dm_edecl.specs.Linkages.{whole_kind, is_called, number_linked, number_shared, meaning_here, is_linked_if_there, is_same_typedef, is_same_linkage, agree, agrees_with, agrees_if_there, may_be_declared, number_before, with_kind, naming, number_here, named_here, kind_seen}
-use Rattle.dm_edecl.specs.Settled.{is_linked, IsSoundStanding}
+use Rattle.dm_edecl.specs.Settled.{is_linked}
 use Rattle.dm_edecl.proofs.KeepsLemmas.{there, front-kept}
 use Rattle.dm_edecl.proofs.LinkLemmas.{some-now, some-then, proper-push, agree-push}
 use Rattle.dm_edecl.proofs.NamingLemmas.{three-hold, last-get}
 use Rattle.dm_estanding.specs.declared.links.Links.{Links}
-use Rattle.dm_estanding.specs.Summaries.{entry_over, Summarises, StandsFor, MayBeAdded, IsUnited}
+use Rattle.dm_estanding.specs.Proceeding.{IsLawful}
+use Rattle.dm_estanding.specs.Summaries.{entry_over, Summarises, StandsFor, MayBeAdded}
 use Rattle.dm_estanding.proofs.AgreementLemmas.{linked-found}
 use Rattle.dm_estanding.proofs.DefiningLemmas.{summary-renamed}
 
@@ -41,7 +42,7 @@ called-kind name (suc n) kind (entry ∷ entries) zero = refl
 called-kind name (suc n) kind (entry ∷ entries) (suc at) = called-kind name n kind entries at
 
 -- an entry that has another type keeps its name
-names-kind : (name : List ℕ) (n : ℕ) (kind : CType) (entries : List Declaration) (linked : List Linked) → number_linked name (with_kind n kind entries) linked ≡ number_linked name entries linked
+pub names-kind : (name : List ℕ) (n : ℕ) (kind : CType) (entries : List Declaration) (linked : List Linked) → number_linked name (with_kind n kind entries) linked ≡ number_linked name entries linked
 names-kind name n kind entries [] = refl
 names-kind name n kind entries (one ∷ others) =
     ap (λ test. if test then Some one.number else number_linked name (with_kind n kind entries) others) (called-kind name n kind entries one.number)
@@ -81,10 +82,10 @@ not-both number None e h = cc
 
 -- ---- the entry that a declarator means
 
-module _ (s : Standing) (entry : Declaration) (sound : IsSoundStanding s) where
+module _ (s : Standing) (entry : Declaration) (lawful : IsLawful s) where
   pub names-here : (kind : CType) (found : Option ℕ) (name : List ℕ) → number_linked name (naming s.known kind entry found).declared s.linked ≡ number_linked name s.known.declared s.linked
   names-here kind (Some number) name = names-kind name number kind s.known.declared s.linked
-  names-here kind None name = names-more name s.known.declared entry s.linked sound.within
+  names-here kind None name = names-more name s.known.declared entry s.linked lawful.within
 
   pub stands-named : (later : List Shape) (old new : Held) (links after : Links) → StandsFor later old links s → known_over later new ≡ named_here s entry → after ≡ links
       → StandsFor later new after (record s { known = named_here s entry })
@@ -94,13 +95,13 @@ module _ (s : Standing) (entry : Declaration) (sound : IsSoundStanding s) where
         (summary-renamed later links s.known.declared (named_here s entry).declared s.linked (names-here (kind_seen s entry) (number_before s entry)) stands.links);
   }
 
-module _ (s : Standing) (entry : Declaration) (sound : IsSoundStanding s) (below : AreBelow (length s.known.declared) s.known.scopes) where
+module _ (s : Standing) (entry : Declaration) (lawful : IsLawful s) (below : AreBelow (length s.known.declared) s.known.scopes) where
   -- a number that is found is that of an entry
   pub number-there : (number : ℕ) → number_before s entry ≡ Some number → number < length s.known.declared
   number-there number h = go (has_linkage entry.linkage) (is_some (meaning_here s.known entry.name)) h
     where
       go : (linked some : Bool) → (if linked then number_shared s entry.name else if some then number_of s.known.scopes entry.name else None) ≡ Some number → number < length s.known.declared
-      go true some e = sound.within number (linked-found entry.name s.known.declared s.linked number e)
+      go true some e = lawful.within number (linked-found entry.name s.known.declared s.linked number e)
       go false true e = number-below (length s.known.declared) s.known.scopes entry.name number below e
       go false false e = absurd (cc)
 
@@ -119,7 +120,7 @@ module _ (s : Standing) (entry : Declaration) (sound : IsSoundStanding s) (below
   meaning is =
       ap (λ test. if test then meaning_of s.known entry.name else None) is ∙ ap (option_and_then (slice_get s.known.declared)) (meant is).2 ∙ (meant is).3
 
-  module _ (united : IsUnited s) (may : may_be_declared s entry ≡ true) where
+  module _ (may : may_be_declared s entry ≡ true) where
     may-linked : has_linkage entry.linkage ≡ true → (is_linked_if_there (meaning_here s.known entry.name) ≡ true) × (agrees_if_there s entry (number_shared s entry.name) ≡ true)
     may-linked linked =
         both-hold (is_linked_if_there (meaning_here s.known entry.name)) (agrees_if_there s entry (number_shared s entry.name))
@@ -129,7 +130,7 @@ module _ (s : Standing) (entry : Declaration) (sound : IsSoundStanding s) (below
     shared-here : has_linkage entry.linkage ≡ true → (is : is_declared s.known.scopes entry.name ≡ true) → number_shared s entry.name ≡ number_of s.known.scopes entry.name
     shared-here linked is =
         let old = meant is in
-        united entry.name old.0 old.1 old.2 old.3 (sym (ap is_linked_if_there (meaning is)) ∙ (may-linked linked).0) ∙ sym old.2
+        lawful.united entry.name old.0 old.1 old.2 old.3 (sym (ap is_linked_if_there (meaning is)) ∙ (may-linked linked).0) ∙ sym old.2
 
     -- a name that its scope declares already means the earlier entry there
     pub again-there : (number : ℕ) → number_before s entry ≡ Some number → is_declared s.known.scopes entry.name ≡ true → number_of s.known.scopes entry.name ≡ Some number
@@ -163,16 +164,16 @@ module _ (s : Standing) (entry : Declaration) (sound : IsSoundStanding s) (below
           → MayBeAdded (naming s.known kind entry found).declared s.linked entry.name (unwrap_or found (length s.known.declared)) entry.kind defines
       added-by kind (Some number) e agrees = record {
         called = called-kind entry.name number kind s.known.declared number ∙ called-found entry.name s.known.declared s.linked number e;
-        once = subst (λ found. IfSome found (λ other. other ≡ number)) (sym (names-here s entry sound kind (Some number) entry.name ∙ e)) refl;
-        proper = proper-push one s.linked sound.proper proper;
-        bounds = agree-push one s.linked sound.proper sound.agree (λ whole is. subst (λ found. are_compatible (unwrap_or found old.0.kind) entry.kind ≡ true) is alike) number;
+        once = subst (λ found. IfSome found (λ other. other ≡ number)) (sym (names-here s entry lawful kind (Some number) entry.name ∙ e)) refl;
+        proper = proper-push one s.linked lawful.proper proper;
+        bounds = agree-push one s.linked lawful.proper lawful.agree (λ whole is. subst (λ found. are_compatible (unwrap_or found old.0.kind) entry.kind ≡ true) is alike) number;
       }
         where
           one : Linked
           one = record { number = number; kind = entry.kind; defines = defines }
 
           old : (it : Declaration) × (slice_get s.known.declared number ≡ Some it)
-          old = there s.known.declared number entry (sound.within number (linked-found entry.name s.known.declared s.linked number e))
+          old = there s.known.declared number entry (lawful.within number (linked-found entry.name s.known.declared s.linked number e))
 
           agreed : agree old.0 (unwrap_or (whole_kind number s.linked) old.0.kind) entry ≡ true
           agreed = sym (ap (agrees_with (whole_kind number s.linked) entry) old.1) ∙ agrees
@@ -182,10 +183,10 @@ module _ (s : Standing) (entry : Declaration) (sound : IsSoundStanding s) (below
               (are_compatible (unwrap_or (whole_kind number s.linked) old.0.kind) entry.kind) agreed).2
       added-by kind None e agrees = record {
         called = ap (is_called entry.name) (last-get s.known.declared entry) ∙ (bytes_eq-Decides entry.name entry.name).1 refl;
-        once = subst (λ found. IfSome found (λ other. other ≡ length s.known.declared)) (sym (names-here s entry sound kind None entry.name ∙ e)) tt;
-        proper = proper-push one s.linked sound.proper proper;
-        bounds = agree-push one s.linked sound.proper sound.agree
-            (λ whole is. let high = sound.within (length s.known.declared) (ap is_some is) in absurd (omega (arith, high))) (length s.known.declared);
+        once = subst (λ found. IfSome found (λ other. other ≡ length s.known.declared)) (sym (names-here s entry lawful kind None entry.name ∙ e)) tt;
+        proper = proper-push one s.linked lawful.proper proper;
+        bounds = agree-push one s.linked lawful.proper lawful.agree
+            (λ whole is. let high = lawful.within (length s.known.declared) (ap is_some is) in absurd (omega (arith, high))) (length s.known.declared);
       }
         where
           one : Linked

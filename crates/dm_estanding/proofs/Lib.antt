@@ -12,3 +12,5 @@ pub mod NameLemmas
 pub mod DefiningLemmas
 pub mod DeclaringLemmas
 pub mod UnitedLemmas
+pub mod LawfulLemmas
+pub mod ProceedingLemmas

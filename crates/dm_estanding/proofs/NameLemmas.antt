@@ -24,6 +24,7 @@ use Rattle.dm_typing.specs.Views.{view_over, known_over}
 use Rattle.dm_estanding.specs.declared.standing.Standing.{Standing as HeldStanding}
 use Rattle.dm_estanding.specs.Summaries.{entry_over}
 use Rattle.dm_estanding.specs.Undoing.{KeepsTypes, IsWithin}
+use Rattle.dm_estanding.proofs.RetypeLemmas.{same-begins}
 use Rattle.dm_estanding.proofs.UndoLemmas.{take-all, take-front}
 
 -- ---- numbers
@@ -123,23 +124,25 @@ known-added later old entry key scopes entries s d =
     (sym (length-map old.declared (entry_over later)))
 
 pub within-named : (old new : HeldStanding) → new.retyped.items ≡ old.retyped.items → new.known.declared ≡ old.known.declared → drop 1 new.known.scopes ≡ drop 1 old.known.scopes
-    → length new.known.scopes ≡ length old.known.scopes → IsWithin old new
-within-named old new r d s l = record {
+    → length new.known.scopes ≡ length old.known.scopes → KeepsTypes old.known new.known → IsWithin old new
+within-named old new r d s l same = record {
+  shapes = same-begins old.known new.known same;
   changes = [];
   retyped = r ∙ sym (append-nil old.retyped.items);
-  entries = ap (take (length old.known.declared)) d ∙ take-all (length old.known.declared) old.known.declared (omega arith);
+  entries = λ later on. ap (map (entry_over later)) (ap (take (length old.known.declared)) d ∙ take-all (length old.known.declared) old.known.declared (omega arith));
   scopes = s;
   depth = l;
 }
 
 pub within-new : (old new : HeldStanding) (entry : Declared) → new.retyped.items ≡ old.retyped.items → new.known.declared ≡ old.known.declared ++ entry ∷ []
-    → drop 1 new.known.scopes ≡ drop 1 old.known.scopes → length new.known.scopes ≡ length old.known.scopes → IsWithin old new
-within-new old new entry r d s l = record {
+    → drop 1 new.known.scopes ≡ drop 1 old.known.scopes → length new.known.scopes ≡ length old.known.scopes → KeepsTypes old.known new.known → IsWithin old new
+within-new old new entry r d s l same = record {
+  shapes = same-begins old.known new.known same;
   changes = [];
   retyped = r ∙ sym (append-nil old.retyped.items);
-  entries =
-      ap (take (length old.known.declared)) d ∙ take-front (length old.known.declared) old.known.declared entry (omega arith)
-      ∙ take-all (length old.known.declared) old.known.declared (omega arith);
+  entries = λ later on. ap (map (entry_over later))
+      (ap (take (length old.known.declared)) d ∙ take-front (length old.known.declared) old.known.declared entry (omega arith)
+      ∙ take-all (length old.known.declared) old.known.declared (omega arith));
   scopes = s;
   depth = l;
 }

@@ -1,6 +1,6 @@
 -- An entry that has another type.
 use Rattle.std.specs.Prelude.{◌≡◌, ℕ, zero, suc, List, [], ◌∷◌, ◌++◌, length, map, take, drop, reverse, Option, Some, None, option_map, slice_get, refl}
-use Rattle.std.proofs.Common.{sym, ap, ◌∙◌, arith}
+use Rattle.std.proofs.Common.{sym, ap, ◌∙◌, subst, arith}
 use Rattle.dm_type.specs.declared.shape.Shape.{Shape}
 use Rattle.dm_type.specs.declared.shape.Struct.{Struct as StructEntry}
 use Rattle.dm_type.specs.TableLaws.{injected}
@@ -11,7 +11,8 @@ use Rattle.dm_tree.specs.declared.unit.Declared.{Declared}
 use Rattle.dm_tree.specs.Units.{Declaration}
 use Rattle.dm_typing.specs.declared.known.Known.{Known as Held}
 use Rattle.dm_typing.specs.Known.{Known}
-use Rattle.dm_typing.specs.Views.{type_over, view_over, known_over}
+use Rattle.dm_typing.specs.Views.{Begins, type_over, view_over, known_over}
+use Rattle.dm_typing.proofs.LaterLemmas.{begins-itself}
 use Rattle.dm_edecl.specs.Linkages.{with_kind, known_kind}
 use Rattle.dm_estanding.specs.declared.standing.Standing.{Standing as HeldStanding}
 use Rattle.dm_estanding.specs.Summaries.{entry_over}
@@ -66,16 +67,20 @@ known-beyond later old number kind none =
 
 -- ---- what can be undone
 
+pub same-begins : (old new : Held) → KeepsTypes old new → Begins old.types.shapes new.types.shapes
+same-begins old new same = subst (λ (it : Table). Begins old.types.shapes it.shapes) (sym same.types) (begins-itself old.types.shapes)
+
 pub within-retyped : (old new : HeldStanding) (number before kind : ℕ) → option_map (λ (entry : Declared). entry.kind) (slice_get old.known.declared number) ≡ Some before
     → new.retyped.items ≡ old.retyped.items ++ record { number = number; kind = before } ∷ [] → new.known.declared ≡ set_kind number kind old.known.declared → new.known.scopes ≡ old.known.scopes
-    → IsWithin old new
-within-retyped old new number before kind was r d s = record {
+    → KeepsTypes old.known new.known → IsWithin old new
+within-retyped old new number before kind was r d s same = record {
+  shapes = same-begins old.known new.known same;
   changes = record { number = number; kind = before } ∷ [];
   retyped = r;
-  entries =
-      ap (λ entries. take (length old.known.declared) (set_kind number before entries)) d
+  entries = λ later on. ap (map (entry_over later))
+      (ap (λ entries. take (length old.known.declared) (set_kind number before entries)) d
       ∙ ap (take (length old.known.declared)) (set-back number before kind old.known.declared was)
-      ∙ take-all (length old.known.declared) old.known.declared (omega arith);
+      ∙ take-all (length old.known.declared) old.known.declared (omega arith));
   scopes = ap (drop 1) s;
   depth = ap length s;
 }

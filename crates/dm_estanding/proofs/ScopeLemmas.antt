@@ -2,7 +2,7 @@
 use Rattle.std.specs.Prelude.{◌≡◌, ℕ, zero, suc, Bool, false, if◌then◌else◌, List, [], ◌∷◌, ◌++◌, length, map, take, drop, reverse, All, Option, Some, None, option_map, slice_get, bytes_eq, Result, Ok, Err, OnOk, OnErr, refl}
 use Rattle.std.specs.FinMap as finite
 use Rattle.std.proofs.Common.{sym, ap, ap₂, ◌∙◌, subst, append-nil}
-use Rattle.std.proofs.lemmas.List.{map-append, length-map}
+use Rattle.std.proofs.lemmas.List.{map-append, length-map, take-map}
 use Rattle.std.proofs.lemmas.List.Elements.{All-head, All-tail, All-cons, All-nil}
 use Rattle.std.proofs.lemmas.Option.{slice_get-map}
 use Rattle.dm_type.specs.declared.shape.Shape.{Shape}
@@ -16,7 +16,7 @@ use Rattle.dm_typing.specs.declared.known.Known.{Known as Held}
 use Rattle.dm_typing.specs.Bounds.{AreBelow}
 use Rattle.dm_typing.specs.Fitting.{HaveTypes}
 use Rattle.dm_typing.specs.Known.{Known}
-use Rattle.dm_typing.specs.Views.{view_over, known_over}
+use Rattle.dm_typing.specs.Views.{Begins, view_over, known_over}
 use Rattle.dm_enames.proofs.TagStepLemmas.{entered-below}
 use Rattle.dm_edecl.specs.Standing.{Linked, Standing, known_behind}
 use Rattle.dm_edecl.specs.Linkages.{is_called, number_linked}
@@ -25,15 +25,10 @@ use Rattle.dm_estanding.specs.declared.standing.Retyped.{Retyped}
 use Rattle.dm_estanding.specs.declared.standing.Standing.{Standing as HeldStanding}
 use Rattle.dm_estanding.specs.Kinds.{WereTypes}
 use Rattle.dm_estanding.specs.Summaries.{entry_over, Summarises, StandsFor}
-use Rattle.dm_estanding.specs.Undoing.{set_kind, undone, IsWithin}
+use Rattle.dm_estanding.specs.Undoing.{set_kind, undone, IsWithin, Opens}
 use Rattle.dm_estanding.proofs.UndoLemmas.{both-parts}
 
 -- ---- lists
-
-map-take : {A B : Type 0} (f : A → B) (n : ℕ) (xs : List A) → map f (take n xs) ≡ take n (map f xs)
-map-take f zero xs = refl
-map-take f (suc n) [] = refl
-map-take f (suc n) (x ∷ xs) = ap (λ ys. f x ∷ ys) (map-take f n xs)
 
 map-drop : {A B : Type 0} (f : A → B) (n : ℕ) (xs : List A) → map f (drop n xs) ≡ drop n (map f xs)
 map-drop f zero xs = refl
@@ -60,7 +55,7 @@ names-behind : (count : ℕ) (changes : List Retyped) (entries : List Declared)
 names-behind count changes entries =
     let f : Declared → List ℕ = λ entry. entry.name in
     map-append f (take count (undone changes entries)) (drop count entries)
-    ∙ ap₂ (λ a b. a ++ b) (map-take f count (undone changes entries) ∙ ap (take count) (names-undone changes entries)) (map-drop f count entries)
+    ∙ ap₂ (λ a b. a ++ b) (sym (take-map f count (undone changes entries)) ∙ ap (take count) (names-undone changes entries)) (map-drop f count entries)
     ∙ both-parts count (map f entries)
 
 abbrev called_in : List ℕ → Option (List ℕ) → Bool
@@ -157,12 +152,14 @@ module _ (later : List Shape) (opened old : HeldStanding) (count mark : ℕ) (wi
     (counted : count ≡ length opened.known.declared) (marked : mark ≡ length opened.retyped.items) (outside inside : Standing)
     (scopes : outside.known.scopes ≡ drop 1 opened.known.scopes)
     (entries : outside.known.declared ≡ map (entry_over later) opened.known.declared)
-    (stands : StandsFor later old.known old.links inside) where
+    (on : Begins old.known.types.shapes later) (stands : StandsFor later old.known old.links inside) where
   changes-are : drop mark old.retyped.items ≡ within.changes
   changes-are = ap (λ n. drop n old.retyped.items) marked ∙ ap (drop (length opened.retyped.items)) within.retyped ∙ drop-appended opened.retyped.items within.changes
 
-  first-are : take count (undone (drop mark old.retyped.items) old.known.declared) ≡ opened.known.declared
-  first-are = ap (λ changes. take count (undone changes old.known.declared)) changes-are ∙ ap (λ n. take n (undone within.changes old.known.declared)) counted ∙ within.entries
+  first-are : map (entry_over later) (take count (undone (drop mark old.retyped.items) old.known.declared)) ≡ map (entry_over later) opened.known.declared
+  first-are =
+      ap (λ changes. map (entry_over later) (take count (undone changes old.known.declared))) changes-are
+      ∙ ap (λ n. map (entry_over later) (take n (undone within.changes old.known.declared))) counted ∙ within.entries later on
 
   abbrev left : List Declared
   left = take count (undone (drop mark old.retyped.items) old.known.declared) ++ drop count old.known.declared
@@ -170,7 +167,7 @@ module _ (later : List Shape) (opened old : HeldStanding) (count mark : ℕ) (wi
   behind : outside.known.declared ++ drop (length outside.known.declared) (map (entry_over later) old.known.declared) ≡ map (entry_over later) left
   behind =
       let n : length outside.known.declared ≡ count = ap length entries ∙ length-map opened.known.declared (entry_over later) ∙ sym counted in
-      ap₂ (λ a b. a ++ b) (entries ∙ sym (ap (map (entry_over later)) first-are))
+      ap₂ (λ a b. a ++ b) (entries ∙ sym first-are)
       (ap (λ k. drop k (map (entry_over later) old.known.declared)) n ∙ sym (map-drop (entry_over later) count old.known.declared))
       ∙ sym (map-append (entry_over later) (take count (undone (drop mark old.retyped.items) old.known.declared)) (drop count old.known.declared))
 
@@ -204,22 +201,53 @@ take-appended [] ys = refl
 take-appended (x ∷ xs) ys = ap (λ zs. x ∷ zs) (take-appended xs ys)
 
 -- around the scope all is as before
-pub within-closed : (outside opened old new : HeldStanding) (count mark : ℕ) → opened.retyped.items ≡ outside.retyped.items → opened.known.declared ≡ outside.known.declared
-    → outside.known.scopes ≡ drop 1 opened.known.scopes → IsWithin opened old → count ≡ length opened.known.declared → mark ≡ length opened.retyped.items
-    → new.retyped.items ≡ take mark old.retyped.items → new.known.scopes ≡ drop 1 old.known.scopes
+pub within-closed : (outside opened old new : HeldStanding) (count mark : ℕ) → Opens outside opened → IsWithin opened old → count ≡ length opened.known.declared
+    → mark ≡ length opened.retyped.items → new.known.types ≡ old.known.types → new.retyped.items ≡ take mark old.retyped.items → new.known.scopes ≡ drop 1 old.known.scopes
     → new.known.declared ≡ take count (undone (drop mark old.retyped.items) old.known.declared) ++ drop count old.known.declared → IsWithin outside new
-within-closed outside opened old new count mark same entries scopes within counted marked r s d =
-    let whole = s ∙ within.scopes ∙ sym scopes in
-    let changes = ap (λ n. drop n old.retyped.items) marked ∙ ap (drop (length opened.retyped.items)) within.retyped ∙ drop-appended opened.retyped.items within.changes in
-    let first =
-    ap (λ it. take count (undone it old.known.declared)) changes ∙ ap (λ n. take n (undone within.changes old.known.declared)) counted ∙ within.entries ∙ entries in record {
+within-closed outside opened old new count mark opens within counted marked t r s d =
+    let whole = s ∙ within.scopes ∙ sym opens.scopes in record {
+      shapes = shapes;
       changes = [];
       retyped =
           r ∙ ap (λ n. take n old.retyped.items) marked ∙ ap (take (length opened.retyped.items)) within.retyped
-          ∙ take-appended opened.retyped.items within.changes ∙ same ∙ sym (append-nil outside.retyped.items);
-      entries =
-          ap (take (length outside.known.declared)) (d ∙ ap (λ it. it ++ drop count old.known.declared) first)
-          ∙ take-appended outside.known.declared (drop count old.known.declared);
+          ∙ take-appended opened.retyped.items within.changes ∙ opens.retyped ∙ sym (append-nil outside.retyped.items);
+      entries = λ later on.
+          ap (λ list. map (entry_over later) (take (length outside.known.declared) list)) d
+          ∙ ap (λ n. map (entry_over later) (take n (first ++ drop count old.known.declared))) (sym (many later on))
+          ∙ ap (map (entry_over later)) (take-appended first (drop count old.known.declared))
+          ∙ first-are later on;
       scopes = ap (drop 1) whole;
       depth = ap length whole;
     }
+  where
+    first : List Declared
+    first = take count (undone (drop mark old.retyped.items) old.known.declared)
+
+    shapes : Begins outside.known.types.shapes new.known.types.shapes
+    shapes =
+        subst (λ (it : Table). Begins it.shapes new.known.types.shapes) opens.types
+        (subst (λ (it : Table). Begins opened.known.types.shapes it.shapes) (sym t) within.shapes)
+
+    first-are : (later : List Shape) → Begins new.known.types.shapes later → map (entry_over later) first ≡ map (entry_over later) outside.known.declared
+    first-are later on =
+        ap (λ changes. map (entry_over later) (take count (undone changes old.known.declared)))
+        (ap (λ n. drop n old.retyped.items) marked ∙ ap (drop (length opened.retyped.items)) within.retyped ∙ drop-appended opened.retyped.items within.changes)
+        ∙ ap (λ n. map (entry_over later) (take n (undone within.changes old.known.declared))) counted
+        ∙ within.entries later (subst (λ (it : Table). Begins it.shapes later) t on)
+        ∙ ap (map (entry_over later)) opens.declared
+
+    many : (later : List Shape) → Begins new.known.types.shapes later → length first ≡ length outside.known.declared
+    many later on = sym (length-map first (entry_over later)) ∙ ap length (first-are later on) ∙ length-map outside.known.declared (entry_over later)
+
+-- what was known outside is what is known around the scope
+pub closes-around : (later : List Shape) (outside opened old new : HeldStanding) (count mark : ℕ) → Opens outside opened → IsWithin opened old → count ≡ length opened.known.declared
+    → mark ≡ length opened.retyped.items → Begins old.known.types.shapes later → (before inside : Standing) → StandsFor later outside.known outside.links before
+    → StandsFor later old.known old.links inside → new.known.types ≡ old.known.types → new.known.scopes ≡ drop 1 old.known.scopes
+    → new.known.declared ≡ take count (undone (drop mark old.retyped.items) old.known.declared) ++ drop count old.known.declared → new.known.begun.items ≡ old.known.begun.items
+    → new.known.constants ≡ old.known.constants → new.links ≡ old.links
+    → StandsFor later new.known new.links (record inside { known = known_behind before.known inside.known })
+closes-around later outside opened old new count mark opens within counted marked on before inside stands stands-inside t s d b k l =
+    closes later opened old count mark within counted marked before inside
+    (ap (λ (it : Known). it.scopes) stands.known ∙ opens.scopes)
+    (ap (λ (it : Known). it.declared) stands.known ∙ ap (map (entry_over later)) (sym opens.declared))
+    on stands-inside new.known new.links t s d b k l

@@ -15,9 +15,9 @@ use Rattle.dm_typing.specs.Bounds.{AreBelow}
 use Rattle.dm_enames.proofs.TagStepLemmas.{number-below}
 use Rattle.dm_edecl.specs.Standing.{Standing}
 use Rattle.dm_edecl.specs.Linkages.{is_called, number_linked, number_shared, meaning_here, number_before, with_kind, naming, number_here, named_here, with_link_if, kind_seen}
-use Rattle.dm_edecl.specs.Settled.{IsSoundStanding}
 use Rattle.dm_edecl.proofs.KeepsLemmas.{front-kept}
 use Rattle.dm_edecl.proofs.NamingLemmas.{last-get}
+use Rattle.dm_estanding.specs.Proceeding.{IsLawful}
 use Rattle.dm_estanding.specs.Summaries.{IsUnited, declared_as}
 use Rattle.dm_estanding.proofs.LinkLemmas.{number-push, number_if}
 use Rattle.dm_estanding.proofs.DeclaringLemmas.{names-here}
@@ -46,7 +46,7 @@ linkage-kind zero kind (entry ∷ entries) (suc at) now h = (now, h, refl)
 linkage-kind (suc n) kind (entry ∷ entries) zero now h = (now, h, refl)
 linkage-kind (suc n) kind (entry ∷ entries) (suc at) now h = linkage-kind n kind entries at now h
 
-module _ (s : Standing) (entry : Declaration) (sound : IsSoundStanding s) (below : AreBelow (length s.known.declared) s.known.scopes) (united : IsUnited s) where
+module _ (s : Standing) (entry : Declaration) (lawful : IsLawful s) (below : AreBelow (length s.known.declared) s.known.scopes) where
   -- the earlier entry of a number that was there
   linkage-before : (kind : CType) (found : Option ℕ) (name : List ℕ) (number : ℕ) (now : Declaration) → number_of s.known.scopes name ≡ Some number
       → slice_get (naming s.known kind entry found).declared number ≡ Some now → (old : Declaration) × (slice_get s.known.declared number ≡ Some old) × (old.linkage ≡ now.linkage)
@@ -60,7 +60,7 @@ module _ (s : Standing) (entry : Declaration) (sound : IsSoundStanding s) (below
       → number_linked name (naming s.known kind entry found).declared s.linked ≡ Some number
   still kind found name number now e h linkage =
       let old = linkage-before kind found name number now e h in
-      names-here s entry sound kind found name ∙ united name number old.0 e old.1 (ap has_linkage old.2 ∙ linkage)
+      names-here s entry lawful kind found name ∙ lawful.united name number old.0 e old.1 (ap has_linkage old.2 ∙ linkage)
 
   -- and has it with one declaration more
   more : (linked : Bool) (n : ℕ) (kind : CType) (defines : Bool) (name : List ℕ) (declared : List Declaration) (number : ℕ) → number_linked name declared s.linked ≡ Some number
@@ -77,12 +77,12 @@ module _ (s : Standing) (entry : Declaration) (sound : IsSoundStanding s) (below
       → number_linked entry.name (naming s.known kind entry found).declared (with_link_if linked (unwrap_or found (length s.known.declared)) entry.kind defines s.linked)
       ≡ Some (unwrap_or found (length s.known.declared))
   itself kind defines true l some (Some n) e now h linkage =
-      more true n entry.kind defines entry.name (naming s.known kind entry (Some n)).declared n (names-here s entry sound kind (Some n) entry.name ∙ e)
+      more true n entry.kind defines entry.name (naming s.known kind entry (Some n)).declared n (names-here s entry lawful kind (Some n) entry.name ∙ e)
   itself kind defines true l some None e now h linkage =
       let many = length s.known.declared in
       let all = s.known.declared ++ entry ∷ [] in
       number-push entry.name all (record { number = many; kind = entry.kind; defines = defines }) s.linked
-      ∙ ap (λ found. or_else found (number_if (is_called entry.name (slice_get all many)) many)) (names-here s entry sound kind None entry.name ∙ e)
+      ∙ ap (λ found. or_else found (number_if (is_called entry.name (slice_get all many)) many)) (names-here s entry lawful kind None entry.name ∙ e)
       ∙ ap (λ test. number_if test many) (ap (is_called entry.name) (last-get s.known.declared entry) ∙ (bytes_eq-Decides entry.name entry.name).1 refl)
   itself kind defines false l true (Some n) e now h linkage = still kind (Some n) entry.name n now e h linkage
   itself kind defines false l false (Some n) e now h linkage = absurd (cc)

@@ -3,6 +3,7 @@
 --     undone changes entries      entries with the types of before the changes, of which the last is undone first
 --     KeepsTypes old new      all but scopes and entries is the same
 --     IsWithin old new      what is known now, in the scopes that were open or in further ones inside the innermost, can be undone
+--     Opens outside opened      a scope opens, with names or without
 use Rattle.std.specs.Prelude.{◌≡◌, ℕ, zero, suc, List, [], ◌∷◌, ◌++◌, length, map, take, drop}
 use Rattle.dm_type.specs.declared.shape.Shape.{Shape}
 use Rattle.dm_tree.specs.declared.unit.Declared.{Declared}
@@ -36,3 +37,10 @@ pub record IsWithin (old new : Held) : Type 0 where
       → map (entry_over later) (take (length old.known.declared) (undone changes new.known.declared)) ≡ map (entry_over later) old.known.declared
   pub scopes : drop 1 new.known.scopes ≡ drop 1 old.known.scopes
   pub depth : length new.known.scopes ≡ length old.known.scopes
+
+-- a scope opens, and all else is as before
+pub record Opens (outside opened : Held) : Type 0 where
+  pub types : opened.known.types ≡ outside.known.types
+  pub declared : opened.known.declared ≡ outside.known.declared
+  pub retyped : opened.retyped.items ≡ outside.retyped.items
+  pub scopes : outside.known.scopes ≡ drop 1 opened.known.scopes

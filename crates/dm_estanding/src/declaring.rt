@@ -5,10 +5,10 @@ ghost use Rattle.dm_type.specs.declared.shape.Shape.{Shape as OneShape};
 ghost use Rattle.dm_type.specs.Tables.{IsId};
 ghost use Rattle.dm_tree.specs.Typing as typed;
 ghost use Rattle.dm_typing.specs.Views.{Begins, type_over, known_over};
-ghost use Rattle.dm_edecl.specs.Settled.{IsSoundStanding};
 ghost use Rattle.dm_edecl.specs.Standing as standings;
 ghost use Rattle.dm_edecl.specs.Linkages as linkages;
-ghost use Rattle.dm_estanding.specs.Summaries.{entry_over, StandsFor, IsUnited, declared_as};
+ghost use Rattle.dm_estanding.specs.Proceeding.{IsLawful};
+ghost use Rattle.dm_estanding.specs.Summaries.{entry_over, StandsFor, declared_as};
 ghost use Rattle.dm_estanding.specs.Undoing.{IsWithin};
 
 use crate::redeclaring::number_before;
@@ -24,12 +24,12 @@ impl Standing {
         requires own { IsId self.old.known.types entry.kind }
         requires kind { IsId self.old.known.types kind }
         ensures known { OnOk result ((later : Sequence OneShape) → Begins self.new.known.types.shapes later → (before : standings.Standing) → StandsFor later self.old.known self.old.links before
-            → IsSoundStanding before → IsUnited before → linkages.may_be_declared before (entry_over later entry) ≡ true → type_over later kind ≡ linkages.kind_seen before (entry_over later entry)
+            → IsLawful before → linkages.may_be_declared before (entry_over later entry) ≡ true → type_over later kind ≡ linkages.kind_seen before (entry_over later entry)
             → StandsFor later self.new.known self.new.links (linkages.declared_here before (entry_over later entry))) }
         ensures number { IfOk result (λ number. (later : Sequence OneShape) (before : standings.Standing) → StandsFor later self.old.known self.old.links before
-            → IsSoundStanding before → number ≡ linkages.number_here before (entry_over later entry)) }
+            → IsLawful before → number ≡ linkages.number_here before (entry_over later entry)) }
         ensures within { OnOk result (IsWithin self.old self.new) }
-        ensures types { OnOk result (Begins self.old.known.types.shapes self.new.known.types.shapes) }
+        ensures types { Begins self.old.known.types.shapes self.new.known.types.shapes }
     {
         self.declared_as(entry, kind, false)
     }
@@ -39,13 +39,13 @@ impl Standing {
         requires own { IsId self.old.known.types entry.kind }
         requires kind { IsId self.old.known.types kind }
         ensures known { OnOk result ((later : Sequence OneShape) → Begins self.new.known.types.shapes later → (before : standings.Standing) → StandsFor later self.old.known self.old.links before
-            → IsSoundStanding before → IsUnited before → typed.has_linkage entry.linkage ≡ true
+            → IsLawful before → typed.has_linkage entry.linkage ≡ true
             → linkages.may_be_declared before (entry_over later entry) ≡ true → type_over later kind ≡ linkages.kind_seen before (entry_over later entry)
             → StandsFor later self.new.known self.new.links (linkages.function_here before (entry_over later entry))) }
         ensures number { IfOk result (λ number. (later : Sequence OneShape) (before : standings.Standing) → StandsFor later self.old.known self.old.links before
-            → IsSoundStanding before → number ≡ linkages.number_here before (entry_over later entry)) }
+            → IsLawful before → number ≡ linkages.number_here before (entry_over later entry)) }
         ensures within { OnOk result (IsWithin self.old self.new) }
-        ensures types { OnOk result (Begins self.old.known.types.shapes self.new.known.types.shapes) }
+        ensures types { Begins self.old.known.types.shapes self.new.known.types.shapes }
     {
         self.declared_as(entry, kind, true)
     }
@@ -55,12 +55,12 @@ impl Standing {
         requires own { IsId self.old.known.types entry.kind }
         requires kind { IsId self.old.known.types kind }
         ensures known { OnOk result ((later : Sequence OneShape) → Begins self.new.known.types.shapes later → (before : standings.Standing) → StandsFor later self.old.known self.old.links before
-            → IsSoundStanding before → IsUnited before → linkages.may_be_declared before (entry_over later entry) ≡ true → type_over later kind ≡ linkages.kind_seen before (entry_over later entry)
+            → IsLawful before → linkages.may_be_declared before (entry_over later entry) ≡ true → type_over later kind ≡ linkages.kind_seen before (entry_over later entry)
             → StandsFor later self.new.known self.new.links (declared_as before (entry_over later entry) defines)) }
         ensures number { IfOk result (λ number. (later : Sequence OneShape) (before : standings.Standing) → StandsFor later self.old.known self.old.links before
-            → IsSoundStanding before → number ≡ linkages.number_here before (entry_over later entry)) }
+            → IsLawful before → number ≡ linkages.number_here before (entry_over later entry)) }
         ensures within { OnOk result (IsWithin self.old self.new) }
-        ensures types { OnOk result (Begins self.old.known.types.shapes self.new.known.types.shapes) }
+        ensures types { Begins self.old.known.types.shapes self.new.known.types.shapes }
     {
         let linked = has_linkage(entry.linkage);
         let own = entry.kind;
@@ -79,12 +79,12 @@ impl Standing {
         requires own { IsId self.old.known.types entry.kind }
         requires kind { IsId self.old.known.types kind }
         ensures known { OnOk result ((later : Sequence OneShape) (before : standings.Standing) → StandsFor later self.old.known self.old.links before
-            → IsSoundStanding before → IsUnited before → linkages.may_be_declared before (entry_over later entry) ≡ true → type_over later kind ≡ linkages.kind_seen before (entry_over later entry)
+            → IsLawful before → linkages.may_be_declared before (entry_over later entry) ≡ true → type_over later kind ≡ linkages.kind_seen before (entry_over later entry)
             → known_over later self.new.known ≡ linkages.named_here before (entry_over later entry)) }
         ensures number { IfOk result (λ number. (later : Sequence OneShape) (before : standings.Standing) → StandsFor later self.old.known self.old.links before
-            → IsSoundStanding before → number ≡ linkages.number_here before (entry_over later entry)) }
+            → IsLawful before → number ≡ linkages.number_here before (entry_over later entry)) }
         ensures within { OnOk result (IsWithin self.old self.new) }
-        ensures types { OnOk result (self.new.known.types ≡ self.old.known.types) }
+        ensures types { self.new.known.types ≡ self.old.known.types }
         ensures links { OnOk result (self.new.links ≡ self.old.links) }
     {
         match number_before(&self.known, &self.links, &entry) {

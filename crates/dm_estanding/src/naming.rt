@@ -26,7 +26,7 @@ impl Standing {
             → known_over later self.new.known ≡ linkages.known_kind number (type_over later kind)
             (record (known_over later self.old.known) { scopes = scopes.declared self.old.known.scopes name.now number })) }
         ensures within { OnOk result (IsWithin self.old self.new) }
-        ensures types { OnOk result (self.new.known.types ≡ self.old.known.types) }
+        ensures types { self.new.known.types ≡ self.old.known.types }
         ensures links { self.new.links ≡ self.old.links }
     {
         name_entry(&mut self.known, name, number)?;
@@ -41,7 +41,7 @@ impl Standing {
             → known_over later self.new.known ≡ meant.declaring (known_over later self.old.known) entry.name (entry_over later entry)) }
         ensures number { IfOk result (λ number. number ≡ length self.old.known.declared) }
         ensures within { OnOk result (IsWithin self.old self.new) }
-        ensures types { OnOk result (self.new.known.types ≡ self.old.known.types) }
+        ensures types { self.new.known.types ≡ self.old.known.types }
         ensures links { self.new.links ≡ self.old.links }
     {
         let Ok(number) = u32::try_from(self.known.declared.len()) else {

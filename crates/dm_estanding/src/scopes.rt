@@ -3,16 +3,16 @@
 ghost use Rattle.std.specs.Prelude.{◌≡◌, ◌<◌, ◌∷◌, ◌++◌, [], List as Sequence, OnOk, IfOk, length, take, drop};
 ghost use Rattle.std.specs.FinMap as finite;
 ghost use Rattle.dm_type.specs.declared.shape.Shape.{Shape as OneShape};
-ghost use Rattle.dm_tree.specs.Views.{entries_of};
-ghost use Rattle.dm_typing.specs.Views.{table_over};
+ghost use Rattle.dm_typing.specs.Views.{Begins};
 ghost use Rattle.dm_edecl.specs.Standing as standings;
 ghost use Rattle.dm_estanding.specs.Kinds.{WereTypes};
 ghost use Rattle.dm_estanding.specs.Summaries.{StandsFor};
-ghost use Rattle.dm_estanding.specs.Undoing.{KeepsTypes, set_kind, undone, IsWithin};
+ghost use Rattle.dm_estanding.specs.Undoing.{KeepsTypes, set_kind, undone, IsWithin, Opens};
 ghost use Rattle.dm_estanding.specs.declared.standing.Retyped.{Retyped as Change};
 ghost use Rattle.dm_estanding.specs.declared.standing.Standing.{Standing as Held};
 
 use crate::standing::{Mark, Retyped, Standing};
+use dm_edeclarator::places::enter;
 use dm_token::{List, Memory};
 use dm_tree::Declared;
 use dm_type::TypeId;
@@ -24,6 +24,8 @@ impl Standing {
     pub fn open(&mut self) -> Result<Mark, Memory>
         ensures opened { OnOk result ((later : Sequence OneShape) (before : standings.Standing) → StandsFor later self.old.known self.old.links before
             → StandsFor later self.new.known self.new.links (standings.opened finite.empty before)) }
+        ensures opens { OnOk result (Opens self.old self.new) }
+        ensures outside { OnOk result (0 < length self.old.known.scopes) }
         ensures declared { IfOk result (λ mark. mark.declared ≡ length self.new.known.declared) }
         ensures retyped { IfOk result (λ mark. mark.retyped ≡ length self.new.retyped.items) }
         ensures scopes { OnOk result (self.new.known.scopes ≡ finite.empty ∷ self.old.known.scopes) }
@@ -42,13 +44,12 @@ impl Standing {
     /// Closes the innermost scope, which opened at this mark: what was declared before has the types of before (6.2.7p4).
     pub fn close(&mut self, mark: Mark)
         requires { 1 < length self.old.known.scopes }
-        ensures closed { (opened : Held) → IsWithin opened self.old → mark.declared ≡ length opened.known.declared → mark.retyped ≡ length opened.retyped.items
-            → (later : Sequence OneShape) (outside inside : standings.Standing) → outside.known.scopes ≡ drop 1 opened.known.scopes
-            → outside.known.declared ≡ entries_of (table_over later opened.known.types) opened.known.declared
+        ensures closed { (outside opened : Held) → Opens outside opened → IsWithin opened self.old → mark.declared ≡ length opened.known.declared → mark.retyped ≡ length opened.retyped.items
+            → (later : Sequence OneShape) → Begins self.old.known.types.shapes later → (before inside : standings.Standing) → StandsFor later outside.known outside.links before
             → StandsFor later self.old.known self.old.links inside
-            → StandsFor later self.new.known self.new.links (record inside { known = standings.known_behind outside.known inside.known }) }
-        ensures around { (outside opened : Held) → opened.retyped.items ≡ outside.retyped.items → opened.known.declared ≡ outside.known.declared → outside.known.scopes ≡ drop 1 opened.known.scopes
-            → IsWithin opened self.old → mark.declared ≡ length opened.known.declared → mark.retyped ≡ length opened.retyped.items → IsWithin outside self.new }
+            → StandsFor later self.new.known self.new.links (record inside { known = standings.known_behind before.known inside.known }) }
+        ensures around { (outside opened : Held) → Opens outside opened → IsWithin opened self.old → mark.declared ≡ length opened.known.declared → mark.retyped ≡ length opened.retyped.items
+            → IsWithin outside self.new }
         ensures changes { self.new.retyped.items ≡ take mark.retyped self.old.retyped.items }
         ensures scopes { self.new.known.scopes ≡ drop 1 self.old.known.scopes }
         ensures types { self.new.known.types ≡ self.old.known.types }
@@ -57,16 +58,6 @@ impl Standing {
     {
         leave(&mut self.known, &mut self.retyped, mark);
     }
-}
-
-/// Opens a scope.
-fn enter(known: &mut Known) -> Result<(), Memory>
-    ensures scopes { OnOk result (known.new.scopes ≡ finite.empty ∷ known.old.scopes) }
-    ensures declared { known.new.declared ≡ known.old.declared }
-    ensures same { KeepsTypes known.old known.new }
-{
-    known.scopes.enter()?;
-    Ok(())
 }
 
 /// Closes the innermost scope, and undoes the changes since the mark.

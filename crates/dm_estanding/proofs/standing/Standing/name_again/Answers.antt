@@ -17,5 +17,5 @@ returns-clause-known c = λ later it.
 
 pub returns-clause-within : goal.returns-clause-within
 returns-clause-within c =
-    within-on c.args.self.now _ _ (within-named c.args.self.now _ refl c.name_entry.ensures.declared c.in_ok-name_entry.ensures.outer c.in_ok-name_entry.ensures.depth)
+    within-on c.args.self.now _ _ (within-named c.args.self.now _ refl c.name_entry.ensures.declared c.in_ok-name_entry.ensures.outer c.in_ok-name_entry.ensures.depth c.name_entry.ensures.same)
     c.in_ok-retype.ensures.within

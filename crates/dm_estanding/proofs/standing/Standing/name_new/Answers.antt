@@ -16,4 +16,4 @@ returns-clause-known c = λ later fresh.
 
 pub returns-clause-within : goal.returns-clause-within
 returns-clause-within c =
-    within-new c.args.self.now _ c.args.entry refl c.in_ok-add_entry.ensures.declared c.in_ok-add_entry.ensures.outer c.in_ok-add_entry.ensures.depth
+    within-new c.args.self.now _ c.args.entry refl c.in_ok-add_entry.ensures.declared c.in_ok-add_entry.ensures.outer c.in_ok-add_entry.ensures.depth c.add_entry.ensures.same

@@ -10,7 +10,7 @@ use Rattle.dm_estanding.proofs.standing.Standing.named.Goals as goal
 use Rattle.dm_estanding.proofs.standing.Standing.named.Goals.{in_default-via-in-Some+else-number-len, in_default-via-in_default}
 
 pub returns-in_ok-name_again-in-Some-clause-known : goal.returns-in_ok-name_again-in-Some-clause-known
-returns-in_ok-name_again-in-Some-clause-known c = λ later before stands sound united may seen.
+returns-in_ok-name_again-in-Some-clause-known c = λ later before stands lawful may seen.
     let old = c.args.self.now.known in
     let entry = entry_over later c.args.entry in
     let name = c.args.entry.name in
@@ -18,11 +18,11 @@ returns-in_ok-name_again-in-Some-clause-known c = λ later before stands sound u
     let found = sym (c.number_before.ensures later before stands) ∙ c.in-Some.is in
     let below = below-held later old before.known stands.known old.numbers in
     c.in_ok-name_again-in-Some.ensures.known later
-    (subst (λ (it : Known). is_declared it.scopes name ≡ true → number_of it.scopes name ≡ Some number) stands.known (again-there before entry sound below united may number found))
+    (subst (λ (it : Known). is_declared it.scopes name ≡ true → number_of it.scopes name ≡ Some number) stands.known (again-there before entry lawful below may number found))
     ∙ named-is later old before c.args.kind entry (Some number) stands.known seen found
 
 pub returns-in_ok-number-in_default-clause-known : goal.returns-in_ok-number-in_default-clause-known
-returns-in_ok-number-in_default-clause-known c = λ later before stands sound united may seen.
+returns-in_ok-number-in_default-clause-known c = λ later before stands lawful may seen.
     let old = c.args.self.now.known in
     let entry = entry_over later c.args.entry in
     let below = below-held later old before.known stands.known old.numbers in
@@ -30,18 +30,18 @@ returns-in_ok-number-in_default-clause-known c = λ later before stands sound un
     let none : number_before before entry ≡ None =
     elim c.in_default.branch [
       | in_default-via-in-Some+else-number-len w ↦
-          (let inside = number-there before entry sound below w.in-Some.number (sym is ∙ w.in-Some.is) in
+          (let inside = number-there before entry lawful below w.in-Some.number (sym is ∙ w.in-Some.is) in
           let all = counted later old before.known stands.known in
           let many = w.len.ensures in
           let beyond = w.if-number-len.false in
           absurd (omega (arith, inside, all, many, beyond)))
       | in_default-via-in_default w ↦ sym is ∙ w.in_default.is
     ] in
-    let fresh = subst (λ (it : Known). is_declared it.scopes c.args.entry.name ≡ false) stands.known (fresh-here before entry sound below united may none) in
+    let fresh = subst (λ (it : Known). is_declared it.scopes c.args.entry.name ≡ false) stands.known (fresh-here before entry lawful below may none) in
     c.in_ok-number-in_default.ensures.known later fresh ∙ named-is later old before c.args.kind entry None stands.known seen none
 
 pub returns-in_ok-number-in_default-clause-number : goal.returns-in_ok-number-in_default-clause-number
-returns-in_ok-number-in_default-clause-number c = λ later before stands sound.
+returns-in_ok-number-in_default-clause-number c = λ later before stands lawful.
     let old = c.args.self.now.known in
     let entry = entry_over later c.args.entry in
     let below = below-held later old before.known stands.known old.numbers in
@@ -49,7 +49,7 @@ returns-in_ok-number-in_default-clause-number c = λ later before stands sound.
     let none : number_before before entry ≡ None =
     elim c.in_default.branch [
       | in_default-via-in-Some+else-number-len w ↦
-          (let inside = number-there before entry sound below w.in-Some.number (sym is ∙ w.in-Some.is) in
+          (let inside = number-there before entry lawful below w.in-Some.number (sym is ∙ w.in-Some.is) in
           let all = counted later old before.known stands.known in
           let many = w.len.ensures in
           let beyond = w.if-number-len.false in

@@ -1,5 +1,5 @@
 -- The entry has the type, and one declaration more if it has linkage.
-use Rattle.std.specs.Prelude.{true}
+use Rattle.std.specs.Prelude.{true, refl}
 use Rattle.std.proofs.Common.{sym, ◌∙◌, subst, arith}
 use Rattle.dm_typing.specs.Views.{type_over}
 use Rattle.dm_typing.proofs.GivesLemmas.{grown}
@@ -7,6 +7,7 @@ use Rattle.dm_typing.proofs.LaterLemmas.{begins-length}
 use Rattle.dm_edecl.specs.Linkages.{with_kind, known_kind, with_link, with_link_if}
 use Rattle.dm_estanding.specs.Summaries.{Summarises, StandsFor}
 use Rattle.dm_estanding.proofs.DefiningLemmas.{object-stands}
+use Rattle.dm_estanding.proofs.WithinLemmas.{within-grown}
 use Rattle.dm_estanding.proofs.standing.Standing.object_here.Goals as goal
 
 pub invariant_of-self : goal.invariant_of-self
@@ -18,8 +19,8 @@ invariant_of-self c = record {
       omega (arith, longer, one);
 }
 
-pub returns-then-not-linked : goal.returns-then-not-linked
-returns-then-not-linked c = λ later begins before stands entry is may.
+pub returns-then-not-linked-clause-known : goal.returns-then-not-linked-clause-known
+returns-then-not-linked-clause-known c = λ later begins before stands entry is may.
     let number = c.args.number in
     let type = type_over later c.args.kind in
     let now = c.retype.new.self in
@@ -28,8 +29,8 @@ returns-then-not-linked c = λ later begins before stands entry is may.
     (object-stands later c.args.self.now.known now.known c.args.self.now.links now.links before number c.args.kind before.linked stands (c.in_ok-retype.ensures.known later)
     (λ summary. subst (λ links. Summarises later links (with_kind number type before.known.declared) before.linked) (sym c.retype.ensures.links) summary))
 
-pub returns : goal.returns
-returns c = λ later begins before stands entry is may.
+pub returns-clause-known : goal.returns-clause-known
+returns-clause-known c = λ later begins before stands entry is may.
     let number = c.args.number in
     let type = type_over later c.args.kind in
     let now = c.retype.new.self in
@@ -41,3 +42,6 @@ returns c = λ later begins before stands entry is may.
     (λ summary. c.in_ok-add.ensures.summary later begins (with_kind number type before.known.declared) before.linked
     (subst (λ links. Summarises later links (with_kind number type before.known.declared) before.linked) (sym c.retype.ensures.links) summary)
     it.called it.once it.proper it.bounds.0 it.bounds.1))
+
+pub returns-clause-within : goal.returns-clause-within
+returns-clause-within c = within-grown c.args.self.now c.retype.new.self _ c.in_ok-retype.ensures.within c.add.ensures.grows refl

@@ -11,7 +11,7 @@ returns-in_ok-push-in-Some-clause-known c = λ later.
 
 pub returns-in_ok-push-in-Some-clause-within : goal.returns-in_ok-push-in-Some-clause-within
 returns-in_ok-push-in-Some-clause-within c =
-    within-retyped c.args.self.now _ c.args.number c.in-Some.before c.args.kind (sym c.in-Some.ensures.entry) c.in_ok-push-in-Some.ensures.items c.set.ensures.declared c.set.ensures.scopes
+    within-retyped c.args.self.now _ c.args.number c.in-Some.before c.args.kind (sym c.in-Some.ensures.entry) c.in_ok-push-in-Some.ensures.items c.set.ensures.declared c.set.ensures.scopes c.set.ensures.same
 
 pub returns-in-None-clause-known : goal.returns-in-None-clause-known
 returns-in-None-clause-known c = λ later.
