@@ -240,14 +240,14 @@ within-closed outside opened old new count mark opens within counted marked t r 
     many later on = sym (length-map first (entry_over later)) ∙ ap length (first-are later on) ∙ length-map outside.known.declared (entry_over later)
 
 -- what was known outside is what is known around the scope
-pub closes-around : (later : List Shape) (outside opened old new : HeldStanding) (count mark : ℕ) → Opens outside opened → IsWithin opened old → count ≡ length opened.known.declared
+pub closes-around : (later : List Shape) (outside opened old : HeldStanding) (new : Held) (links : Links) (count mark : ℕ) → Opens outside opened → IsWithin opened old → count ≡ length opened.known.declared
     → mark ≡ length opened.retyped.items → Begins old.known.types.shapes later → (before inside : Standing) → StandsFor later outside.known outside.links before
-    → StandsFor later old.known old.links inside → new.known.types ≡ old.known.types → new.known.scopes ≡ drop 1 old.known.scopes
-    → new.known.declared ≡ take count (undone (drop mark old.retyped.items) old.known.declared) ++ drop count old.known.declared → new.known.begun.items ≡ old.known.begun.items
-    → new.known.constants ≡ old.known.constants → new.links ≡ old.links
-    → StandsFor later new.known new.links (record inside { known = known_behind before.known inside.known })
-closes-around later outside opened old new count mark opens within counted marked on before inside stands stands-inside t s d b k l =
+    → StandsFor later old.known old.links inside → new.types ≡ old.known.types → new.scopes ≡ drop 1 old.known.scopes
+    → new.declared ≡ take count (undone (drop mark old.retyped.items) old.known.declared) ++ drop count old.known.declared → new.begun.items ≡ old.known.begun.items
+    → new.constants ≡ old.known.constants → links ≡ old.links
+    → StandsFor later new links (record inside { known = known_behind before.known inside.known })
+closes-around later outside opened old new links count mark opens within counted marked on before inside stands stands-inside t s d b k l =
     closes later opened old count mark within counted marked before inside
     (ap (λ (it : Known). it.scopes) stands.known ∙ opens.scopes)
     (ap (λ (it : Known). it.declared) stands.known ∙ ap (map (entry_over later)) (sym opens.declared))
-    on stands-inside new.known new.links t s d b k l
+    on stands-inside new links t s d b k l
