@@ -1,7 +1,9 @@
 -- How the steps of the code through declarations and statements come to what the definition comes to: what is left to type where the code
 -- stands, and what each call leaves.
-use Rattle.std.specs.Prelude.{◌≡◌, ℕ, ◌<◌, Bool, true, false, List, [], ◌∷◌, ◌++◌, length, map, take, drop, Some, slice_get, Result, Ok, Err, IsErrAnd, refl}
+use Rattle.std.specs.Prelude.{◌≡◌, ℕ, ◌<◌, Bool, true, false, List, [], ◌∷◌, ◌++◌, length, map, take, drop, Option, Some, None, slice_get, Result, Ok, Err, IsErrAnd, refl}
+use Rattle.std.specs.Cmp.Lexicographic.{slice_cmp}
 use Rattle.std.specs.FinMap as finite
+use Rattle.std.specs.Ordering.{nat_cmp}
 use Rattle.std.proofs.Common.{sym, ap, ◌∙◌, subst, arith}
 use Rattle.std.proofs.lemmas.List.{length-map, take-map}
 use Rattle.dm_token.specs.declared.stop.Stop.{Stop}
@@ -384,9 +386,15 @@ module _ {A B D : Type 0} (Fits : Table → A → Type 0) (view : List Shape →
 -- ---- scopes
 
 -- nothing is declared yet in a scope that opens
-pub none-there : (entries : List Declaration) (name : List ℕ) (number : ℕ) (entry : Declaration) → finite.get (finite.empty) name ≡ Some number → slice_get entries number ≡ Some entry
+abbrev pub no-names : Numbers
+no-names = finite.empty
+
+pub none-there : (entries : List Declaration) (name : List ℕ) (number : ℕ) (entry : Declaration) → finite.get no-names name ≡ Some number → slice_get entries number ≡ Some entry
     → has_linkage entry.linkage ≡ false
-none-there entries name number entry h is = absurd (cc)
+none-there entries name number entry h is = nothing (sym (finite.get-empty (slice_cmp nat_cmp) name) ∙ h)
+  where
+    nothing : ◌≡◌ {A = Option ℕ} None (Some number) → has_linkage entry.linkage ≡ false
+    nothing none = absurd (cc)
 
 -- a scope was open round the one that is left
 pub scope-open : (outside opened inside : Held) (scope : Numbers) → opened.known.scopes ≡ scope ∷ outside.known.scopes → 0 < length outside.known.scopes → IsWithin opened inside

@@ -196,7 +196,7 @@ module _ (later : List Shape) (opened old : HeldStanding) (count mark : ℕ) (wi
         });
       }
 
-take-appended : {A : Type 0} (xs ys : List A) → take (length xs) (xs ++ ys) ≡ xs
+pub take-appended : {A : Type 0} (xs ys : List A) → take (length xs) (xs ++ ys) ≡ xs
 take-appended [] ys = refl
 take-appended (x ∷ xs) ys = ap (λ zs. x ∷ zs) (take-appended xs ys)
 
