@@ -34,7 +34,7 @@ use Rattle.dm_estanding.proofs.DefiningLemmas.{summary-renamed}
 
 -- ---- the names of entries
 
-called-kind : (name : List ℕ) (n : ℕ) (kind : CType) (entries : List Declaration) (at : ℕ) → is_called name (slice_get (with_kind n kind entries) at) ≡ is_called name (slice_get entries at)
+pub called-kind : (name : List ℕ) (n : ℕ) (kind : CType) (entries : List Declaration) (at : ℕ) → is_called name (slice_get (with_kind n kind entries) at) ≡ is_called name (slice_get entries at)
 called-kind name n kind [] at = refl
 called-kind name zero kind (entry ∷ entries) zero = refl
 called-kind name zero kind (entry ∷ entries) (suc at) = refl
@@ -59,7 +59,7 @@ names-more name entries entry (one ∷ others) within =
     (names-more name entries entry others (λ n h. within n (some-then (one.number == n) _ (whole_kind n others) h)))
 
 -- the number that is found is that of an entry of the name
-called-found : (name : List ℕ) (declared : List Declaration) (linked : List Linked) (number : ℕ) → number_linked name declared linked ≡ Some number → is_called name (slice_get declared number) ≡ true
+pub called-found : (name : List ℕ) (declared : List Declaration) (linked : List Linked) (number : ℕ) → number_linked name declared linked ≡ Some number → is_called name (slice_get declared number) ≡ true
 called-found name declared [] number h = absurd (cc)
 called-found name declared (one ∷ others) number h = go (called-found name declared others number) (is_called name (slice_get declared one.number)) refl h
   where

@@ -70,20 +70,42 @@ module _ (s : Standing) (entry : Declaration) (lawful : IsLawful s) (below : Are
       number-push name declared (record { number = n; kind = kind; defines = defines }) s.linked
       ∙ ap (λ found. or_else found (number_if (is_called name (slice_get declared n)) n)) h
 
+  -- that of the name itself where it has linkage
+  itself-linked : (kind : CType) (defines : Bool) (found : Option ℕ) → number_shared s entry.name ≡ found
+      → number_linked entry.name (naming s.known kind entry found).declared (with_link_if true (unwrap_or found (length s.known.declared)) entry.kind defines s.linked)
+      ≡ Some (unwrap_or found (length s.known.declared))
+  itself-linked kind defines (Some n) e =
+      more true n entry.kind defines entry.name (naming s.known kind entry (Some n)).declared n (names-here s entry lawful kind (Some n) entry.name ∙ e)
+  itself-linked kind defines None e =
+      let many = length s.known.declared in
+      let all = s.known.declared ++ entry ∷ [] in
+      number-push entry.name all (record { number = many; kind = entry.kind; defines = defines }) s.linked
+      ∙ ap (λ found. or_else found (number_if (is_called entry.name (slice_get all many)) many)) (names-here s entry lawful kind None entry.name ∙ e)
+      ∙ ap (λ test. number_if test many) (ap (is_called entry.name) (last-get s.known.declared entry) ∙ (bytes_eq-Decides entry.name entry.name).1 refl)
+
+  pub named-linked : (defines : Bool) → has_linkage entry.linkage ≡ true
+      → number_linked entry.name (declared_as s entry defines).known.declared (declared_as s entry defines).linked ≡ Some (number_here s entry)
+  named-linked defines linked = go (has_linkage entry.linkage) linked
+    where
+      kind : CType
+      kind = kind_seen s entry
+
+      before : Bool → Option ℕ
+      before test = if test then number_shared s entry.name else if is_some (meaning_here s.known entry.name) then number_of s.known.scopes entry.name else None
+
+      go : (test : Bool) → test ≡ true
+          → number_linked entry.name (naming s.known kind entry (before test)).declared (with_link_if test (unwrap_or (before test) (length s.known.declared)) entry.kind defines s.linked)
+          ≡ Some (unwrap_or (before test) (length s.known.declared))
+      go true e = itself-linked kind defines (number_shared s entry.name) refl
+      go false e = absurd (cc)
+
   -- that of the name itself, by what was found before
   itself : (kind : CType) (defines : Bool) (linked : Bool) → has_linkage entry.linkage ≡ linked → (some : Bool) (found : Option ℕ)
       → (if linked then number_shared s entry.name else if some then number_of s.known.scopes entry.name else None) ≡ found
       → (now : Declaration) → slice_get (naming s.known kind entry found).declared (unwrap_or found (length s.known.declared)) ≡ Some now → has_linkage now.linkage ≡ true
       → number_linked entry.name (naming s.known kind entry found).declared (with_link_if linked (unwrap_or found (length s.known.declared)) entry.kind defines s.linked)
       ≡ Some (unwrap_or found (length s.known.declared))
-  itself kind defines true l some (Some n) e now h linkage =
-      more true n entry.kind defines entry.name (naming s.known kind entry (Some n)).declared n (names-here s entry lawful kind (Some n) entry.name ∙ e)
-  itself kind defines true l some None e now h linkage =
-      let many = length s.known.declared in
-      let all = s.known.declared ++ entry ∷ [] in
-      number-push entry.name all (record { number = many; kind = entry.kind; defines = defines }) s.linked
-      ∙ ap (λ found. or_else found (number_if (is_called entry.name (slice_get all many)) many)) (names-here s entry lawful kind None entry.name ∙ e)
-      ∙ ap (λ test. number_if test many) (ap (is_called entry.name) (last-get s.known.declared entry) ∙ (bytes_eq-Decides entry.name entry.name).1 refl)
+  itself kind defines true l some found e now h linkage = itself-linked kind defines found e
   itself kind defines false l true (Some n) e now h linkage = still kind (Some n) entry.name n now e h linkage
   itself kind defines false l false (Some n) e now h linkage = absurd (cc)
   itself kind defines false l some None e now h linkage = absurd (unlinked (sym (last-get s.known.declared entry) ∙ h))
