@@ -1,0 +1,3 @@
+pub mod InitialKeepLemmas
+pub mod DeclarableLemmas
+pub mod StepLemmas

@@ -13,7 +13,7 @@ use Rattle.dm_syn.specs.Sources.{Source}
 use Rattle.dm_syn.specs.Trees.{Item}
 use Rattle.dm_syn.specs.Trees as tree
 use Rattle.dm_tree.specs.declared.tree.Local.{Local as LocalHeld}
-use Rattle.dm_tree.specs.Initialisers.{is_object}
+use Rattle.dm_tree.specs.Initialisers.{is_object, is_function_sort}
 use Rattle.dm_tree.specs.Trees.{Declarator, Tree}
 use Rattle.dm_tree.specs.TypeNumbers.{are_known_in_local}
 use Rattle.dm_tree.specs.Typing.{has_linkage}
@@ -34,7 +34,7 @@ use Rattle.dm_estanding.specs.Undoing.{IsWithin}
 use Rattle.dm_edeclaration.specs.declared.initialised.Object.{Object}
 use Rattle.dm_edeclaration.specs.declared.items.TypedLocal.{TypedLocal}
 use Rattle.dm_edeclaration.specs.declared.items.TypedLocals.{TypedLocals}
-use Rattle.dm_edeclaration.specs.declared.specified.Specified.{Specified as SpecifiedHeld}
+use Rattle.dm_edeclaration.specs.declared.specified.Specification.{Specification}
 
 -- ---- types
 
@@ -44,10 +44,10 @@ IsTypeNumber shapes type id = (id < length shapes) × ((later : List Shape) → 
 
 -- ---- specifiers
 
-abbrev pub specified_over : List Shape → SpecifiedHeld → Specified
+abbrev pub specified_over : List Shape → Specification → Specified
 specified_over later said = record { kind = type_over later said.kind; storage = storage_seen said.storage; inline = said.is_inline; first = said.first }
 
-abbrev pub SpecifiedFits : Table → SpecifiedHeld → Type 0
+abbrev pub SpecifiedFits : Table → Specification → Type 0
 SpecifiedFits types said = IsId types said.kind
 
 -- ---- what may be declared
@@ -75,10 +75,11 @@ Permits later source (Err other) broken before entry = ⊥
 abbrev pub Means : Declaration → Object → Type 0
 Means entry object = (entry.name ≡ object.name) × (entry.sort ≡ object.sort) × (entry.linkage ≡ object.linkage)
 
--- an entry that was declared has the number: as its name with linkage, and else alone
+-- an entry that was declared has the number: as its name with linkage, and else alone. A function has linkage
 pub record IsNamed (entry : Declaration) (number : ℕ) (standing : Standing) : Type 0 where
   pub linked : has_linkage entry.linkage ≡ true → number_linked entry.name standing.known.declared standing.linked ≡ Some number
   pub unlinked : has_linkage entry.linkage ≡ false → is_object entry.sort ≡ true → is_linked number standing.linked ≡ false
+  pub functions : is_function_sort entry.sort ≡ true → has_linkage entry.linkage ≡ true
 
 -- the code gives what the definition does where this holds
 pub record ProceedsWhere {A B : Type 0} (P : Standing → Type 0) (Fits : Table → A → Type 0) (view : List Shape → A → B) (source : Source) (old new : Held) (result : Result A Stop)

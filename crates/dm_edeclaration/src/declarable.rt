@@ -15,7 +15,7 @@ ghost use Rattle.dm_estanding.specs.Summaries.{storage_seen, entry_over, StandsF
 ghost use Rattle.dm_edeclaration.specs.Steps.{specified_over, rule_broken, Permits};
 
 use crate::mains::may_be_main;
-use crate::specified::Specified;
+use crate::specified::Specification;
 use dm_edeclarator::declarators::declarator_name;
 use dm_estanding::Links;
 use dm_estanding::redeclaring::{kind_seen, may_be_declared};
@@ -108,7 +108,7 @@ pub fn declarable(
     typer: &Typer<'_>,
     known: &mut Known,
     links: &Links,
-    said: Specified,
+    said: Specification,
     initialised: bool,
     here: u32,
     name: u32,

@@ -1,6 +1,6 @@
 //! Objects that are initialised (6.7.9).
 
-ghost use Rattle.std.specs.Prelude.{◌≡◌, List};
+ghost use Rattle.std.specs.Prelude.{◌≡◌, ◌||◌, true, List};
 ghost use Rattle.dm_type.specs.declared.shape.Shape.{Shape as OneShape};
 ghost use Rattle.dm_type.specs.Tables.{IsId};
 ghost use Rattle.dm_syn.specs.Views as syntax;
@@ -84,7 +84,8 @@ fn object_defined(
 ) -> Result<Local, Stop>
     requires kind { IsId standing.old.known.types kind }
     requires initial { InitialFits standing.old.known.types initial }
-    ensures { (entry : Declaration) → Means entry object.now → ProceedsWhere (IsNamed entry object.now.number) LocalFits bare_over (source_of typer.now) standing.old standing.new result
+    ensures { (entry : Declaration) → Means entry object.now → (initialisers.is_function_sort entry.sort || initialisers.is_object entry.sort) ≡ true
+        → ProceedsWhere (IsNamed entry object.now.number) LocalFits bare_over (source_of typer.now) standing.old standing.new result
         (λ later before. declaring.object_defined before entry object.now.number object.now.here object.now.at (type_over later kind) (initial_over later initial)) }
 {
     if !may_define(standing, object.number, kind) {

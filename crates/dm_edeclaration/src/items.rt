@@ -13,7 +13,7 @@ ghost use Rattle.dm_edeclaration.specs.Steps.{specified_over, SpecifiedFits, bar
 
 use crate::declarable::{declarable, is_object, name_at};
 use crate::initialised::{Object, initialised};
-use crate::specified::Specified;
+use crate::specified::Specification;
 use dm_edeclarator::places::replace_constants;
 use dm_eexpr::syntax::declared_type;
 use dm_estanding::Standing;
@@ -67,7 +67,7 @@ fn defines_object(storage: Storage, sort: Sort) -> bool
 fn item_plain(
     typer: &Typer<'_>,
     standing: &mut Standing,
-    said: Specified,
+    said: Specification,
     declarator: &Declarator,
     kind: TypeId,
 ) -> Result<Local, Stop>
@@ -102,7 +102,7 @@ fn item_plain(
 fn item_initialised(
     typer: &Typer<'_>,
     standing: &mut Standing,
-    said: Specified,
+    said: Specification,
     span: Span,
     declarator: &Declarator,
     kind: TypeId,
@@ -145,7 +145,7 @@ fn item_initialised(
 fn item_of(
     typer: &Typer<'_>,
     standing: &mut Standing,
-    said: Specified,
+    said: Specification,
     item: &InitDeclarator,
     kind: TypeId,
 ) -> Result<Local, Stop>
@@ -173,7 +173,7 @@ fn item_of(
 fn typed_item(
     typer: &Typer<'_>,
     standing: &mut Standing,
-    said: Specified,
+    said: Specification,
     item: &InitDeclarator,
 ) -> Result<TypedLocal, Stop>
     requires { SpecifiedFits standing.old.known.types said }
@@ -191,7 +191,7 @@ fn typed_item(
 pub(crate) fn typed_items(
     typer: &Typer<'_>,
     standing: &mut Standing,
-    said: Specified,
+    said: Specification,
     items: &[InitDeclarator],
 ) -> Result<TypedLocals, Stop>
     requires { SpecifiedFits standing.old.known.types said }

@@ -16,7 +16,7 @@ use dm_typing::{Known, Typer};
 
 /// The type, the storage-class specifier and whether `inline` stands there, and the first token.
 #[derive(Clone, Copy)]
-pub struct Specified {
+pub struct Specification {
     pub kind: TypeId,
     pub storage: Storage,
     pub is_inline: bool,
@@ -30,13 +30,13 @@ pub fn specified(
     stands: Where,
     alone: bool,
     specifiers: &Specifiers,
-) -> Result<Specified, Stop>
+) -> Result<Specification, Stop>
     ensures { Follows SpecifiedFits specified_over (source_of typer.now) known.old known.new result (λ later. declaring.specified (setting_of typer.now) (where_of stands) alone (known_over later known.old) (syntax.specifiers specifiers.now)) }
 {
     let said = words_said(typer, known, true, alone, specifiers.words.items())?;
     let first = specifiers.span.first;
     let kind = typed_said(typer, known, stands, first, &said)?;
-    Ok(Specified {
+    Ok(Specification {
         kind,
         storage: storage_of(said.storage.items()),
         is_inline: said.is_inline,

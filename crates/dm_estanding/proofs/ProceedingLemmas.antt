@@ -23,6 +23,7 @@ use Rattle.dm_typing.proofs.GivesLemmas.{grown}
 use Rattle.dm_typing.proofs.LaterLemmas.{begins-itself, begins-on}
 use Rattle.dm_edeclarator.specs.Steps.{SameBesideConstants, Follows}
 use Rattle.dm_edeclarator.proofs.OpenLemmas.{constants-over}
+use Rattle.dm_eexpr.proofs.CycleLemmas.{if-ok}
 use Rattle.dm_eexpr.proofs.KeepLemmas.{Adds, Keeps, KeepsIn, Leads, SameTrees}
 use Rattle.dm_edecl.specs.Standing.{Standing, Progress, goes_on, stops, further, knowing, typing, collecting, keeps, opened, closed, known_behind}
 use Rattle.dm_estanding.specs.declared.links.Links.{Links}
@@ -127,6 +128,13 @@ pub restated : {A : Type 0} (old now : Held) (whole left other : List Shape → 
 restated old now whole left other a e =
     moves old now now whole left other (within-itself now) a (λ later on behind stands lawful. (behind, e later on behind stands lawful, reached-itself later now behind stands lawful))
 
+-- what the code knows stands for the same where types are numbered
+pub stands-grown : (later : List Shape) (old new : Known-held) (links after : Links) (s : Standing) → Grows old new → after ≡ links → StandsFor later old links s → StandsFor later new after s
+stands-grown later old new links after s g same stands = record {
+  known = stands.known ∙ grown later old new g;
+  links = subst (λ it. Summarises later it s.known.declared s.linked) (sym same) stands.links;
+}
+
 -- types are numbered in between
 pub grows : {A : Type 0} (old now new : Held) (whole left : List Shape → Standing → Progress A) → Arrives old now whole left → Grows now.known new.known → new.links ≡ now.links
     → new.retyped.items ≡ now.retyped.items → Arrives old new whole left
@@ -134,10 +142,7 @@ grows old now new whole left a g links retyped =
     moves old now new whole left left (within-grown now now new (within-itself now) g retyped) a
     (λ later on behind stands lawful.
     (behind, refl, record {
-      stands = record {
-        known = stands.known ∙ grown later now.known new.known g;
-        links = subst (λ it. Summarises later it behind.known.declared behind.linked) (sym links) stands.links;
-      };
+      stands = stands-grown later now.known new.known now.links new.links behind g links stands;
       lawful = lawful;
       remembers = remembers-itself behind;
     }))
@@ -176,39 +181,28 @@ module _ {A B D : Type 0} (Fits : Table → A → Type 0) (view : List Shape →
           (fails-further (view later) (seen later) source later new new here.0 before fault (one later here.0) (next later) (p.gives later on here.0 here.2.stands here.2.lawful));
     }
 
+-- what is reached from where the code has come is reached from before
+pub advances-on : {C D : Type 0} (seen : C → D) (source : Source) (later : List Shape) (now new : Held) (before here : Standing) (result : Result C Stop) (progress : Progress D)
+    → Reached later now before here → Advances seen source later new here result progress → Advances seen source later new before result progress
+advances-on seen source later now new before here (Ok it) progress reached g = (g.0, g.1, reached-on later now new before here g.0 reached g.2)
+advances-on seen source later now new before here (Err stop.Memory) progress reached g = tt
+advances-on seen source later now new before here (Err (stop.Refused refusal)) progress reached g = g
+advances-on seen source later now new before here (Err (stop.Limit limit)) progress reached g = absurd g
+advances-on seen source later now new before here (Err (stop.ReadFault file)) progress reached g = absurd g
+
 module _ {C D : Type 0} (Fits : Table → C → Type 0) (seen : List Shape → C → D) (source : Source) (old now new : Held) (whole left : List Shape → Standing → Progress D)
     (a : Arrives old now whole left) where
-  advances-on : (result : Result C Stop) (later : List Shape) (before here : Standing) → Reached later now before here → Advances (seen later) source later new here result (left later here)
-      → Advances (seen later) source later new before result (left later here)
-  advances-on (Ok it) later before here reached g = (g.0, g.1, reached-on later now new before here g.0 reached g.2)
-  advances-on (Err stop.Memory) later before here reached g = tt
-  advances-on (Err (stop.Refused refusal)) later before here reached g = g
-  advances-on (Err (stop.Limit limit)) later before here reached g = absurd g
-  advances-on (Err (stop.ReadFault file)) later before here reached g = absurd g
-
-  within-all : (result : Result C Stop) → Proceeds Fits seen source now new result left → Proceeds Fits seen source old new result whole
-  within-all (Ok it) p = record {
-    shapes = begins-on old.known.types.shapes now.known.types.shapes new.known.types.shapes a.shapes p.shapes;
-    numbered = p.numbered;
-    within = within-on old now new a.within p.within;
-    gives = λ later on before stands lawful.
-        let here = a.is later (begins-on now.known.types.shapes new.known.types.shapes later p.shapes on) before stands lawful in
-        subst (Advances (seen later) source later new before (Ok it)) (sym here.1)
-        (advances-on (Ok it) later before here.0 here.2 (p.gives later on here.0 here.2.stands here.2.lawful));
-  }
-  within-all (Err fault) p = record {
-    shapes = begins-on old.known.types.shapes now.known.types.shapes new.known.types.shapes a.shapes p.shapes;
-    numbered = tt;
-    within = tt;
-    gives = λ later on before stands lawful.
-        let here = a.is later (begins-on now.known.types.shapes new.known.types.shapes later p.shapes on) before stands lawful in
-        subst (Advances (seen later) source later new before (Err fault)) (sym here.1)
-        (advances-on (Err fault) later before here.0 here.2 (p.gives later on here.0 here.2.stands here.2.lawful));
-  }
-
   -- the last call gives the whole
   pub ends : (result : Result C Stop) → Proceeds Fits seen source now new result left → Proceeds Fits seen source old new result whole
-  ends result p = within-all result p
+  ends result p = record {
+    shapes = begins-on old.known.types.shapes now.known.types.shapes new.known.types.shapes a.shapes p.shapes;
+    numbered = p.numbered;
+    within = if-ok (λ it. IsWithin now new) (λ it. IsWithin old new) result (λ it within. within-on old now new a.within within) p.within;
+    gives = λ later on before stands lawful.
+        let here = a.is later (begins-on now.known.types.shapes new.known.types.shapes later p.shapes on) before stands lawful in
+        subst (Advances (seen later) source later new before result) (sym here.1)
+        (advances-on (seen later) source later now new before here.0 result (left later here.0) here.2 (p.gives later on here.0 here.2.stands here.2.lawful));
+  }
 
 module _ {C D : Type 0} (Fits : Table → C → Type 0) (seen : List Shape → C → D) (source : Source) (old new : Held) (whole : List Shape → Standing → Progress D) where
   -- nothing is left

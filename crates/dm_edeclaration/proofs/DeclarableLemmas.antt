@@ -1,0 +1,188 @@
+-- What may be declared, and what holds behind its declarator.
+use Rattle.std.specs.Prelude.{◌≡◌, ℕ, ◌<◌, Bool, true, false, ◌&&◌, ◌||◌, not, if◌then◌else◌, List, [], ◌∷◌, ◌++◌, length, Option, Some, None, is_some, IfSome, unwrap_or, slice_get, refl}
+use Rattle.std.proofs.Common.{sym, ap, ◌∙◌, subst, arith}
+use Rattle.dm_type.specs.Alike.{are_compatible}
+use Rattle.dm_type.specs.CTypes.{CType}
+use Rattle.dm_type.specs.TableLaws.{injected}
+use Rattle.dm_scope.specs.Scopes.{number_of}
+use Rattle.dm_tree.specs.declared.unit.Sort.{Sort}
+use Rattle.dm_tree.specs.declared.unit.Sort.TheVariants.{Object, Function}
+use Rattle.dm_tree.specs.Initialisers.{is_object, is_function_sort}
+use Rattle.dm_tree.specs.Typing.{FitsSort, IsEntry, has_linkage}
+use Rattle.dm_tree.specs.Units.{Declaration}
+use Rattle.dm_typing.specs.Bounds.{AreBelow}
+use Rattle.dm_typing.specs.Conversions.{is_same}
+use Rattle.dm_typing.specs.Known.{Known}
+use Rattle.dm_typing.specs.Sound.{IsProper}
+use Rattle.dm_typing.proofs.TypeLemmas.{both-hold}
+use Rattle.dm_eexpr.proofs.KeepLemmas.{Adds}
+use Rattle.dm_edecl.specs.Standing.{Linked, Standing, Progress, stops, keeps, knowing}
+use Rattle.dm_edecl.specs.Linkages.{whole_kind, is_called, number_linked, number_shared, kind_seen, meaning_here, is_typedef, is_same_typedef, is_linked_if_there, agrees_if_there, may_be_declared, number_before, with_kind, known_kind, with_link, with_link_if, number_here, declared_here, is_defined}
+use Rattle.dm_edecl.specs.Declaring.{Specified, is_misplaced_static, may_be_object, may_be_main, declarable, may_be_initialised, may_define}
+use Rattle.dm_edecl.specs.Settled.{IsBound, is_linked, AreProperLinks}
+use Rattle.dm_edecl.proofs.LinkLemmas.{proper-push, agree-push}
+use Rattle.dm_estanding.specs.Proceeding.{IsLawful}
+use Rattle.dm_estanding.specs.Summaries.{MayBeAdded, declared_as}
+use Rattle.dm_estanding.proofs.AgreementLemmas.{linked-found}
+use Rattle.dm_estanding.proofs.DeclaringLemmas.{names-kind, called-kind, called-found}
+use Rattle.dm_estanding.proofs.LawfulLemmas.{MayBeDefined, knowing-names}
+use Rattle.dm_estanding.proofs.UnitedLemmas.{named-linked}
+use Rattle.dm_edeclaration.specs.Steps.{broken_unless, rule_broken, IsNamed}
+
+-- ---- rules
+
+-- what follows, unless a rule is broken
+abbrev pub by_rule : {A : Type 0} → Option (ℕ × ℕ) → Progress A → Progress A
+by_rule None next = next
+by_rule (Some fault) next = stops fault.0 fault.1
+
+keeps-by : {A : Type 0} (test : Bool) (rule at : ℕ) (broken : Option (ℕ × ℕ)) (next : Progress A) → keeps test rule at (by_rule broken next) ≡ by_rule (broken_unless test rule at broken) next
+keeps-by true rule at broken next = refl
+keeps-by false rule at broken next = refl
+
+pub declarable-by : {A : Type 0} (said : Specified) (s : Standing) (initialised : Bool) (here name : ℕ) (entry : Declaration) (next : Progress A)
+    → declarable said s initialised here name entry next ≡ by_rule (rule_broken said s initialised here name entry) next
+declarable-by said s initialised here name entry next =
+    let static = not (is_misplaced_static s.known said.storage entry.sort) in
+    let may = may_be_declared s entry in
+    let object = may_be_object s.known said.storage initialised entry.sort (kind_seen s entry) in
+    let main = may_be_main s.known entry in
+    let last = broken_unless main 36 name None in
+    ap (λ p. keeps static 3 said.first (keeps may 2 name (keeps object 5 here p))) (keeps-by main 36 name None next)
+    ∙ ap (λ p. keeps static 3 said.first (keeps may 2 name p)) (keeps-by object 5 here last next)
+    ∙ ap (λ p. keeps static 3 said.first p) (keeps-by may 2 name (broken_unless object 5 here last) next)
+    ∙ keeps-by static 3 said.first (broken_unless may 2 name (broken_unless object 5 here last)) next
+
+none-first : (test : Bool) (rule at : ℕ) (broken : Option (ℕ × ℕ)) → broken_unless test rule at broken ≡ None → test ≡ true
+none-first true rule at broken h = refl
+none-first false rule at broken h = absurd (cc)
+
+not-true : (test : Bool) → not test ≡ true → test ≡ false
+not-true true h = absurd (cc)
+not-true false h = refl
+
+pub not-misplaced : (said : Specified) (s : Standing) (initialised : Bool) (here name : ℕ) (entry : Declaration) → rule_broken said s initialised here name entry ≡ None
+    → is_misplaced_static s.known said.storage entry.sort ≡ false
+not-misplaced said s initialised here name entry h =
+    not-true (is_misplaced_static s.known said.storage entry.sort) (none-first (not (is_misplaced_static s.known said.storage entry.sort)) 3 said.first _ h)
+
+-- the rule that the tests come to
+pub third-rule : (said : Specified) (s : Standing) (initialised : Bool) (here name : ℕ) (entry : Declaration) → is_misplaced_static s.known said.storage entry.sort ≡ true
+    → rule_broken said s initialised here name entry ≡ Some (3, said.first)
+third-rule said s initialised here name entry a =
+    let object = may_be_object s.known said.storage initialised entry.sort (kind_seen s entry) in
+    let rest = broken_unless (may_be_declared s entry) 2 name (broken_unless object 5 here (broken_unless (may_be_main s.known entry) 36 name None)) in
+    ap (λ test. broken_unless (not test) 3 said.first rest) a
+
+module _ (said : Specified) (s : Standing) (initialised : Bool) (here name : ℕ) (entry : Declaration) (a : is_misplaced_static s.known said.storage entry.sort ≡ false) where
+  after-third : Option (ℕ × ℕ)
+  after-third =
+      broken_unless (may_be_declared s entry) 2 name
+      (broken_unless (may_be_object s.known said.storage initialised entry.sort (kind_seen s entry)) 5 here (broken_unless (may_be_main s.known entry) 36 name None))
+
+  not-third : rule_broken said s initialised here name entry ≡ after-third
+  unfolding after-third
+  not-third = ap (λ test. broken_unless (not test) 3 said.first after-third) a
+
+  pub second-rule : may_be_declared s entry ≡ false → rule_broken said s initialised here name entry ≡ Some (2, name)
+  unfolding after-third
+  second-rule b =
+      not-third ∙ ap (λ test. broken_unless test 2 name
+      (broken_unless (may_be_object s.known said.storage initialised entry.sort (kind_seen s entry)) 5 here (broken_unless (may_be_main s.known entry) 36 name None))) b
+
+  module _ (b : may_be_declared s entry ≡ true) where
+    not-second : rule_broken said s initialised here name entry
+        ≡ broken_unless (may_be_object s.known said.storage initialised entry.sort (kind_seen s entry)) 5 here (broken_unless (may_be_main s.known entry) 36 name None)
+    unfolding after-third
+    not-second =
+        not-third ∙ ap (λ test. broken_unless test 2 name
+        (broken_unless (may_be_object s.known said.storage initialised entry.sort (kind_seen s entry)) 5 here (broken_unless (may_be_main s.known entry) 36 name None))) b
+
+    pub fifth-rule : may_be_object s.known said.storage initialised entry.sort (kind_seen s entry) ≡ false → rule_broken said s initialised here name entry ≡ Some (5, here)
+    fifth-rule c = not-second ∙ ap (λ test. broken_unless test 5 here (broken_unless (may_be_main s.known entry) 36 name None)) c
+
+    pub last-rule : may_be_object s.known said.storage initialised entry.sort (kind_seen s entry) ≡ true → (may : Bool) → may_be_main s.known entry ≡ may
+        → rule_broken said s initialised here name entry ≡ broken_unless may 36 name None
+    last-rule c may d =
+        not-second ∙ ap (λ test. broken_unless test 5 here (broken_unless (may_be_main s.known entry) 36 name None)) c ∙ ap (λ test. broken_unless test 36 name None) d
+
+-- ---- behind a declarator
+
+typedef-only : (found : Option Declaration) (entry : Declaration) → is_object entry.sort ≡ true → is_same_typedef found entry ≡ true → is_some found ≡ false
+typedef-only None entry h g = refl
+typedef-only (Some old) entry h g = absurd (never (is_typedef old.sort) entry.sort (is_same old.kind entry.kind) h g)
+  where
+    never : (old : Bool) (sort : Sort) (same : Bool) → is_object sort ≡ true → (old && is_typedef sort && same) ≡ true → ⊥
+    never true (Object fixed) same h g = absurd (cc)
+    never false (Object fixed) same h g = absurd (cc)
+    never old sort same h g = absurd (cc)
+
+object-or-function : (sort : Sort) (kind : CType) (linked : Bool) → FitsSort sort kind linked → is_function_sort sort ≡ true → linked ≡ true
+object-or-function Function kind linked fits h = fits.1
+object-or-function sort kind linked fits h = absurd (cc)
+
+module _ (s : Standing) (entry : Declaration) (lawful : IsLawful s) (below : AreBelow (length s.known.declared) s.known.scopes) (may : may_be_declared s entry ≡ true) where
+  -- an object without linkage is new
+  alone : has_linkage entry.linkage ≡ false → is_object entry.sort ≡ true → is_linked (number_here s entry) (declared_here s entry).linked ≡ false
+  alone unlinked object = go (has_linkage entry.linkage) unlinked may
+    where
+      before : Bool → Option ℕ
+      before test = if test then number_shared s entry.name else if is_some (meaning_here s.known entry.name) then number_of s.known.scopes entry.name else None
+
+      none-yet : (test : Bool) → is_linked (length s.known.declared) s.linked ≡ test → test ≡ false
+      none-yet true e = let one = lawful.within (length s.known.declared) e in absurd (omega (arith, one))
+      none-yet false e = refl
+
+      go : (test : Bool) → test ≡ false
+          → (if test then is_linked_if_there (meaning_here s.known entry.name) && agrees_if_there s entry (number_shared s entry.name) else is_same_typedef (meaning_here s.known entry.name) entry) ≡ true
+          → is_linked (unwrap_or (before test) (length s.known.declared)) (with_link_if test (unwrap_or (before test) (length s.known.declared)) entry.kind false s.linked) ≡ false
+      go true e h = absurd (cc)
+      go false e h =
+          ap (λ found. is_linked (unwrap_or (if found then number_of s.known.scopes entry.name else None) (length s.known.declared)) s.linked) (typedef-only (meaning_here s.known entry.name) entry object h)
+          ∙ none-yet (is_linked (length s.known.declared) s.linked) refl
+
+  pub named-here : IsEntry entry → IsNamed entry (number_here s entry) (declared_here s entry)
+  named-here is = record {
+    linked = λ linked. named-linked s entry lawful below false linked;
+    unlinked = alone;
+    functions = λ function. object-or-function entry.sort entry.kind (has_linkage entry.linkage) is function;
+  }
+
+-- what is typed behind it leaves it so
+pub named-still : (s : Standing) (known : Known) (adds : Adds s.known known) (lawful : IsLawful s) (entry : Declaration) (number : ℕ) → IsNamed entry number s → IsNamed entry number (knowing s known)
+named-still s known adds lawful entry number named = record {
+  linked = λ linked. knowing-names s known adds lawful entry.name ∙ named.linked linked;
+  unlinked = named.unlinked;
+  functions = named.functions;
+}
+
+-- ---- an object that its initialiser defines
+
+object-only : (sort : Sort) (linked : Bool) → (is_function_sort sort ≡ true → linked ≡ true) → (is_function_sort sort || is_object sort) ≡ true → linked ≡ false → is_object sort ≡ true
+object-only (Object fixed) linked functions h e = refl
+object-only Function linked functions h e = let yes = functions refl in absurd (cc)
+object-only sort linked functions h e = absurd (cc)
+
+module _ (s : Standing) (entry : Declaration) (number : ℕ) (kind : CType) (lawful : IsLawful s) (named : IsNamed entry number s) (may : may_define s number kind ≡ true) where
+  alike : are_compatible (unwrap_or (whole_kind number s.linked) kind) kind ≡ true
+  alike = (both-hold (are_compatible (unwrap_or (whole_kind number s.linked) kind) kind) (not (is_defined number s.linked)) may).0
+
+  fits : (whole : CType) → whole_kind number s.linked ≡ Some whole → are_compatible whole kind ≡ true
+  fits whole e = subst (λ found. are_compatible (unwrap_or found kind) kind ≡ true) e alike
+
+  pub may-be-defined : (is_function_sort entry.sort || is_object entry.sort) ≡ true → MayBeDefined s (has_linkage entry.linkage) number kind
+  may-be-defined starts = record {
+    shared = λ linked. (linked-found entry.name s.known.declared s.linked number (named.linked linked), fits);
+    alone = λ none. named.unlinked none (object-only entry.sort (has_linkage entry.linkage) named.functions starts none);
+  }
+
+  pub defined-added : IsProper kind → has_linkage entry.linkage ≡ true → MayBeAdded (known_kind number kind s.known).declared s.linked entry.name number kind true
+  defined-added proper linked =
+      let one : Linked = record { number = number; kind = kind; defines = true } in
+      let found = named.linked linked in
+      record {
+        called = called-kind entry.name number kind s.known.declared number ∙ called-found entry.name s.known.declared s.linked number found;
+        once = subst (λ it. IfSome it (λ other. other ≡ number)) (sym (names-kind entry.name number kind s.known.declared s.linked ∙ found)) refl;
+        proper = proper-push one s.linked lawful.proper proper;
+        bounds = agree-push one s.linked lawful.proper lawful.agree fits number;
+      }
