@@ -1,3 +1,4 @@
 pub mod InitialKeepLemmas
 pub mod DeclarableLemmas
 pub mod StepLemmas
+pub mod ItemLemmas
