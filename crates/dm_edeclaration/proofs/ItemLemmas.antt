@@ -18,7 +18,7 @@ use Rattle.dm_tree.specs.Initialisers.{is_fixed, is_object, is_function_sort}
 use Rattle.dm_tree.specs.Typing.{IsEntry, has_linkage}
 use Rattle.dm_tree.specs.Units.{Declaration}
 use Rattle.dm_typing.specs.declared.known.Known.{Known as Known-held}
-use Rattle.dm_typing.specs.Known.{Known, Setting, Outcome, given, broken}
+use Rattle.dm_typing.specs.Known.{Known, Setting, Outcome}
 use Rattle.dm_typing.specs.Conversions.{is_complete}
 use Rattle.dm_typing.specs.Typing.{is_file_scope}
 use Rattle.dm_typing.specs.Views.{Begins, type_over, known_over, refusal_at, Gives, Grows}
@@ -26,10 +26,10 @@ use Rattle.dm_typing.proofs.GivesLemmas.{grown}
 use Rattle.dm_typing.proofs.LaterLemmas.{begins-itself, begins-on}
 use Rattle.dm_edeclarator.specs.Steps.{Follows}
 use Rattle.dm_eexpr.proofs.CycleLemmas.{if-ok}
-use Rattle.dm_eexpr.proofs.KeepLemmas.{Adds, Leads, SameTrees}
+use Rattle.dm_eexpr.proofs.KeepLemmas.{Adds, KeepsIn, Leads, SameTrees}
 use Rattle.dm_edecl.specs.Standing.{Standing, Progress, goes_on, stops, keeps, typing, knowing}
 use Rattle.dm_edecl.specs.Linkages.{entry_of, kind_seen, may_be_declared, number_here, declared_here, object_here, known_kind}
-use Rattle.dm_edecl.specs.Initialising.{completed, typed_initialiser, expressions_alone}
+use Rattle.dm_edecl.specs.Initialising.{Initial, completed, typed_initialiser, expressions_alone}
 use Rattle.dm_edecl.specs.Declaring.{Specified, is_misplaced_static, name_at, declarable, Local, local_plain, local_initialised, defines_object, may_be_initialised, may_define, object_defined, initialised, item_plain, item_initialised}
 use Rattle.dm_edecl.proofs.EntryLemmas.{entry-fits}
 use Rattle.dm_einitial.specs.Steps.{initial_over, InitialFits}
@@ -94,7 +94,7 @@ module _ (setting : Setting) (now : Held) (said : Specification) (declarator : D
       ≡ rule_broken (specified_over later said) before initialised here at (entry_over later entry)
   rule-at later before initialised = ap₂ (λ one other. rule_broken (specified_over later said) before initialised one other (entry_over later entry)) (sym here-is) (sym at-is)
 
-  abbrev plain-next : List Shape → Standing → Progress Local
+  abbrev pub plain-next : List Shape → Standing → Progress Local
   plain-next later before =
       goes_on (declared_here before (entry_over later entry)) (local_plain (number_here before (entry_over later entry)) (defines_object (storage_seen said.storage) entry.sort))
 
@@ -106,7 +106,7 @@ module _ (setting : Setting) (now : Held) (said : Specification) (declarator : D
       ∙ declarable-by (specified_over later said) before false (declarator_span declarator).first (name_at declarator) (entry_over later entry) (plain-next later before)
       ∙ ap (λ broken. by_rule broken (plain-next later before)) (rule-at later before false)
 
-  abbrev initialised-next : Span → Initialiser → List Shape → Standing → Progress Local
+  abbrev pub initialised-next : Span → Initialiser → List Shape → Standing → Progress Local
   initialised-next span one later before =
       initialised setting (declared_here before (entry_over later entry)) (entry_over later entry) (number_here before (entry_over later entry)) span
       (declarator_span declarator).first (name_at declarator) (kind_seen before (entry_over later entry)) one
@@ -255,7 +255,7 @@ module _ (setting : Setting) (source : Source) (entry : Declaration) (number : �
           (sym then_stands.known) (f.gives later on)));
     }
       where
-        fails-there : (later : List Shape) (s : Standing) (fault : Stop) (outcome : Outcome _) → Gives (initial_over later) source (known_over later typed.known) (Err fault) outcome
+        fails-there : (later : List Shape) (s : Standing) (fault : Stop) (outcome : Outcome Initial) → Gives (initial_over later) source (known_over later typed.known) (Err fault) outcome
             → Advances (bare_over later) source later typed s (Err fault) (typing s outcome (λ behind initial. object_defined behind entry number here at (type_over later whole) initial))
         fails-there later s stop.Memory outcome g = tt
         fails-there later s (stop.Refused refusal) outcome g =
@@ -290,10 +290,10 @@ module _ (setting : Setting) (source : Source) (entry : Declaration) (number : �
           (rest.gives later on (knowing s k) reached.stands reached.lawful (named-still s k adds lawful entry number named)));
     }
       where
-        run : List Shape → Known → Outcome _
+        run : List Shape → Known → Outcome Initial
         run later known = typed_initialiser setting (is_fixed entry.sort) known (type_over later whole) one
 
-        keeps-all : (later : List Shape) (known : Known) → _
+        keeps-all : (later : List Shape) (known : Known) → KeepsIn known (run later known)
         keeps-all later known = initialiser-keeps setting (is_fixed entry.sort) known (type_over later whole) one
 
         first : IsWithin now typed

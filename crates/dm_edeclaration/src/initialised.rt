@@ -28,6 +28,7 @@ use dm_typing::looks::is_complete;
 use dm_typing::{Known, Typer};
 
 /// What is initialised: its entry, the token at which its declarator begins, and that of its name.
+#[derive(Drop)]
 pub(crate) struct Object {
     pub name: Text,
     pub sort: Sort,
