@@ -19,16 +19,12 @@ use Rattle.dm_typing.specs.Typing.{words_said, typed_said, steps_of, derived}
 use Rattle.dm_typing.specs.Views.{Begins, view_over}
 use Rattle.dm_syn.specs.Trees.{Specifiers}
 use Rattle.dm_syn.specs.Trees as tree
-use Rattle.dm_typing.specs.declared.known.Known.{Known as Held}
-use Rattle.dm_typing.proofs.LaterLemmas.{begins-length, trees-later}
+use Rattle.dm_typing.proofs.LaterLemmas.{trees-later}
 use Rattle.dm_eexpr.proofs.KeepLemmas.{KeepsIn, after-keeps, with-keeps, words-keep, said-keeps, steps-keep, derived-keeps}
 use Rattle.dm_edecl.specs.Declaring.{Specified, specified_by, specified, typed_declarator, Local, local_plain, local_initialised, with_lengths, constants_of, expressions_of}
 use Rattle.dm_edecl.specs.Declaring as declaring
 use Rattle.dm_einitial.specs.Steps.{initial_over, InitialFits, are_known_in_initial}
 use Rattle.dm_einitial.proofs.InitialLemmas.{initial-later}
-use Rattle.dm_estanding.specs.declared.links.Links.{Links}
-use Rattle.dm_estanding.specs.declared.standing.Retyped.{Retyped}
-use Rattle.dm_estanding.specs.Kinds.{HaveKinds, WereTypes}
 use Rattle.dm_edeclaration.specs.declared.items.TypedLocal.{TypedLocal}
 use Rattle.dm_edeclaration.specs.declared.items.TypedLocals.{TypedLocals}
 use Rattle.dm_edeclaration.specs.Steps.{local_seen, opened_over, bare_over, LocalFits, typed_over, TypedFits, Together, together_of, joined, items_over, ItemsFit}
@@ -123,7 +119,7 @@ items-push later constants more locals local =
     (expressions-append parts (f local ∷ []) ∙ ap (λ list. expressions_of_locals parts ++ list) (append-nil (f local).expressions))
 
 -- a list behind some
-pub together_behind : Together → List Local → Together
+abbrev pub together_behind : Together → List Local → Together
 together_behind all locals = record {
   constants = all.constants ++ constants_of locals;
   declarators = all.declarators ++ declaring.declarators_of locals;
@@ -131,7 +127,6 @@ together_behind all locals = record {
 }
 
 pub behind-next : (all : Together) (first : Local) (others : List Local) → together_behind (joined all first) others ≡ together_behind all (first ∷ others)
-unfolding together_behind
 behind-next all first others =
     ap (λ list. record { constants = list; declarators = (all.declarators ++ first.declarator ∷ []) ++ declaring.declarators_of others; expressions = (all.expressions ++ first.expressions) ++ expressions_of others })
     (append_assoc all.constants first.constants (constants_of others))
@@ -140,14 +135,11 @@ behind-next all first others =
     ∙ ap (λ list. record { constants = all.constants ++ (first.constants ++ constants_of others); declarators = all.declarators ++ first.declarator ∷ declaring.declarators_of others; expressions = list })
     (append_assoc all.expressions first.expressions (expressions_of others))
 
--- ---- what stands beside what expressions see
-
-module _ (old new : Held) (more : Begins old.types.shapes new.types.shapes) where
-  pub kinds-later : (links : Links) → HaveKinds old.types links → HaveKinds new.types links
-  kinds-later links kinds number whole found = let one = kinds number whole found in let longer = begins-length old.types.shapes new.types.shapes more in omega (arith, one, longer)
-
-  pub were-later : (changes : List Retyped) → WereTypes old.types changes → WereTypes new.types changes
-  were-later changes were k d inside = let one = were k d inside in let longer = begins-length old.types.shapes new.types.shapes more in omega (arith, one, longer)
+pub behind-none : (all : Together) → together_behind all [] ≡ all
+behind-none all =
+    ap (λ list. record { constants = list; declarators = all.declarators ++ []; expressions = all.expressions ++ [] }) (append-nil all.constants)
+    ∙ ap (λ list. record { constants = all.constants; declarators = list; expressions = all.expressions ++ [] }) (append-nil all.declarators)
+    ∙ ap (λ list. record { constants = all.constants; declarators = all.declarators; expressions = list }) (append-nil all.expressions)
 
 pub items-later : (old new : Table) (typed : TypedLocals) → Begins old.shapes new.shapes → ItemsFit old typed → ItemsFit new typed
 items-later old new typed more fit = (trees-later old new typed.constants more fit.0, λ k d inside. local-later old new _ more (fit.1 k d inside))

@@ -10,10 +10,10 @@ use Rattle.dm_type.specs.declared.shape.Shape.{Shape}
 use Rattle.dm_type.specs.CTypes.{CType}
 use Rattle.dm_type.specs.Tables.{Table, IsId}
 use Rattle.dm_syn.specs.Sources.{Source}
-use Rattle.dm_syn.specs.Trees.{Item}
+use Rattle.dm_syn.specs.Trees.{Initialiser, Item}
 use Rattle.dm_syn.specs.Trees as tree
 use Rattle.dm_tree.specs.declared.tree.Local.{Local as LocalHeld}
-use Rattle.dm_tree.specs.Initialisers.{is_object, is_function_sort}
+use Rattle.dm_tree.specs.Initialisers.{is_fixed, is_object, is_function_sort}
 use Rattle.dm_tree.specs.Trees.{Declarator, Tree}
 use Rattle.dm_tree.specs.TypeNumbers.{are_known_in_local}
 use Rattle.dm_tree.specs.Typing.{has_linkage}
@@ -22,11 +22,12 @@ use Rattle.dm_tree.specs.Views.{OpenedLocal, view_of_local, declarators_of, expr
 use Rattle.dm_typing.specs.Fitting.{AreNumbered}
 use Rattle.dm_typing.specs.Known.{Known, Setting}
 use Rattle.dm_typing.specs.Views.{Begins, type_over, view_over, refusal_at}
-use Rattle.dm_edecl.specs.Declaring.{Specified, is_misplaced_static, may_be_object, may_be_main, name_at, Local, item_plain, item_initialised, Declared, constants_of, expressions_of, is_function_entry, is_there}
+use Rattle.dm_edecl.specs.Declaring.{Specified, is_misplaced_static, may_be_object, may_be_main, name_at, Local, object_defined, item_plain, item_initialised, Declared, constants_of, expressions_of, is_function_entry, is_there}
 use Rattle.dm_edecl.specs.Declaring as declaring
+use Rattle.dm_edecl.specs.Initialising.{typed_initialiser}
 use Rattle.dm_edecl.specs.Linkages.{number_linked, entry_of, kind_seen, may_be_declared}
 use Rattle.dm_edecl.specs.Settled.{is_linked}
-use Rattle.dm_edecl.specs.Standing.{Standing, Progress, goes_on, further}
+use Rattle.dm_edecl.specs.Standing.{Standing, Progress, goes_on, further, typing}
 use Rattle.dm_estanding.specs.declared.standing.Standing.{Standing as Held}
 use Rattle.dm_estanding.specs.Proceeding.{IsLawful, Advances}
 use Rattle.dm_estanding.specs.Summaries.{storage_seen, StandsFor}
@@ -89,6 +90,11 @@ pub record ProceedsWhere {A B : Type 0} (P : Standing → Type 0) (Fits : Table 
   pub within : IfOk result (λ it. IsWithin old new)
   pub gives : (later : List Shape) → Begins new.known.types.shapes later → (before : Standing) → StandsFor later old.known old.links before → IsLawful before → P before
       → Advances (view later) source later new before result (progress later before)
+
+-- an object of this type with its initialiser
+abbrev pub object_initialised : Setting → Declaration → ℕ → ℕ → ℕ → Initialiser → Standing → CType → Progress Local
+object_initialised setting entry number here at initialiser standing type =
+    typing standing (typed_initialiser setting (is_fixed entry.sort) standing.known type initialiser) (λ behind initial. object_defined behind entry number here at type initial)
 
 -- ---- declarators with their initialisers
 

@@ -108,7 +108,7 @@ pub fn declarable(
     typer: &Typer<'_>,
     known: &mut Known,
     links: &Links,
-    said: Specification,
+    said: &Specification,
     initialised: bool,
     here: u32,
     name: u32,
@@ -117,7 +117,7 @@ pub fn declarable(
     requires kind { IsId known.old.types entry.now.kind }
     requires kinds { HaveKinds known.old.types links.now }
     ensures gives { (later : List OneShape) → Begins known.new.types.shapes later → (before : standings.Standing) → StandsFor later known.old links.now before → IsLawful before
-        → Permits later (source_of typer.now) result (rule_broken (specified_over later said) before initialised here name (entry_over later entry.now)) before (entry_over later entry.now) }
+        → Permits later (source_of typer.now) result (rule_broken (specified_over later said.now) before initialised here name (entry_over later entry.now)) before (entry_over later entry.now) }
     ensures numbered { IfOk result (IsId known.new.types) }
     ensures grows { Grows known.old known.new }
 {

@@ -1,6 +1,6 @@
 //! Declarations (6.7).
 
-ghost use Rattle.std.specs.Prelude.{◌≡◌, ◌++◌, List as Sequence, IfOk, map, slice_get};
+ghost use Rattle.std.specs.Prelude.{◌≡◌, ◌++◌, ◌||◌, not, List as Sequence, IfOk, map, slice_get};
 ghost use Rattle.dm_type.specs.declared.shape.Shape.{Shape as OneShape};
 ghost use Rattle.dm_type.specs.Tables.{Table};
 ghost use Rattle.dm_syn.specs.Views as syntax;
@@ -12,7 +12,7 @@ ghost use Rattle.dm_edeclaration.specs.Steps.{items_over, ItemsFit, summed, are_
 
 use crate::declarable::is_function_sort;
 use crate::items::{TypedLocals, typed_items};
-use crate::specified::specified;
+use crate::specified::{Specification, specified};
 use dm_edeclarator::places::replace_constants;
 use dm_edeclarator::specifiers::Where;
 use dm_estanding::Standing;
@@ -57,6 +57,16 @@ fn may_be_inline(known: &Known, locals: &[Local]) -> bool
     !locals.is_empty() && are_functions(known, locals)
 }
 
+/// Whether `inline` stands there only if it may.
+fn obeys_inline(known: &Known, said: &Specification, typed: &TypedLocals) -> bool
+    ensures { (later : Sequence OneShape) → result ≡ (not said.now.is_inline || may_be_inline_in (known_over later known.now) typed.now.locals) }
+{
+    if !said.is_inline {
+        return true;
+    }
+    may_be_inline(known, typed.locals.items())
+}
+
 /// The trees of one list in front of those of another.
 fn in_front(constants: List<Core>, typed: TypedLocals) -> Result<TypedLocals, Memory>
     ensures more { IfOk result (λ made. (later : Sequence OneShape) → items_over later made ≡ record (items_over later typed) { constants = map (view_over later) constants ++ map (view_over later) typed.constants }) }
@@ -93,8 +103,8 @@ pub fn typed_declaration(
         specifiers,
     )?;
     let constants = replace_constants(&mut standing.known, List::new(typer.alloc));
-    let typed = typed_items(typer, standing, said, declaration.items.items())?;
-    if said.is_inline && !may_be_inline(&standing.known, typed.locals.items()) {
+    let typed = typed_items(typer, standing, &said, declaration.items.items())?;
+    if !obeys_inline(&standing.known, &said, &typed) {
         return Err(typer.broken(3, said.first));
     }
     let all = in_front(constants, typed)?;

@@ -1,6 +1,6 @@
 //! Objects that are initialised (6.7.9).
 
-ghost use Rattle.std.specs.Prelude.{◌≡◌, ◌||◌, true, List};
+ghost use Rattle.std.specs.Prelude.{◌≡◌, ◌||◌, true, List, unwrap_or};
 ghost use Rattle.dm_type.specs.declared.shape.Shape.{Shape as OneShape};
 ghost use Rattle.dm_type.specs.Tables.{IsId};
 ghost use Rattle.dm_syn.specs.Views as syntax;
@@ -9,11 +9,12 @@ ghost use Rattle.dm_tree.specs.Units.{Declaration};
 ghost use Rattle.dm_typing.specs.Views.{Begins, type_over, known_over, source_of, setting_of};
 ghost use Rattle.dm_edecl.specs.Declaring as declaring;
 ghost use Rattle.dm_edecl.specs.Initialising as initialising;
+ghost use Rattle.dm_edecl.specs.Linkages as linkages;
 ghost use Rattle.dm_edecl.specs.Standing as standings;
 ghost use Rattle.dm_einitial.specs.Steps.{initial_over, InitialFits};
 ghost use Rattle.dm_estanding.specs.Proceeding.{Proceeds};
 ghost use Rattle.dm_estanding.specs.Summaries.{StandsFor};
-ghost use Rattle.dm_edeclaration.specs.Steps.{bare_over, LocalFits, Means, IsNamed, ProceedsWhere};
+ghost use Rattle.dm_edeclaration.specs.Steps.{bare_over, LocalFits, Means, IsNamed, ProceedsWhere, object_initialised};
 
 use crate::declarable::{is_function_sort, is_object};
 use dm_einitial::lengths::completed;
@@ -58,6 +59,19 @@ fn may_be_initialised(known: &Known, object: &Object) -> bool
     is_file_scope(known) || !has_linkage(object.linkage)
 }
 
+/// The type that all declarations of an entry say so far, or else this one.
+fn kind_declared(standing: &Standing, number: u32, kind: TypeId) -> TypeId
+    requires { IsId standing.now.known.types kind }
+    ensures kind { (later : List OneShape) (before : standings.Standing) → StandsFor later standing.now.known standing.now.links before
+        → type_over later result ≡ unwrap_or (linkages.whole_kind number before.linked) (type_over later kind) }
+    ensures numbered { IsId standing.now.known.types result }
+{
+    match standing.links.whole(number) {
+        Some(whole) => whole.kind,
+        None => kind,
+    }
+}
+
 /// Whether it may be defined with a type that is complete: that agrees with all its declarations (6.2.7p2), and it is defined
 /// once (C2, 6.9p3, p5).
 fn may_define(standing: &Standing, number: u32, kind: TypeId) -> bool
@@ -65,10 +79,7 @@ fn may_define(standing: &Standing, number: u32, kind: TypeId) -> bool
     ensures { (later : List OneShape) → Begins standing.now.known.types.shapes later → (before : standings.Standing) → StandsFor later standing.now.known standing.now.links before
         → result ≡ declaring.may_define before number (type_over later kind) }
 {
-    let whole = match standing.links.whole(number) {
-        Some(whole) => whole.kind,
-        None => kind,
-    };
+    let whole = kind_declared(standing, number, kind);
     if !standing.known.types.compatible(whole, kind) {
         return false;
     }
@@ -104,6 +115,24 @@ fn object_defined(
     })
 }
 
+/// An object of this type with its initialiser.
+fn object_initialised(
+    typer: &Typer<'_>,
+    standing: &mut Standing,
+    object: &Object,
+    kind: TypeId,
+    initialiser: &Initialiser,
+) -> Result<Local, Stop>
+    requires { IsId standing.old.known.types kind }
+    ensures { (entry : Declaration) → Means entry object.now → (initialisers.is_function_sort entry.sort || initialisers.is_object entry.sort) ≡ true
+        → ProceedsWhere (IsNamed entry object.now.number) LocalFits bare_over (source_of typer.now) standing.old standing.new result
+        (λ later before. object_initialised (setting_of typer.now) entry object.now.number object.now.here object.now.at (syntax.initialiser initialiser.now) before (type_over later kind)) }
+{
+    let fixed = is_fixed(object.sort);
+    let initial = typed_initialiser(typer, &mut standing.known, fixed, kind, initialiser)?;
+    object_defined(typer, standing, object, kind, initial)
+}
+
 /// What may have no initialiser has one, whose expressions are typed all the same.
 fn misplaced(
     typer: &Typer<'_>,
@@ -135,7 +164,5 @@ pub(crate) fn initialised(
         return misplaced(typer, standing, span, initialiser);
     }
     let whole = completed(typer, &mut standing.known, kind, initialiser)?;
-    let fixed = is_fixed(object.sort);
-    let initial = typed_initialiser(typer, &mut standing.known, fixed, whole, initialiser)?;
-    object_defined(typer, standing, object, whole, initial)
+    object_initialised(typer, standing, object, whole, initialiser)
 }

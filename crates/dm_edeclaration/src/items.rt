@@ -67,14 +67,14 @@ fn defines_object(storage: Storage, sort: Sort) -> bool
 fn item_plain(
     typer: &Typer<'_>,
     standing: &mut Standing,
-    said: Specification,
+    said: &Specification,
     declarator: &Declarator,
     kind: TypeId,
 ) -> Result<Local, Stop>
     requires { IsId standing.old.known.types kind }
     ensures { Proceeds LocalFits bare_over (source_of typer.now) standing.old standing.new result
-        (λ later before. declaring.item_plain (setting_of typer.now) (specified_over later said) before (syntax.declarator declarator.now)
-        (linkages.entry_of (setting_of typer.now) before.known (storage_seen said.storage) (declaring.name_at (syntax.declarator declarator.now)) (type_over later kind))) }
+        (λ later before. declaring.item_plain (setting_of typer.now) (specified_over later said.now) before (syntax.declarator declarator.now)
+        (linkages.entry_of (setting_of typer.now) before.known (storage_seen said.now.storage) (declaring.name_at (syntax.declarator declarator.now)) (type_over later kind))) }
 {
     let here = declarator.span.first;
     let at = name_at(declarator);
@@ -102,7 +102,7 @@ fn item_plain(
 fn item_initialised(
     typer: &Typer<'_>,
     standing: &mut Standing,
-    said: Specification,
+    said: &Specification,
     span: Span,
     declarator: &Declarator,
     kind: TypeId,
@@ -110,8 +110,8 @@ fn item_initialised(
 ) -> Result<Local, Stop>
     requires { IsId standing.old.known.types kind }
     ensures { Proceeds LocalFits bare_over (source_of typer.now) standing.old standing.new result
-        (λ later before. declaring.item_initialised (setting_of typer.now) (specified_over later said) before span (syntax.declarator declarator.now) (syntax.initialiser initialiser.now)
-        (linkages.entry_of (setting_of typer.now) before.known (storage_seen said.storage) (declaring.name_at (syntax.declarator declarator.now)) (type_over later kind))) }
+        (λ later before. declaring.item_initialised (setting_of typer.now) (specified_over later said.now) before span (syntax.declarator declarator.now) (syntax.initialiser initialiser.now)
+        (linkages.entry_of (setting_of typer.now) before.known (storage_seen said.now.storage) (declaring.name_at (syntax.declarator declarator.now)) (type_over later kind))) }
 {
     let here = declarator.span.first;
     let at = name_at(declarator);
@@ -145,13 +145,13 @@ fn item_initialised(
 fn item_of(
     typer: &Typer<'_>,
     standing: &mut Standing,
-    said: Specification,
+    said: &Specification,
     item: &InitDeclarator,
     kind: TypeId,
 ) -> Result<Local, Stop>
     requires { IsId standing.old.known.types kind }
     ensures { Proceeds LocalFits bare_over (source_of typer.now) standing.old standing.new result
-        (λ later before. item_of (setting_of typer.now) (specified_over later said) before (type_over later kind) (syntax.item item.now)) }
+        (λ later before. item_of (setting_of typer.now) (specified_over later said.now) before (type_over later kind) (syntax.item item.now)) }
 {
     match &item.initialiser {
         Some(initialiser) => {
@@ -173,12 +173,12 @@ fn item_of(
 fn typed_item(
     typer: &Typer<'_>,
     standing: &mut Standing,
-    said: Specification,
+    said: &Specification,
     item: &InitDeclarator,
 ) -> Result<TypedLocal, Stop>
-    requires { SpecifiedFits standing.old.known.types said }
+    requires { SpecifiedFits standing.old.known.types said.now }
     ensures { Proceeds TypedFits typed_over (source_of typer.now) standing.old standing.new result
-        (λ later before. declaring.typed_item (setting_of typer.now) (specified_over later said) before (syntax.item item.now)) }
+        (λ later before. declaring.typed_item (setting_of typer.now) (specified_over later said.now) before (syntax.item item.now)) }
 {
     let declarator = &item.declarator;
     let kind = declared_type(typer, &mut standing.known, true, said.kind, declarator)?;
@@ -191,12 +191,12 @@ fn typed_item(
 pub(crate) fn typed_items(
     typer: &Typer<'_>,
     standing: &mut Standing,
-    said: Specification,
+    said: &Specification,
     items: &[InitDeclarator],
 ) -> Result<TypedLocals, Stop>
-    requires { SpecifiedFits standing.old.known.types said }
+    requires { SpecifiedFits standing.old.known.types said.now }
     ensures { Proceeds ItemsFit items_over (source_of typer.now) standing.old standing.new result
-        (λ later before. together (declaring.typed_items (setting_of typer.now) (specified_over later said) before (map syntax.item items.now))) }
+        (λ later before. together (declaring.typed_items (setting_of typer.now) (specified_over later said.now) before (map syntax.item items.now))) }
 {
     let mut all = TypedLocals {
         constants: List::new(typer.alloc),

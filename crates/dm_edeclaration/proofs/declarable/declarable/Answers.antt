@@ -15,15 +15,15 @@ use Rattle.dm_edeclaration.proofs.declarable.declarable.Goals as goal
 
 pub returns-then-is_misplaced_static-clause-gives : goal.returns-then-is_misplaced_static-clause-gives
 returns-then-is_misplaced_static-clause-gives c = λ later on before stands lawful.
-    let said = specified_over later c.args.said in
+    let said = specified_over later c.args.said.now in
     let entry = entry_over later c.args.entry.now in
     let a = ap (λ (it : Known). is_misplaced_static it said.storage entry.sort) stands.known ∙ sym (c.is_misplaced_static.ensures later) ∙ c.if-is_misplaced_static.true in
     subst (λ fault. Permits later (source_of c.args.typer.now) (Err fault) (rule_broken said before c.args.initialised c.args.here c.args.name entry) before entry) (sym c.broken.ensures)
-    (3, c.args.said.first, third-rule said before c.args.initialised c.args.here c.args.name entry a, refl)
+    (3, c.args.said.now.first, third-rule said before c.args.initialised c.args.here c.args.name entry a, refl)
 
 pub returns-then-not-may_be_declared-clause-gives : goal.returns-then-not-may_be_declared-clause-gives
 returns-then-not-may_be_declared-clause-gives c = λ later on before stands lawful.
-    let said = specified_over later c.args.said in
+    let said = specified_over later c.args.said.now in
     let entry = entry_over later c.args.entry.now in
     let a = ap (λ (it : Known). is_misplaced_static it said.storage entry.sort) stands.known ∙ sym (c.is_misplaced_static.ensures later) ∙ c.if-is_misplaced_static.false in
     let b = sym (c.may_be_declared.ensures later on before stands) ∙ c.if-not-may_be_declared.true in
@@ -33,7 +33,7 @@ returns-then-not-may_be_declared-clause-gives c = λ later on before stands lawf
 
 pub returns-then-not-may_be_object-clause-gives : goal.returns-then-not-may_be_object-clause-gives
 returns-then-not-may_be_object-clause-gives c = λ later on before stands lawful.
-    let said = specified_over later c.args.said in
+    let said = specified_over later c.args.said.now in
     let entry = entry_over later c.args.entry.now in
     let old = c.args.known.now in
     let new = c.kind_seen.new.known in
@@ -50,7 +50,7 @@ returns-then-not-may_be_object-clause-gives c = λ later on before stands lawful
 
 pub returns-then-not-may-clause-gives : goal.returns-then-not-may-clause-gives
 returns-then-not-may-clause-gives c = λ later on before stands lawful.
-    let said = specified_over later c.args.said in
+    let said = specified_over later c.args.said.now in
     let entry = entry_over later c.args.entry.now in
     let old = c.args.known.now in
     let mid = c.kind_seen.new.known in
@@ -70,7 +70,7 @@ returns-then-not-may-clause-gives c = λ later on before stands lawful.
 
 pub returns-clause-gives : goal.returns-clause-gives
 returns-clause-gives c = λ later on before stands lawful.
-    let said = specified_over later c.args.said in
+    let said = specified_over later c.args.said.now in
     let entry = entry_over later c.args.entry.now in
     let old = c.args.known.now in
     let mid = c.kind_seen.new.known in

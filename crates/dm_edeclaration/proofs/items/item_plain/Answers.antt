@@ -24,15 +24,15 @@ returns-in_err-seen c =
     let entry = c.in_ok-entry.entry in
     let here-is = sym (ap (λ (span : Span). span.first) (span-declarator c.args.declarator.now)) in
     relays LocalFits bare_over (source_of c.args.typer.now) now _
-    (λ later before. item_plain setting (specified_over later c.args.said) before d (own-entry setting now c.args.said d c.args.kind here at entry here-is c.name_at-at.ensures c.in_ok-entry.ensures.entry later before))
+    (λ later before. item_plain setting (specified_over later c.args.said.now) before d (own-entry setting now c.args.said.now d c.args.kind here at entry here-is c.name_at-at.ensures c.in_ok-entry.ensures.entry later before))
     c.from_residual-in_err-seen.result c.in_err-seen.field-0.0 c.from_residual-in_err-seen.ensures.1
     (permits-fails LocalFits bare_over (source_of c.args.typer.now) now _
-    (λ later before. item_plain setting (specified_over later c.args.said) before d (own-entry setting now c.args.said d c.args.kind here at entry here-is c.name_at-at.ensures c.in_ok-entry.ensures.entry later before))
-    (λ later before. rule_broken (specified_over later c.args.said) before false here at (entry_over later entry))
-    (plain-next setting now c.args.said d c.args.kind here at entry here-is c.name_at-at.ensures c.in_ok-entry.ensures.entry)
+    (λ later before. item_plain setting (specified_over later c.args.said.now) before d (own-entry setting now c.args.said.now d c.args.kind here at entry here-is c.name_at-at.ensures c.in_ok-entry.ensures.entry later before))
+    (λ later before. rule_broken (specified_over later c.args.said.now) before false here at (entry_over later entry))
+    (plain-next setting now c.args.said.now d c.args.kind here at entry here-is c.name_at-at.ensures c.in_ok-entry.ensures.entry)
     (λ later. entry_over later entry) c.in_err-seen.field-0.0 c.declarable.ensures.grows.shapes
     (λ later on before stands lawful. c.in_err-seen.ensures.gives later on before stands lawful)
-    (λ later on before stands. plain-by setting now c.args.said d c.args.kind here at entry here-is c.name_at-at.ensures c.in_ok-entry.ensures.entry later
+    (λ later on before stands. plain-by setting now c.args.said.now d c.args.kind here at entry here-is c.name_at-at.ensures c.in_ok-entry.ensures.entry later
     (begins-on now.known.types.shapes c.declarable.new.known.types.shapes later c.declarable.ensures.grows.shapes on) before stands))
 
 pub returns : goal.returns
@@ -41,7 +41,7 @@ returns c =
     let now = c.args.standing.now in
     let d = syntax.declarator c.args.declarator.now in
     let here-is = sym (ap (λ (span : Span). span.first) (span-declarator c.args.declarator.now)) in
-    plain-made setting now c.args.said d c.args.kind c.args.declarator.now.span.first c.name_at-at.result c.in_ok-entry.entry here-is c.name_at-at.ensures c.in_ok-entry.ensures.entry
+    plain-made setting now c.args.said.now d c.args.kind c.args.declarator.now.span.first c.name_at-at.result c.in_ok-entry.entry here-is c.name_at-at.ensures c.in_ok-entry.ensures.entry
     _ c.declared_here.new.self c.declarable.ensures.grows refl refl c.in_ok-seen.seen c.in_ok-number.number
     c.in_ok-number.ensures.known c.in_ok-number.ensures.number c.in_ok-number.ensures.within
     (source_of c.args.typer.now) c.defines_object-defines.result c.defines_object-defines.ensures

@@ -1,0 +1,209 @@
+-- Declarators one after another, and declarations.
+use Rattle.std.specs.Prelude.{◌≡◌, ℕ, Bool, true, false, ◌&&◌, ◌||◌, not, ◌==◌, List, [], ◌∷◌, ◌++◌, length, map, drop, Option, Some, None, slice_get, Result, Ok, Err, refl}
+use Rattle.std.proofs.Common.{sym, ap, ap₂, ◌∙◌, subst}
+use Rattle.std.proofs.lemmas.List.{map-append}
+use Rattle.std.proofs.lemmas.List.Elements.{All-append}
+use Rattle.dm_token.specs.declared.place.Span.{Span}
+use Rattle.dm_token.specs.declared.stop.Stop.{Stop}
+use Rattle.dm_type.specs.declared.shape.Shape.{Shape}
+use Rattle.dm_type.specs.CTypes.{CType}
+use Rattle.dm_type.specs.Tables.{Table, IsId}
+use Rattle.dm_syn.specs.Sources.{Source}
+use Rattle.dm_syn.specs.Trees.{Declarator, Specifiers, Item}
+use Rattle.dm_syn.specs.Trees as tree
+use Rattle.dm_syn.specs.Views as syntax
+use Rattle.dm_syn.specs.declared.declaration.InitDeclarator.{InitDeclarator}
+use Rattle.dm_syn.specs.declared.declaration.Initialiser.{Initialiser as InitialiserHeld}
+use Rattle.dm_tree.specs.declared.tree.Core.{Core}
+use Rattle.dm_tree.specs.declared.tree.Local.{Local as LocalHeld}
+use Rattle.dm_tree.specs.Trees.{Tree}
+use Rattle.dm_tree.specs.Trees as label
+use Rattle.dm_tree.specs.Views.{declarators_of as declarators_opened}
+use Rattle.dm_typing.specs.declared.known.Known.{Known as Known-held}
+use Rattle.dm_typing.specs.Fitting.{AreNumbered}
+use Rattle.dm_typing.specs.Known.{Known, Setting, Outcome, given, broken}
+use Rattle.dm_typing.specs.Specifiers.{Where, of_declaration}
+use Rattle.dm_typing.specs.Views.{Begins, type_over, view_over, known_over}
+use Rattle.dm_typing.proofs.LaterLemmas.{trees-later}
+use Rattle.dm_edeclarator.specs.Steps.{SameBesideConstants, Follows}
+use Rattle.dm_edecl.specs.Standing.{Standing, Progress, goes_on, stops, further, knowing, collecting, keeps}
+use Rattle.dm_edecl.specs.Declaring.{Specified, specified, is_alone, typed_declarator, Local, with_lengths, typed_item, typed_items, Declared, declarators_of, constants_of, expressions_of, is_function_entry, are_functions, is_there, may_be_inline, declared_by, typed_declaration}
+use Rattle.dm_estanding.specs.declared.standing.Standing.{Standing as Held}
+use Rattle.dm_estanding.specs.Proceeding.{IsLawful, Proceeds}
+use Rattle.dm_estanding.specs.Summaries.{StandsFor}
+use Rattle.dm_estanding.proofs.ProceedingLemmas.{Arrives, starts, restated, passes, done, collects, collect-fails}
+use Rattle.dm_edeclaration.specs.declared.items.TypedLocal.{TypedLocal}
+use Rattle.dm_edeclaration.specs.declared.items.TypedLocals.{TypedLocals}
+use Rattle.dm_edeclaration.specs.declared.specified.Specification.{Specification}
+use Rattle.dm_edeclaration.specs.Steps.{specified_over, SpecifiedFits, opened_over, bare_over, LocalFits, typed_over, TypedFits, item_of, Together, together_of, together, joined, items_over, ItemsFit, sum_of, summed, are_functions_in, may_be_inline_in}
+use Rattle.dm_edeclaration.proofs.StepLemmas.{specified-keeps, declarator-keeps, opened-number, together_behind, behind-next, behind-none}
+
+-- ---- a declarator with its initialiser
+
+abbrev declarator_in : Item → Declarator
+declarator_in (tree.plain span declarator) = declarator
+declarator_in (tree.initialised span declarator initialiser) = declarator
+
+declarator-seen : (node : InitDeclarator) → declarator_in (syntax.item node) ≡ syntax.declarator node.declarator
+declarator-seen node = go node.initialiser
+  where
+    go : (found : Option InitialiserHeld) → declarator_in (syntax.item_view node.span (syntax.declarator node.declarator) found) ≡ syntax.declarator node.declarator
+    go None = refl
+    go (Some one) = refl
+
+abbrev pub with-item : Setting → Specified → Item → Standing → List Tree → CType → Progress Local
+with-item setting said item standing constants kind = further (item_of setting said standing kind item) (λ behind local. goes_on behind (with_lengths constants local))
+
+item-split : (setting : Setting) (said : Specified) (s : Standing) (item : Item) → typed_item setting said s item
+    ≡ collecting s (typed_declarator setting s.known said.kind (declarator_in item)) (with-item setting said item)
+item-split setting said s (tree.plain span declarator) = refl
+item-split setting said s (tree.initialised span declarator initialiser) = refl
+
+module _ (setting : Setting) (source : Source) (said : Specification) (node : InitDeclarator) (now : Held) where
+  abbrev pub item-whole : List Shape → Standing → Progress Local
+  item-whole later before = typed_item setting (specified_over later said) before (syntax.item node)
+
+  abbrev pub item-type : List Shape → Known → Outcome CType
+  item-type later known = typed_declarator setting known (type_over later said.kind) (syntax.declarator node.declarator)
+
+  abbrev pub item-next : List Shape → Standing → List Tree → CType → Progress Local
+  item-next later = with-item setting (specified_over later said) (syntax.item node)
+
+  pub item-starts : Arrives now now item-whole (λ later behind. collecting behind (item-type later behind.known) (item-next later))
+  item-starts =
+      starts now item-whole (λ later behind. collecting behind (item-type later behind.known) (item-next later))
+      (λ later before stands lawful.
+      item-split setting (specified_over later said) before (syntax.item node)
+      ∙ ap (λ declarator. collecting before (typed_declarator setting before.known (type_over later said.kind) declarator) (item-next later)) (declarator-seen node))
+
+  pub item-untyped : (new : Held) (fault : Stop) → Follows IsId type_over source now.known new.known (Err fault) (λ later. item-type later (known_over later now.known))
+      → Proceeds TypedFits typed_over source now new (Err fault) item-whole
+  item-untyped new fault f = collect-fails IsId type_over source now now new item-whole item-type item-next item-starts TypedFits typed_over fault f
+
+  module _ (typed : Known-held) (mid : Held) (kind : ℕ) (constants : List Core) (f : Follows IsId type_over source now.known typed (Ok kind) (λ later. item-type later (known_over later now.known)))
+      (same : SameBesideConstants typed mid.known) (none : mid.known.constants ≡ []) (taken : constants ≡ typed.constants) (links : mid.links ≡ now.links)
+      (retyped : mid.retyped.items ≡ now.retyped.items) where
+    abbrev pub item-rest : List Shape → Standing → Progress Local
+    item-rest later behind = item_of setting (specified_over later said) behind (type_over later kind) (syntax.item node)
+
+    abbrev pub item-ends : List Shape → Standing → Local → Progress Local
+    item-ends later behind local = goes_on behind (with_lengths (map (view_over later) constants) local)
+
+    pub item-collected : Arrives now mid item-whole (λ later behind. further (item-rest later behind) (item-ends later))
+    item-collected =
+        collects IsId type_over source now now mid item-whole item-type item-next item-starts kind typed constants f same none taken links retyped
+        (λ later known. declarator-keeps setting known (type_over later said.kind) (syntax.declarator node.declarator))
+
+    pub item-made : (new : Held) (local : LocalHeld) → Proceeds LocalFits bare_over source mid new (Ok local) item-rest
+        → Proceeds TypedFits typed_over source now new (Ok (record { constants = constants; local = local })) item-whole
+    item-made new local p =
+        done TypedFits typed_over source now new item-whole (record { constants = constants; local = local })
+        (passes LocalFits bare_over source now mid new item-whole item-rest item-ends local item-collected p)
+        (trees-later mid.known.types new.known.types constants p.shapes
+        (subst (λ (types : Table). AreNumbered types constants) (sym same.types) (subst (AreNumbered typed.types) (sym taken) typed.trees)), p.numbered)
+
+-- ---- declarators one after another
+
+-- the rest of them, behind some
+abbrev pub rest_items : Setting → Specified → Together → List Item → Standing → Progress Together
+rest_items setting said all items standing = further (typed_items setting said standing items) (λ behind more. goes_on behind (together_behind all more))
+
+pub items-start : (setting : Setting) (said : Specified) (items : List Item) (s : Standing)
+    → together (typed_items setting said s items) ≡ rest_items setting said (record { constants = []; declarators = []; expressions = [] }) items s
+items-start setting said items s = refl
+
+items-more : (all : Together) (one : Progress Local) (rest : Standing → Progress (List Local))
+    → further (further one (λ then_standing made. further (rest then_standing) (λ behind more. goes_on behind (made ∷ more)))) (λ behind more. goes_on behind (together_behind all more))
+    ≡ further one (λ then_standing made. further (rest then_standing) (λ behind more. goes_on behind (together_behind (joined all made) more)))
+items-more all (stops rule at) rest = refl
+items-more all (goes_on then_standing made) rest = go (rest then_standing)
+  where
+    go : (progress : Progress (List Local)) → further (further progress (λ behind more. goes_on behind (made ∷ more))) (λ behind more. goes_on behind (together_behind all more))
+        ≡ further progress (λ behind more. goes_on behind (together_behind (joined all made) more))
+    go (goes_on behind more) = ap (goes_on behind) (sym (behind-next all made more))
+    go (stops rule at) = refl
+
+pub items-next : (setting : Setting) (said : Specified) (all : Together) (first : Item) (others : List Item) (s : Standing)
+    → rest_items setting said all (first ∷ others) s ≡ further (typed_item setting said s first) (λ behind made. rest_items setting said (joined all made) others behind)
+items-next setting said all first others s = items-more all (typed_item setting said s first) (λ then_standing. typed_items setting said then_standing others)
+
+pub items-end : (setting : Setting) (said : Specified) (all : Together) (s : Standing) → rest_items setting said all [] s ≡ goes_on s all
+items-end setting said all s = ap (goes_on s) (behind-none all)
+
+-- ---- declarations
+
+pub alone-by : (specifiers : Specifiers) (words : List tree.Specifier) (items : List Item) (span : Span) → specifiers ≡ tree.listed span (syntax.words words)
+    → is_alone specifiers items ≡ (length items == 0 && length words == 1)
+alone-by specifiers words items span same = ap (λ it. is_alone it items) same ∙ go words items
+  where
+    go : (words : List tree.Specifier) (items : List Item) → is_alone (tree.listed span (syntax.words words)) items ≡ (length items == 0 && length words == 1)
+    go [] [] = refl
+    go (first ∷ []) [] = refl
+    go (first ∷ second ∷ others) [] = refl
+    go words (item ∷ items) = refl
+
+-- whether all declarators declare functions
+abbrev pub are_functions_among : Known → List label.Declarator → Bool
+are_functions_among known [] = true
+are_functions_among known (first ∷ others) = is_function_entry (slice_get known.declared first.declared) && are_functions_among known others
+
+abbrev pub may_be_inline_among : Known → List label.Declarator → Bool
+may_be_inline_among known declarators = is_there declarators && are_functions_among known declarators
+
+functions-of : (known : Known) (locals : List Local) → are_functions known locals ≡ are_functions_among known (declarators_of locals)
+functions-of known [] = refl
+functions-of known (first ∷ others) = ap (λ rest. is_function_entry (slice_get known.declared first.declarator.declared) && rest) (functions-of known others)
+
+inline-of : (known : Known) (locals : List Local) → may_be_inline known locals ≡ may_be_inline_among known (declarators_of locals)
+inline-of known [] = refl
+inline-of known (first ∷ others) = functions-of known (first ∷ others)
+
+functions-in : (later : List Shape) (known : Known) (locals : List LocalHeld) → are_functions_in known locals ≡ are_functions_among known (declarators_opened (map (opened_over later) locals))
+functions-in later known [] = refl
+functions-in later known (first ∷ others) =
+    ap₂ (λ n rest. is_function_entry (slice_get known.declared n) && rest) (sym (opened-number later first)) (functions-in later known others)
+
+pub inline-in : (later : List Shape) (known : Known) (locals : List LocalHeld) → may_be_inline_in known locals ≡ may_be_inline_among known (declarators_opened (map (opened_over later) locals))
+inline-in later known [] = refl
+inline-in later known (first ∷ others) = functions-in later known (first ∷ others)
+
+-- what a declaration declares, by its declarators together
+abbrev pub declared_all : List Tree → Specified → Standing → Together → Progress Together
+declared_all constants said standing all =
+    keeps (not said.inline || may_be_inline_among standing.known all.declarators) 3 said.first
+    (goes_on standing (record { constants = constants ++ all.constants; declarators = all.declarators; expressions = all.expressions }))
+
+declared-sum : (constants : List Tree) (said : Specified) (s : Standing) (locals : List Local) → summed (declared_by constants said s locals) ≡ declared_all constants said s (together_of locals)
+declared-sum constants said s locals =
+    go (not said.inline || may_be_inline s.known locals)
+    ∙ ap (λ test. keeps (not said.inline || test) 3 said.first (goes_on s (record { constants = constants ++ constants_of locals; declarators = declarators_of locals; expressions = expressions_of locals })))
+    (inline-of s.known locals)
+  where
+    go : (test : Bool) → summed (keeps test 3 said.first (goes_on s (record { constants = constants ++ constants_of locals; locals = locals })))
+        ≡ keeps test 3 said.first (goes_on s (record { constants = constants ++ constants_of locals; declarators = declarators_of locals; expressions = expressions_of locals }))
+    go true = refl
+    go false = refl
+
+abbrev pub declaration-next : Setting → List Item → Standing → List Tree → Specified → Progress Together
+declaration-next setting items standing constants said = further (together (typed_items setting said standing items)) (declared_all constants said)
+
+sum-items : (constants : List Tree) (said : Specified) (progress : Progress (List Local))
+    → summed (further progress (λ behind locals. declared_by constants said behind locals)) ≡ further (together progress) (declared_all constants said)
+sum-items constants said (goes_on behind locals) = declared-sum constants said behind locals
+sum-items constants said (stops rule at) = refl
+
+sum-collected : (setting : Setting) (items : List Item) (s : Standing) (outcome : Outcome Specified)
+    → summed (collecting s outcome (λ behind constants said. further (typed_items setting said behind items) (λ last locals. declared_by constants said last locals)))
+    ≡ collecting s outcome (declaration-next setting items)
+sum-collected setting items s outcome = go outcome
+  where
+    go : (outcome : Outcome Specified)
+        → summed (collecting s outcome (λ behind constants said. further (typed_items setting said behind items) (λ last locals. declared_by constants said last locals)))
+        ≡ collecting s outcome (declaration-next setting items)
+    go (given known said) = sum-items known.constants said (typed_items setting said (knowing s known) items)
+    go (broken rule at) = refl
+
+pub declaration-split : (setting : Setting) (s : Standing) (span : Span) (specifiers : Specifiers) (items : List Item)
+    → summed (typed_declaration setting s (tree.declaring span specifiers items))
+    ≡ collecting s (specified setting of_declaration (is_alone specifiers items) s.known specifiers) (declaration-next setting items)
+declaration-split setting s span specifiers items = sum-collected setting items s (specified setting of_declaration (is_alone specifiers items) s.known specifiers)
