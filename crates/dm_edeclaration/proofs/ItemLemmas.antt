@@ -275,40 +275,7 @@ starts-by false false other h = absurd (cc)
 
 -- ---- the initialiser
 
-module _ (setting : Setting) (source : Source) (entry : Declaration) (number : ℕ) (span : Span) (here at : ℕ) (one : Initialiser) where
-  either-left : Standing → CType → Bool → Progress Local
-  either-left s type test =
-      if test then object_initialised setting entry number here at one s (completed setting type one)
-      else typing s (expressions_alone setting s.known one) (λ behind trees. stops 9 span.first)
-
-  pub alone-left : (s : Standing) (type : CType) → may_be_initialised s.known entry ≡ false
-      → initialised setting s entry number span here at type one ≡ typing s (expressions_alone setting s.known one) (λ behind trees. stops 9 span.first)
-  unfolding either-left
-  alone-left s type may = ap (either-left s type) may
-
-  may-left : (s : Standing) (type : CType) → may_be_initialised s.known entry ≡ true
-      → initialised setting s entry number span here at type one ≡ object_initialised setting entry number here at one s (completed setting type one)
-  unfolding either-left
-  may-left s type may = ap (either-left s type) may
-
-  -- the initialiser completes the type
-  pub completed-made : (P : Standing → Type 0) (now mid last : Held) (type whole : ℕ) (result : Result LocalHeld Stop)
-      → ((later : List Shape) (s : Standing) → StandsFor later now.known now.links s → may_be_initialised s.known entry ≡ true)
-      → Grows now.known mid.known → mid.links ≡ now.links → mid.retyped.items ≡ now.retyped.items
-      → ((later : List Shape) → Begins mid.known.types.shapes later → type_over later whole ≡ completed setting (type_over later type) one)
-      → ProceedsWhere P LocalFits bare_over source mid last result (λ later s. object_initialised setting entry number here at one s (type_over later whole))
-      → ProceedsWhere P LocalFits bare_over source now last result (λ later s. initialised setting s entry number span here at (type_over later type) one)
-  completed-made P now mid last type whole result may grows links retyped whole-is rest = record {
-    shapes = begins-on now.known.types.shapes mid.known.types.shapes last.known.types.shapes grows.shapes rest.shapes;
-    numbered = rest.numbered;
-    within = if-ok (λ it. IsWithin mid last) (λ it. IsWithin now last) result (λ it within. within-on now mid last (within-grown now now mid (within-itself now) grows retyped) within) rest.within;
-    gives = λ later on s stands lawful holds.
-        let then_on = begins-on mid.known.types.shapes last.known.types.shapes later rest.shapes on in
-        subst (Advances (bare_over later) source later last s result)
-        (sym (may-left s (type_over later type) (may later s stands) ∙ ap (object_initialised setting entry number here at one s) (sym (whole-is later then_on))))
-        (rest.gives later on s (stands-grown later now.known mid.known now.links mid.links s grows links stands) lawful holds);
-  }
-
+module _ (setting : Setting) (source : Source) (entry : Declaration) (number here at : ℕ) (one : Initialiser) where
   module _ (now typed : Held) (type : ℕ) (links : typed.links ≡ now.links) (retyped : typed.retyped.items ≡ now.retyped.items) where
     abbrev object-whole : List Shape → Standing → Progress Local
     object-whole later s = object_initialised setting entry number here at one s (type_over later type)
@@ -367,6 +334,40 @@ module _ (setting : Setting) (source : Source) (entry : Declaration) (number : �
           (advances-on (bare_over later) source later typed last s (knowing s k) result (object_defined (knowing s k) entry number here at (type_over later type) (initial_over later initial)) reached
           (rest.gives later on (knowing s k) reached.stands reached.lawful (named-still s k adds lawful entry number named)));
     }
+
+module _ (setting : Setting) (source : Source) (entry : Declaration) (number : ℕ) (span : Span) (here at : ℕ) (one : Initialiser) where
+  either-left : Standing → CType → Bool → Progress Local
+  either-left s type test =
+      if test then object_initialised setting entry number here at one s (completed setting type one)
+      else typing s (expressions_alone setting s.known one) (λ behind trees. stops 9 span.first)
+
+  pub alone-left : (s : Standing) (type : CType) → may_be_initialised s.known entry ≡ false
+      → initialised setting s entry number span here at type one ≡ typing s (expressions_alone setting s.known one) (λ behind trees. stops 9 span.first)
+  unfolding either-left
+  alone-left s type may = ap (either-left s type) may
+
+  may-left : (s : Standing) (type : CType) → may_be_initialised s.known entry ≡ true
+      → initialised setting s entry number span here at type one ≡ object_initialised setting entry number here at one s (completed setting type one)
+  unfolding either-left
+  may-left s type may = ap (either-left s type) may
+
+  -- the initialiser completes the type
+  pub completed-made : (P : Standing → Type 0) (now mid last : Held) (type whole : ℕ) (result : Result LocalHeld Stop)
+      → ((later : List Shape) (s : Standing) → StandsFor later now.known now.links s → may_be_initialised s.known entry ≡ true)
+      → Grows now.known mid.known → mid.links ≡ now.links → mid.retyped.items ≡ now.retyped.items
+      → ((later : List Shape) → Begins mid.known.types.shapes later → type_over later whole ≡ completed setting (type_over later type) one)
+      → ProceedsWhere P LocalFits bare_over source mid last result (λ later s. object_initialised setting entry number here at one s (type_over later whole))
+      → ProceedsWhere P LocalFits bare_over source now last result (λ later s. initialised setting s entry number span here at (type_over later type) one)
+  completed-made P now mid last type whole result may grows links retyped whole-is rest = record {
+    shapes = begins-on now.known.types.shapes mid.known.types.shapes last.known.types.shapes grows.shapes rest.shapes;
+    numbered = rest.numbered;
+    within = if-ok (λ it. IsWithin mid last) (λ it. IsWithin now last) result (λ it within. within-on now mid last (within-grown now now mid (within-itself now) grows retyped) within) rest.within;
+    gives = λ later on s stands lawful holds.
+        let then_on = begins-on mid.known.types.shapes last.known.types.shapes later rest.shapes on in
+        subst (Advances (bare_over later) source later last s result)
+        (sym (may-left s (type_over later type) (may later s stands) ∙ ap (object_initialised setting entry number here at one s) (sym (whole-is later then_on))))
+        (rest.gives later on s (stands-grown later now.known mid.known now.links mid.links s grows links stands) lawful holds);
+  }
 
 -- ---- the object
 

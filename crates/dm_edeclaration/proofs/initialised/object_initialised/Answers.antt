@@ -21,7 +21,7 @@ returns-in_err-initial c = λ entry means starts.
     where-relays (IsNamed entry object.number) LocalFits bare_over source now _
     (λ later s. object_initialised setting entry object.number object.here object.at one s (type_over later c.args.kind))
     c.from_residual.result c.in_err-initial.field-0.0 c.from_residual.ensures.1
-    (initial-fails setting source entry object.number (record { first = 0; after = 0 }) object.here object.at one now _ c.args.kind refl refl (IsNamed entry object.number) c.in_err-initial.field-0.0
+    (initial-fails setting source entry object.number object.here object.at one now _ c.args.kind refl refl (IsNamed entry object.number) c.in_err-initial.field-0.0
     (subst (λ fixed. Follows InitialFits initial_over source now.known c.typed_initialiser.new.known (Err c.in_err-initial.field-0.0)
     (λ later. typed_initialiser setting fixed (known_over later now.known) (type_over later c.args.kind) one)) (c.is_fixed-fixed.ensures ∙ ap is_fixed (sym means.1)) c.in_err-initial.ensures))
 
@@ -32,7 +32,7 @@ returns c = λ entry means starts.
     let now = c.args.standing.now in
     let object = c.args.object.now in
     let one = syntax.initialiser c.args.initialiser.now in
-    initial-made setting source entry object.number (record { first = 0; after = 0 }) object.here object.at one now _ c.args.kind refl refl c.in_ok-initial.initial c.object_defined.new.standing c.object_defined.result
+    initial-made setting source entry object.number object.here object.at one now _ c.args.kind refl refl c.in_ok-initial.initial c.object_defined.new.standing c.object_defined.result
     (subst (λ fixed. Follows InitialFits initial_over source now.known c.typed_initialiser.new.known (Ok c.in_ok-initial.initial)
     (λ later. typed_initialiser setting fixed (known_over later now.known) (type_over later c.args.kind) one)) (c.is_fixed-fixed.ensures ∙ ap is_fixed (sym means.1)) c.in_ok-initial.ensures)
     (c.object_defined.ensures entry means starts)

@@ -1,0 +1,50 @@
+-- The entry may be declared, and its object initialised.
+use Rattle.std.specs.Prelude.{◌≡◌, true, refl}
+use Rattle.std.proofs.Common.{sym, ap}
+use Rattle.dm_token.specs.declared.place.Span.{Span}
+use Rattle.dm_syn.specs.Views as syntax
+use Rattle.dm_typing.specs.Views.{type_over, source_of, setting_of}
+use Rattle.dm_typing.proofs.LaterLemmas.{begins-on}
+use Rattle.dm_edecl.specs.Declaring.{item_initialised}
+use Rattle.dm_edeclarator.proofs.DeclaratorStepLemmas.{span-declarator}
+use Rattle.dm_estanding.specs.Summaries.{entry_over}
+use Rattle.dm_estanding.proofs.ProceedingLemmas.{relays}
+use Rattle.dm_edeclaration.specs.Steps.{specified_over, rule_broken, bare_over, LocalFits}
+use Rattle.dm_edeclaration.proofs.ItemLemmas.{permits-fails, own-entry, initialised-by, initialised-next, initialised-made}
+use Rattle.dm_edeclaration.proofs.items.item_initialised.Goals as goal
+
+pub returns-in_err-seen : goal.returns-in_err-seen
+returns-in_err-seen c =
+    let setting = setting_of c.args.typer.now in
+    let now = c.args.standing.now in
+    let d = syntax.declarator c.args.declarator.now in
+    let one = syntax.initialiser c.args.initialiser.now in
+    let here = c.args.declarator.now.span.first in
+    let at = c.name_at-at.result in
+    let entry = c.in_ok-entry.entry in
+    let here-is = sym (ap (λ (span : Span). span.first) (span-declarator c.args.declarator.now)) in
+    relays LocalFits bare_over (source_of c.args.typer.now) now _
+    (λ later before. item_initialised setting (specified_over later c.args.said.now) before c.args.span d one (own-entry setting now c.args.said.now d c.args.kind here at entry here-is c.name_at-at.ensures c.in_ok-entry.ensures.entry later before))
+    c.from_residual-in_err-seen.result c.in_err-seen.field-0.0 c.from_residual-in_err-seen.ensures.1
+    (permits-fails LocalFits bare_over (source_of c.args.typer.now) now _
+    (λ later before. item_initialised setting (specified_over later c.args.said.now) before c.args.span d one (own-entry setting now c.args.said.now d c.args.kind here at entry here-is c.name_at-at.ensures c.in_ok-entry.ensures.entry later before))
+    (λ later before. rule_broken (specified_over later c.args.said.now) before true here at (entry_over later entry))
+    (initialised-next setting now c.args.said.now d c.args.kind here at entry here-is c.name_at-at.ensures c.in_ok-entry.ensures.entry c.args.span one)
+    (λ later. entry_over later entry) c.in_err-seen.field-0.0 c.declarable.ensures.grows.shapes
+    (λ later on before stands lawful. c.in_err-seen.ensures.gives later on before stands lawful)
+    (λ later on before stands. initialised-by setting now c.args.said.now d c.args.kind here at entry here-is c.name_at-at.ensures c.in_ok-entry.ensures.entry c.args.span one later
+    (begins-on now.known.types.shapes c.declarable.new.known.types.shapes later c.declarable.ensures.grows.shapes on) before stands))
+
+pub returns : goal.returns
+returns c =
+    let setting = setting_of c.args.typer.now in
+    let now = c.args.standing.now in
+    let d = syntax.declarator c.args.declarator.now in
+    let here-is = sym (ap (λ (span : Span). span.first) (span-declarator c.args.declarator.now)) in
+    initialised-made setting now c.args.said.now d c.args.kind c.args.declarator.now.span.first c.name_at-at.result c.in_ok-entry.entry here-is c.name_at-at.ensures c.in_ok-entry.ensures.entry
+    _ c.declared_here.new.self c.declarable.ensures.grows refl refl c.in_ok-seen.seen c.in_ok-number.number
+    c.in_ok-number.ensures.known c.in_ok-number.ensures.number c.in_ok-number.ensures.within
+    (source_of c.args.typer.now) c.args.span (syntax.initialiser c.args.initialiser.now)
+    (λ later on before stands lawful. c.in_ok-seen.ensures.gives later on before stands lawful)
+    c.initialised.new.standing c.initialised.result
+    (λ later. c.initialised.ensures (entry_over later c.in_ok-entry.entry) (sym c.in_ok-name.ensures, refl, refl))
