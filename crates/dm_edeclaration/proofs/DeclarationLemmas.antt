@@ -1,6 +1,6 @@
 -- Declarators one after another, and declarations.
-use Rattle.std.specs.Prelude.{◌≡◌, ℕ, Bool, true, false, ◌&&◌, ◌||◌, not, ◌==◌, List, [], ◌∷◌, ◌++◌, length, map, drop, Option, Some, None, slice_get, Result, Ok, Err, refl}
-use Rattle.std.proofs.Common.{sym, ap, ap₂, ◌∙◌, subst}
+use Rattle.std.specs.Prelude.{◌≡◌, ℕ, suc, Bool, true, false, ◌&&◌, ◌||◌, not, ◌==◌, List, [], ◌∷◌, ◌++◌, length, map, drop, Option, Some, None, slice_get, Result, Ok, Err, refl}
+use Rattle.std.proofs.Common.{sym, ap, ap₂, ◌∙◌, subst, arith}
 use Rattle.std.proofs.lemmas.List.{map-append}
 use Rattle.std.proofs.lemmas.List.Elements.{All-append}
 use Rattle.dm_token.specs.declared.place.Span.{Span}
@@ -24,6 +24,7 @@ use Rattle.dm_typing.specs.Fitting.{AreNumbered}
 use Rattle.dm_typing.specs.Known.{Known, Setting, Outcome, given, broken}
 use Rattle.dm_typing.specs.Specifiers.{Where, of_declaration}
 use Rattle.dm_typing.specs.Views.{Begins, type_over, view_over, known_over}
+use Rattle.dm_typing.proofs.KindLemmas.{same-numbers}
 use Rattle.dm_typing.proofs.LaterLemmas.{trees-later}
 use Rattle.dm_edeclarator.specs.Steps.{SameBesideConstants, Follows}
 use Rattle.dm_edecl.specs.Standing.{Standing, Progress, goes_on, stops, further, knowing, collecting, keeps}
@@ -31,7 +32,7 @@ use Rattle.dm_edecl.specs.Declaring.{Specified, specified, is_alone, typed_decla
 use Rattle.dm_estanding.specs.declared.standing.Standing.{Standing as Held}
 use Rattle.dm_estanding.specs.Proceeding.{IsLawful, Proceeds}
 use Rattle.dm_estanding.specs.Summaries.{StandsFor}
-use Rattle.dm_estanding.proofs.ProceedingLemmas.{Arrives, starts, restated, passes, done, collects, collect-fails}
+use Rattle.dm_estanding.proofs.ProceedingLemmas.{Arrives, starts, restated, passes, fails, done, collects, collect-fails}
 use Rattle.dm_edeclaration.specs.declared.items.TypedLocal.{TypedLocal}
 use Rattle.dm_edeclaration.specs.declared.items.TypedLocals.{TypedLocals}
 use Rattle.dm_edeclaration.specs.declared.specified.Specification.{Specification}
@@ -94,6 +95,9 @@ module _ (setting : Setting) (source : Source) (said : Specification) (node : In
         collects IsId type_over source now now mid item-whole item-type item-next item-starts kind typed constants f same none taken links retyped
         (λ later known. declarator-keeps setting known (type_over later said.kind) (syntax.declarator node.declarator))
 
+    pub item-stops : (new : Held) (fault : Stop) → Proceeds LocalFits bare_over source mid new (Err fault) item-rest → Proceeds TypedFits typed_over source now new (Err fault) item-whole
+    item-stops new fault p = fails LocalFits bare_over source now mid new item-whole TypedFits typed_over item-rest item-ends fault item-collected p
+
     pub item-made : (new : Held) (local : LocalHeld) → Proceeds LocalFits bare_over source mid new (Ok local) item-rest
         → Proceeds TypedFits typed_over source now new (Ok (record { constants = constants; local = local })) item-whole
     item-made new local p =
@@ -130,7 +134,53 @@ items-next setting said all first others s = items-more all (typed_item setting 
 pub items-end : (setting : Setting) (said : Specified) (all : Together) (s : Standing) → rest_items setting said all [] s ≡ goes_on s all
 items-end setting said all s = ap (goes_on s) (behind-none all)
 
+module _ (setting : Setting) (source : Source) (said : Specification) (nodes : List InitDeclarator) (start : Held) where
+  abbrev pub items-whole : List Shape → Standing → Progress Together
+  items-whole later before = together (typed_items setting (specified_over later said) before (map syntax.item nodes))
+
+  abbrev pub items-left : TypedLocals → List InitDeclarator → List Shape → Standing → Progress Together
+  items-left all rest later = rest_items setting (specified_over later said) (items_over later all) (map syntax.item rest)
+
+  module _ (now : Held) (all : TypedLocals) (node : InitDeclarator) (rest others : List InitDeclarator) (cut-is : rest ≡ node ∷ others) (a : Arrives start now items-whole (items-left all rest)) where
+    abbrev after-item : List Shape → Standing → Local → Progress Together
+    after-item later behind made = rest_items setting (specified_over later said) (joined (items_over later all) made) (map syntax.item others) behind
+
+    items-cut : Arrives start now items-whole (λ later behind. further (item-whole setting source said node now later behind) (after-item later))
+    items-cut =
+        restated start now items-whole (items-left all rest) (λ later behind. further (item-whole setting source said node now later behind) (after-item later)) a
+        (λ later on behind stands lawful.
+        ap (λ list. rest_items setting (specified_over later said) (items_over later all) (map syntax.item list) behind) cut-is
+        ∙ items-next setting (specified_over later said) (items_over later all) (syntax.item node) (map syntax.item others) behind)
+
+    pub items-fail : (new : Held) (fault : Stop) → Proceeds TypedFits typed_over source now new (Err fault) (item-whole setting source said node now)
+        → Proceeds ItemsFit items_over source start new (Err fault) items-whole
+    items-fail new fault p = fails TypedFits typed_over source start now new items-whole ItemsFit items_over (item-whole setting source said node now) after-item fault items-cut p
+
+    pub items-on : (new : Held) (typed : TypedLocal) (more : TypedLocals) → Proceeds TypedFits typed_over source now new (Ok typed) (item-whole setting source said node now)
+        → ((later : List Shape) → items_over later more ≡ joined (items_over later all) (typed_over later typed)) → Arrives start new items-whole (items-left more others)
+    items-on new typed more p is =
+        restated start new items-whole (λ later behind. after-item later behind (typed_over later typed)) (items-left more others)
+        (passes TypedFits typed_over source start now new items-whole (item-whole setting source said node now) after-item typed items-cut p)
+        (λ later on behind stands lawful. ap (λ sum. rest_items setting (specified_over later said) sum (map syntax.item others) behind) (sym (is later)))
+
+  pub items-done : (now : Held) (all : TypedLocals) (rest : List InitDeclarator) → rest ≡ [] → Arrives start now items-whole (items-left all rest) → ItemsFit now.known.types all
+      → Proceeds ItemsFit items_over source start now (Ok all) items-whole
+  items-done now all rest none a fits =
+      done ItemsFit items_over source start now items-whole all
+      (restated start now items-whole (items-left all rest) (λ later behind. goes_on behind (items_over later all)) a
+      (λ later on behind stands lawful.
+      ap (λ list. rest_items setting (specified_over later said) (items_over later all) (map syntax.item list) behind) none
+      ∙ items-end setting (specified_over later said) (items_over later all) behind))
+      fits
+
 -- ---- declarations
+
+more-than-one : (n : ℕ) → (suc (suc n) == 1) ≡ false
+more-than-one n = go (suc (suc n) == 1) refl
+  where
+    go : (test : Bool) → (suc (suc n) == 1) ≡ test → test ≡ false
+    go true e = let same = same-numbers (suc (suc n)) 1 e in absurd (omega (arith, same))
+    go false e = refl
 
 pub alone-by : (specifiers : Specifiers) (words : List tree.Specifier) (items : List Item) (span : Span) → specifiers ≡ tree.listed span (syntax.words words)
     → is_alone specifiers items ≡ (length items == 0 && length words == 1)
@@ -139,7 +189,7 @@ alone-by specifiers words items span same = ap (λ it. is_alone it items) same �
     go : (words : List tree.Specifier) (items : List Item) → is_alone (tree.listed span (syntax.words words)) items ≡ (length items == 0 && length words == 1)
     go [] [] = refl
     go (first ∷ []) [] = refl
-    go (first ∷ second ∷ others) [] = refl
+    go (first ∷ second ∷ others) [] = sym (more-than-one (length others))
     go words (item ∷ items) = refl
 
 -- whether all declarators declare functions
