@@ -1,10 +1,11 @@
 -- Declarators one after another, and declarations.
 use Rattle.std.specs.Prelude.{◌≡◌, ℕ, suc, Bool, true, false, ◌&&◌, ◌||◌, not, ◌==◌, List, [], ◌∷◌, ◌++◌, length, map, drop, Option, Some, None, slice_get, Result, Ok, Err, refl}
 use Rattle.std.proofs.Common.{sym, ap, ap₂, ◌∙◌, subst, arith}
-use Rattle.std.proofs.lemmas.List.{map-append}
+use Rattle.std.proofs.lemmas.List.{map-append, length-map}
 use Rattle.std.proofs.lemmas.List.Elements.{All-append}
 use Rattle.dm_token.specs.declared.place.Span.{Span}
 use Rattle.dm_token.specs.declared.stop.Stop.{Stop}
+use Rattle.dm_token.specs.declared.stop.Stop.TheVariants as stop
 use Rattle.dm_type.specs.declared.shape.Shape.{Shape}
 use Rattle.dm_type.specs.CTypes.{CType}
 use Rattle.dm_type.specs.Tables.{Table, IsId}
@@ -12,8 +13,10 @@ use Rattle.dm_syn.specs.Sources.{Source}
 use Rattle.dm_syn.specs.Trees.{Declarator, Specifiers, Item}
 use Rattle.dm_syn.specs.Trees as tree
 use Rattle.dm_syn.specs.Views as syntax
+use Rattle.dm_syn.specs.declared.declaration.Declaration.{Declaration as DeclarationHeld}
 use Rattle.dm_syn.specs.declared.declaration.InitDeclarator.{InitDeclarator}
 use Rattle.dm_syn.specs.declared.declaration.Initialiser.{Initialiser as InitialiserHeld}
+use Rattle.dm_syn.specs.declared.declaration.Specifiers.{Specifiers as SpecifiersHeld}
 use Rattle.dm_tree.specs.declared.tree.Core.{Core}
 use Rattle.dm_tree.specs.declared.tree.Local.{Local as LocalHeld}
 use Rattle.dm_tree.specs.Trees.{Tree}
@@ -23,16 +26,17 @@ use Rattle.dm_typing.specs.declared.known.Known.{Known as Known-held}
 use Rattle.dm_typing.specs.Fitting.{AreNumbered}
 use Rattle.dm_typing.specs.Known.{Known, Setting, Outcome, given, broken}
 use Rattle.dm_typing.specs.Specifiers.{Where, of_declaration}
-use Rattle.dm_typing.specs.Views.{Begins, type_over, view_over, known_over}
+use Rattle.dm_typing.specs.Views.{Begins, type_over, view_over, known_over, refusal_at}
 use Rattle.dm_typing.proofs.KindLemmas.{same-numbers}
 use Rattle.dm_typing.proofs.LaterLemmas.{trees-later}
 use Rattle.dm_edeclarator.specs.Steps.{SameBesideConstants, Follows}
+use Rattle.dm_eexpr.proofs.SyntaxViewLemmas.{view-specifiers}
 use Rattle.dm_edecl.specs.Standing.{Standing, Progress, goes_on, stops, further, knowing, collecting, keeps}
 use Rattle.dm_edecl.specs.Declaring.{Specified, specified, is_alone, typed_declarator, Local, with_lengths, typed_item, typed_items, Declared, declarators_of, constants_of, expressions_of, is_function_entry, are_functions, is_there, may_be_inline, declared_by, typed_declaration}
 use Rattle.dm_estanding.specs.declared.standing.Standing.{Standing as Held}
 use Rattle.dm_estanding.specs.Proceeding.{IsLawful, Proceeds}
 use Rattle.dm_estanding.specs.Summaries.{StandsFor}
-use Rattle.dm_estanding.proofs.ProceedingLemmas.{Arrives, starts, restated, passes, fails, done, collects, collect-fails}
+use Rattle.dm_estanding.proofs.ProceedingLemmas.{Arrives, starts, restated, holds, passes, fails, done, breaks, collects, collect-fails}
 use Rattle.dm_edeclaration.specs.declared.items.TypedLocal.{TypedLocal}
 use Rattle.dm_edeclaration.specs.declared.items.TypedLocals.{TypedLocals}
 use Rattle.dm_edeclaration.specs.declared.specified.Specification.{Specification}
@@ -182,15 +186,19 @@ more-than-one n = go (suc (suc n) == 1) refl
     go true e = let same = same-numbers (suc (suc n)) 1 e in absurd (omega (arith, same))
     go false e = refl
 
-pub alone-by : (specifiers : Specifiers) (words : List tree.Specifier) (items : List Item) (span : Span) → specifiers ≡ tree.listed span (syntax.words words)
-    → is_alone specifiers items ≡ (length items == 0 && length words == 1)
-alone-by specifiers words items span same = ap (λ it. is_alone it items) same ∙ go words items
+-- specifiers alone
+pub alone-none : (all : SpecifiersHeld) → is_alone (syntax.specifiers all) [] ≡ (length all.words == 1)
+alone-none all =
+    ap (λ it. is_alone it []) (view-specifiers all) ∙ go (map syntax.specifier all.words) ∙ ap (λ n. n == 1) (length-map all.words syntax.specifier)
   where
-    go : (words : List tree.Specifier) (items : List Item) → is_alone (tree.listed span (syntax.words words)) items ≡ (length items == 0 && length words == 1)
-    go [] [] = refl
-    go (first ∷ []) [] = refl
-    go (first ∷ second ∷ others) [] = sym (more-than-one (length others))
-    go words (item ∷ items) = refl
+    go : (words : List tree.Specifier) → is_alone (tree.listed all.span (syntax.words words)) [] ≡ (length words == 1)
+    go [] = refl
+    go (first ∷ []) = refl
+    go (first ∷ second ∷ others) = sym (more-than-one (length others))
+
+pub alone-some : (specifiers : Specifiers) (nodes : List InitDeclarator) → (nodes ≡ [] → ⊥) → is_alone specifiers (syntax.items nodes) ≡ false
+alone-some specifiers [] some = absurd (some refl)
+alone-some (tree.listed span words) (first ∷ others) some = refl
 
 -- whether all declarators declare functions
 abbrev pub are_functions_among : Known → List label.Declarator → Bool
@@ -257,3 +265,82 @@ pub declaration-split : (setting : Setting) (s : Standing) (span : Span) (specif
     → summed (typed_declaration setting s (tree.declaring span specifiers items))
     ≡ collecting s (specified setting of_declaration (is_alone specifiers items) s.known specifiers) (declaration-next setting items)
 declaration-split setting s span specifiers items = sum-collected setting items s (specified setting of_declaration (is_alone specifiers items) s.known specifiers)
+
+module _ (setting : Setting) (source : Source) (node : DeclarationHeld) (now : Held) (alone : Bool) (alone-is : alone ≡ is_alone (syntax.specifiers node.specifiers) (syntax.items node.items))
+    (nodes : List InitDeclarator) (nodes-are : nodes ≡ node.items) where
+  abbrev pub declaration-whole : List Shape → Standing → Progress Together
+  declaration-whole later before = summed (typed_declaration setting before (syntax.declaration node))
+
+  abbrev declaration-run : List Shape → Known → Outcome Specified
+  declaration-run later known = specified setting of_declaration alone known (syntax.specifiers node.specifiers)
+
+  abbrev declaration-rest : List Shape → Standing → List Tree → Specified → Progress Together
+  declaration-rest later = declaration-next setting (syntax.items nodes)
+
+  declaration-starts : Arrives now now declaration-whole (λ later behind. collecting behind (declaration-run later behind.known) (declaration-rest later))
+  declaration-starts =
+      starts now declaration-whole (λ later behind. collecting behind (declaration-run later behind.known) (declaration-rest later))
+      (λ later before stands lawful.
+      declaration-split setting before node.span (syntax.specifiers node.specifiers) (syntax.items node.items)
+      ∙ ap (λ test. collecting before (specified setting of_declaration test before.known (syntax.specifiers node.specifiers)) (declaration-next setting (syntax.items node.items))) (sym alone-is)
+      ∙ ap (λ list. collecting before (specified setting of_declaration alone before.known (syntax.specifiers node.specifiers)) (declaration-next setting (syntax.items list))) (sym nodes-are))
+
+  pub declaration-unsaid : (new : Held) (fault : Stop) → Follows SpecifiedFits specified_over source now.known new.known (Err fault) (λ later. declaration-run later (known_over later now.known))
+      → Proceeds ItemsFit items_over source now new (Err fault) declaration-whole
+  declaration-unsaid new fault f =
+      collect-fails SpecifiedFits specified_over source now now new declaration-whole declaration-run declaration-rest declaration-starts ItemsFit items_over fault f
+
+  module _ (typed : Known-held) (mid : Held) (said : Specification) (constants : List Core)
+      (f : Follows SpecifiedFits specified_over source now.known typed (Ok said) (λ later. declaration-run later (known_over later now.known))) (same : SameBesideConstants typed mid.known)
+      (none : mid.known.constants ≡ []) (taken : constants ≡ typed.constants) (links : mid.links ≡ now.links) (retyped : mid.retyped.items ≡ now.retyped.items) where
+    abbrev items-of : List Shape → Standing → Progress Together
+    items-of = items-whole setting source said nodes mid
+
+    abbrev all-of : List Shape → Standing → Together → Progress Together
+    all-of later = declared_all (map (view_over later) constants) (specified_over later said)
+
+    declaration-collected : Arrives now mid declaration-whole (λ later behind. further (items-of later behind) (all-of later))
+    declaration-collected =
+        collects SpecifiedFits specified_over source now now mid declaration-whole declaration-run declaration-rest declaration-starts said typed constants f same none taken links retyped
+        (λ later known. specified-keeps setting of_declaration alone known (syntax.specifiers node.specifiers))
+
+    pub declaration-fails : (new : Held) (fault : Stop) → Proceeds ItemsFit items_over source mid new (Err fault) items-of → Proceeds ItemsFit items_over source now new (Err fault) declaration-whole
+    declaration-fails new fault p = fails ItemsFit items_over source now mid new declaration-whole ItemsFit items_over items-of all-of fault declaration-collected p
+
+    module _ (new : Held) (all : TypedLocals) (p : Proceeds ItemsFit items_over source mid new (Ok all) items-of) where
+      declaration-typed : Arrives now new declaration-whole (λ later behind. all-of later behind (items_over later all))
+      declaration-typed = passes ItemsFit items_over source now mid new declaration-whole items-of all-of all declaration-collected p
+
+      abbrev inline-test : List Shape → Standing → Bool
+      inline-test later behind = not said.is_inline || may_be_inline_among behind.known (items_over later all).declarators
+
+      abbrev all-there : List Shape → Standing → Progress Together
+      all-there later behind =
+          goes_on behind (record { constants = map (view_over later) constants ++ (items_over later all).constants; declarators = (items_over later all).declarators; expressions = (items_over later all).expressions })
+
+      module _ (test : Bool) (obeys : (later : List Shape) → test ≡ (not said.is_inline || may_be_inline_in (known_over later new.known) all.locals)) where
+        test-is : (later : List Shape) (behind : Standing) → StandsFor later new.known new.links behind → inline-test later behind ≡ test
+        test-is later behind stands =
+            ap (λ known. not said.is_inline || may_be_inline_among known (items_over later all).declarators) stands.known
+            ∙ ap (λ it. not said.is_inline || it) (sym (inline-in later (known_over later new.known) all.locals)) ∙ sym (obeys later)
+
+        pub declaration-breaks : (fault : Stop) → test ≡ false → fault ≡ stop.Refused (refusal_at source 3 said.first) → Proceeds ItemsFit items_over source now new (Err fault) declaration-whole
+        declaration-breaks fault broken-rule same-fault =
+            breaks ItemsFit items_over source now new declaration-whole all-there inline-test 3 said.first fault declaration-typed
+            (λ later on behind stands lawful. test-is later behind stands ∙ broken-rule) same-fault
+
+        pub declaration-made : test ≡ true → (made : TypedLocals)
+            → ((later : List Shape) → items_over later made ≡ record { constants = map (view_over later) constants ++ map (view_over later) all.constants;
+            declarators = (items_over later all).declarators; expressions = (items_over later all).expressions })
+            → ItemsFit new.known.types made → Proceeds ItemsFit items_over source now new (Ok made) declaration-whole
+        declaration-made obeyed made is fits =
+            done ItemsFit items_over source now new declaration-whole made
+            (restated now new declaration-whole all-there (λ later behind. goes_on behind (items_over later made))
+            (holds now new declaration-whole all-there inline-test 3 said.first declaration-typed (λ later on behind stands lawful. test-is later behind stands ∙ obeyed))
+            (λ later on behind stands lawful. ap (goes_on behind) (sym (is later)))) fits
+
+      -- the trees that were taken out stay numbered
+      pub declaration-numbered : AreNumbered new.known.types constants
+      declaration-numbered =
+          trees-later mid.known.types new.known.types constants p.shapes
+          (subst (λ (types : Table). AreNumbered types constants) (sym same.types) (subst (AreNumbered typed.types) (sym taken) typed.trees))

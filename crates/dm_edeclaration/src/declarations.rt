@@ -25,7 +25,10 @@ use dm_typing::{Known, Typer};
 fn is_alone(declaration: &Declaration) -> bool
     ensures { result ≡ declaring.is_alone (syntax.specifiers declaration.now.specifiers) (syntax.items declaration.now.items) }
 {
-    declaration.items.is_empty() && declaration.specifiers.words.len() == 1
+    if !declaration.items.is_empty() {
+        return false;
+    }
+    declaration.specifiers.words.len() == 1
 }
 
 /// Whether an entry of this number is a function.
