@@ -1,9 +1,8 @@
 -- What may be declared, and what holds behind its declarator.
-use Rattle.std.specs.Prelude.{◌≡◌, ℕ, ◌<◌, Bool, true, false, ◌&&◌, ◌||◌, not, if◌then◌else◌, List, [], ◌∷◌, ◌++◌, length, Option, Some, None, is_some, IfSome, unwrap_or, slice_get, refl}
+use Rattle.std.specs.Prelude.{◌≡◌, ℕ, Bool, true, false, ◌&&◌, ◌||◌, not, if◌then◌else◌, length, Option, Some, None, is_some, IfSome, unwrap_or, refl}
 use Rattle.std.proofs.Common.{sym, ap, ◌∙◌, subst, arith}
 use Rattle.dm_type.specs.Alike.{are_compatible}
 use Rattle.dm_type.specs.CTypes.{CType}
-use Rattle.dm_type.specs.TableLaws.{injected}
 use Rattle.dm_scope.specs.Scopes.{number_of}
 use Rattle.dm_tree.specs.declared.unit.Sort.{Sort}
 use Rattle.dm_tree.specs.declared.unit.Sort.TheVariants.{Object, Function}
@@ -17,12 +16,12 @@ use Rattle.dm_typing.specs.Sound.{IsProper}
 use Rattle.dm_typing.proofs.TypeLemmas.{both-hold}
 use Rattle.dm_eexpr.proofs.KeepLemmas.{Adds}
 use Rattle.dm_edecl.specs.Standing.{Linked, Standing, Progress, stops, keeps, knowing}
-use Rattle.dm_edecl.specs.Linkages.{whole_kind, is_called, number_linked, number_shared, kind_seen, meaning_here, is_typedef, is_same_typedef, is_linked_if_there, agrees_if_there, may_be_declared, number_before, with_kind, known_kind, with_link, with_link_if, number_here, declared_here, is_defined}
-use Rattle.dm_edecl.specs.Declaring.{Specified, is_misplaced_static, may_be_object, may_be_main, declarable, may_be_initialised, may_define}
-use Rattle.dm_edecl.specs.Settled.{IsBound, is_linked, AreProperLinks}
+use Rattle.dm_edecl.specs.Linkages.{whole_kind, number_shared, kind_seen, meaning_here, is_typedef, is_same_typedef, is_linked_if_there, agrees_if_there, may_be_declared, known_kind, with_link_if, number_here, declared_here, is_defined}
+use Rattle.dm_edecl.specs.Declaring.{Specified, is_misplaced_static, may_be_object, may_be_main, declarable, may_define}
+use Rattle.dm_edecl.specs.Settled.{is_linked}
 use Rattle.dm_edecl.proofs.LinkLemmas.{proper-push, agree-push}
 use Rattle.dm_estanding.specs.Proceeding.{IsLawful}
-use Rattle.dm_estanding.specs.Summaries.{MayBeAdded, declared_as}
+use Rattle.dm_estanding.specs.Summaries.{MayBeAdded}
 use Rattle.dm_estanding.proofs.AgreementLemmas.{linked-found}
 use Rattle.dm_estanding.proofs.DeclaringLemmas.{names-kind, called-kind, called-found}
 use Rattle.dm_estanding.proofs.LawfulLemmas.{MayBeDefined, knowing-names}

@@ -1,8 +1,7 @@
 -- Declarators one after another, and declarations.
-use Rattle.std.specs.Prelude.{◌≡◌, ℕ, suc, Bool, true, false, ◌&&◌, ◌||◌, not, ◌==◌, List, [], ◌∷◌, ◌++◌, length, map, drop, Option, Some, None, slice_get, Result, Ok, Err, refl}
+use Rattle.std.specs.Prelude.{◌≡◌, ℕ, suc, Bool, true, false, ◌&&◌, ◌||◌, not, ◌==◌, List, [], ◌∷◌, ◌++◌, length, map, Option, Some, None, slice_get, Ok, Err, refl}
 use Rattle.std.proofs.Common.{sym, ap, ap₂, ◌∙◌, subst, arith}
-use Rattle.std.proofs.lemmas.List.{map-append, length-map}
-use Rattle.std.proofs.lemmas.List.Elements.{All-append}
+use Rattle.std.proofs.lemmas.List.{length-map}
 use Rattle.dm_token.specs.declared.place.Span.{Span}
 use Rattle.dm_token.specs.declared.stop.Stop.{Stop}
 use Rattle.dm_token.specs.declared.stop.Stop.TheVariants as stop
@@ -25,22 +24,22 @@ use Rattle.dm_tree.specs.Views.{declarators_of as declarators_opened}
 use Rattle.dm_typing.specs.declared.known.Known.{Known as Known-held}
 use Rattle.dm_typing.specs.Fitting.{AreNumbered}
 use Rattle.dm_typing.specs.Known.{Known, Setting, Outcome, given, broken}
-use Rattle.dm_typing.specs.Specifiers.{Where, of_declaration}
-use Rattle.dm_typing.specs.Views.{Begins, type_over, view_over, known_over, refusal_at}
+use Rattle.dm_typing.specs.Specifiers.{of_declaration}
+use Rattle.dm_typing.specs.Views.{type_over, view_over, known_over, refusal_at}
 use Rattle.dm_typing.proofs.KindLemmas.{same-numbers}
 use Rattle.dm_typing.proofs.LaterLemmas.{trees-later}
 use Rattle.dm_edeclarator.specs.Steps.{SameBesideConstants, Follows}
 use Rattle.dm_eexpr.proofs.SyntaxViewLemmas.{view-specifiers}
 use Rattle.dm_edecl.specs.Standing.{Standing, Progress, goes_on, stops, further, knowing, collecting, keeps}
-use Rattle.dm_edecl.specs.Declaring.{Specified, specified, is_alone, typed_declarator, Local, with_lengths, typed_item, typed_items, Declared, declarators_of, constants_of, expressions_of, is_function_entry, are_functions, is_there, may_be_inline, declared_by, typed_declaration}
+use Rattle.dm_edecl.specs.Declaring.{Specified, specified, is_alone, typed_declarator, Local, with_lengths, typed_item, typed_items, declarators_of, constants_of, expressions_of, is_function_entry, are_functions, is_there, may_be_inline, declared_by, typed_declaration}
 use Rattle.dm_estanding.specs.declared.standing.Standing.{Standing as Held}
-use Rattle.dm_estanding.specs.Proceeding.{IsLawful, Proceeds}
+use Rattle.dm_estanding.specs.Proceeding.{Proceeds}
 use Rattle.dm_estanding.specs.Summaries.{StandsFor}
 use Rattle.dm_estanding.proofs.ProceedingLemmas.{Arrives, starts, restated, holds, passes, fails, done, breaks, collects, collect-fails}
 use Rattle.dm_edeclaration.specs.declared.items.TypedLocal.{TypedLocal}
 use Rattle.dm_edeclaration.specs.declared.items.TypedLocals.{TypedLocals}
 use Rattle.dm_edeclaration.specs.declared.specified.Specification.{Specification}
-use Rattle.dm_edeclaration.specs.Steps.{specified_over, SpecifiedFits, opened_over, bare_over, LocalFits, typed_over, TypedFits, item_of, Together, together_of, together, joined, items_over, ItemsFit, sum_of, summed, are_functions_in, may_be_inline_in}
+use Rattle.dm_edeclaration.specs.Steps.{specified_over, SpecifiedFits, opened_over, bare_over, LocalFits, typed_over, TypedFits, item_of, Together, together_of, together, joined, items_over, ItemsFit, summed, are_functions_in, may_be_inline_in}
 use Rattle.dm_edeclaration.proofs.StepLemmas.{specified-keeps, declarator-keeps, opened-number, together_behind, behind-next, behind-none}
 
 -- ---- a declarator with its initialiser
@@ -106,9 +105,11 @@ module _ (setting : Setting) (source : Source) (said : Specification) (node : In
         → Proceeds TypedFits typed_over source now new (Ok (record { constants = constants; local = local })) item-whole
     item-made new local p =
         done TypedFits typed_over source now new item-whole (record { constants = constants; local = local })
-        (passes LocalFits bare_over source now mid new item-whole item-rest item-ends local item-collected p)
-        (trees-later mid.known.types new.known.types constants p.shapes
-        (subst (λ (types : Table). AreNumbered types constants) (sym same.types) (subst (AreNumbered typed.types) (sym taken) typed.trees)), p.numbered)
+        (passes LocalFits bare_over source now mid new item-whole item-rest item-ends local item-collected p) (
+          trees-later mid.known.types new.known.types constants p.shapes
+              (subst (λ (types : Table). AreNumbered types constants) (sym same.types) (subst (AreNumbered typed.types) (sym taken) typed.trees)),
+          p.numbered,
+        )
 
 -- ---- declarators one after another
 
@@ -330,8 +331,11 @@ module _ (setting : Setting) (source : Source) (node : DeclarationHeld) (now : H
             (λ later on behind stands lawful. test-is later behind stands ∙ broken-rule) same-fault
 
         pub declaration-made : test ≡ true → (made : TypedLocals)
-            → ((later : List Shape) → items_over later made ≡ record { constants = map (view_over later) constants ++ map (view_over later) all.constants;
-            declarators = (items_over later all).declarators; expressions = (items_over later all).expressions })
+            → ((later : List Shape) → items_over later made ≡ record {
+              constants = map (view_over later) constants ++ map (view_over later) all.constants;
+              declarators = (items_over later all).declarators;
+              expressions = (items_over later all).expressions;
+            })
             → ItemsFit new.known.types made → Proceeds ItemsFit items_over source now new (Ok made) declaration-whole
         declaration-made obeyed made is fits =
             done ItemsFit items_over source now new declaration-whole made

@@ -1,5 +1,5 @@
 -- What the typing of initialisers leaves as it is, as that of their expressions does.
-use Rattle.std.specs.Prelude.{◌≡◌, ℕ, ◌+◌, Bool, true, false, ◌||◌, not, if◌then◌else◌, List, [], ◌∷◌, ◌++◌, Option, Some, None, refl}
+use Rattle.std.specs.Prelude.{ℕ, ◌+◌, Bool, true, false, ◌||◌, not, if◌then◌else◌, [], ◌∷◌, ◌++◌, Option, Some, None, refl}
 use Rattle.std.proofs.Common.{◌∙◌}
 use Rattle.dm_token.specs.declared.place.Span.{Span}
 use Rattle.dm_type.specs.CTypes.{CType}
@@ -8,12 +8,12 @@ use Rattle.dm_syn.specs.Trees.{Expr, Initialiser, Initialisers}
 use Rattle.dm_syn.specs.Trees as tree
 use Rattle.dm_tree.specs.Scenes.{is_scalar, part_type}
 use Rattle.dm_tree.specs.Trees.{Tree}
-use Rattle.dm_typing.specs.Known.{Known, Setting, Outcome, given, broken, after}
+use Rattle.dm_typing.specs.Known.{Known, Setting, Outcome, broken}
 use Rattle.dm_typing.specs.Conversions.{as_value}
 use Rattle.dm_typing.specs.Rules.{is_assignable}
 use Rattle.dm_typing.specs.Typing.{typed}
 use Rattle.dm_eexpr.proofs.KeepLemmas.{Keeps, KeepsIn, Leads, SameTrees, keeps-itself, adds-on, after-leads, obeys-leads, if-leads, stays, expr-keeps, expr-trees}
-use Rattle.dm_edecl.specs.Initialising.{Initial, Initials, no_initials, with_first, enclosed, First, braced, is_static_value, scalar_initialised, has_value, initialised_by, is_string_for, first_scalar, zero_initialised, expressions_alone, all_expressions_alone, misplaced, scalar_in_braces, is_zero_list, all_zero, if_part, typed_initialiser, typed_initialisers}
+use Rattle.dm_edecl.specs.Initialising.{no_initials, with_first, enclosed, First, braced, is_static_value, scalar_initialised, has_value, initialised_by, is_string_for, first_scalar, zero_initialised, expressions_alone, all_expressions_alone, misplaced, scalar_in_braces, is_zero_list, all_zero, if_part, typed_initialiser, typed_initialisers}
 
 module _ (R : Known → Known → Type 0) where
   either-leads : {A : Type 0} (known : Known) (test : Bool) (one other : Outcome A) → Leads R known one → Leads R known other → Leads R known (if test then one else other)

@@ -1,16 +1,15 @@
 -- The steps of the code through a declarator and its initialiser.
-use Rattle.std.specs.Prelude.{◌≡◌, ℕ, Bool, true, false, ◌&&◌, ◌||◌, not, if◌then◌else◌, List, [], ◌∷◌, ◌++◌, length, map, Option, Some, None, Result, Ok, Err, IsErrAnd, IfOk, refl}
+use Rattle.std.specs.Prelude.{◌≡◌, ℕ, Bool, true, false, ◌&&◌, ◌||◌, if◌then◌else◌, List, [], Option, Some, None, Result, Ok, Err, IsErrAnd, refl}
 use Rattle.std.proofs.Common.{sym, ap, ap₂, ◌∙◌, subst}
 use Rattle.dm_token.specs.declared.place.Span.{Span}
 use Rattle.dm_token.specs.declared.stop.Stop.{Stop}
 use Rattle.dm_token.specs.declared.stop.Stop.TheVariants as stop
 use Rattle.dm_type.specs.declared.shape.Shape.{Shape}
 use Rattle.dm_type.specs.CTypes.{CType}
-use Rattle.dm_type.specs.Tables.{Table, IsId}
+use Rattle.dm_type.specs.Tables.{Table}
 use Rattle.dm_syn.specs.Sources.{Source}
 use Rattle.dm_syn.specs.Spans.{declarator_span}
-use Rattle.dm_syn.specs.Trees.{Declarator, Initialiser, Item}
-use Rattle.dm_syn.specs.Trees as tree
+use Rattle.dm_syn.specs.Trees.{Declarator, Initialiser}
 use Rattle.dm_tree.specs.declared.tree.Initial.{Initial as InitialHeld}
 use Rattle.dm_tree.specs.declared.tree.Local.{Local as LocalHeld}
 use Rattle.dm_tree.specs.declared.unit.Declared.{Declared}
@@ -18,12 +17,9 @@ use Rattle.dm_tree.specs.Initialisers.{is_fixed, is_object, is_function_sort}
 use Rattle.dm_tree.specs.Trees.{Tree}
 use Rattle.dm_tree.specs.Typing.{IsEntry, has_linkage}
 use Rattle.dm_tree.specs.Units.{Declaration}
-use Rattle.dm_typing.specs.declared.known.Known.{Known as Known-held}
 use Rattle.dm_typing.specs.Known.{Known, Setting, Outcome, given, broken}
 use Rattle.dm_typing.specs.Conversions.{is_complete}
-use Rattle.dm_typing.specs.Typing.{is_file_scope}
 use Rattle.dm_typing.specs.Views.{Begins, type_over, known_over, refusal_at, Gives, Grows}
-use Rattle.dm_typing.proofs.GivesLemmas.{grown}
 use Rattle.dm_typing.proofs.LaterLemmas.{begins-itself, begins-on}
 use Rattle.dm_edeclarator.specs.Steps.{Anything, Follows}
 use Rattle.dm_eexpr.proofs.CycleLemmas.{if-ok}
@@ -31,21 +27,19 @@ use Rattle.dm_eexpr.proofs.KeepLemmas.{Adds, KeepsIn, Leads, SameTrees, with-kee
 use Rattle.dm_edecl.specs.Standing.{Standing, Progress, goes_on, stops, keeps, typing, knowing}
 use Rattle.dm_edecl.specs.Linkages.{entry_of, kind_seen, may_be_declared, number_here, declared_here, object_here, known_kind}
 use Rattle.dm_edecl.specs.Initialising.{Initial, completed, typed_initialiser, expressions_alone}
-use Rattle.dm_edecl.specs.Declaring.{Specified, is_misplaced_static, name_at, declarable, Local, local_plain, local_initialised, defines_object, may_be_initialised, may_define, object_defined, initialised, item_plain, item_initialised}
+use Rattle.dm_edecl.specs.Declaring.{is_misplaced_static, name_at, Local, local_plain, local_initialised, defines_object, may_be_initialised, may_define, object_defined, initialised, item_plain, item_initialised}
 use Rattle.dm_edecl.proofs.EntryLemmas.{entry-fits}
 use Rattle.dm_einitial.specs.Steps.{initial_over, InitialFits, dropped, nothing_over}
-use Rattle.dm_estanding.specs.declared.links.Links.{Links}
 use Rattle.dm_estanding.specs.declared.standing.Standing.{Standing as Held}
 use Rattle.dm_estanding.specs.Proceeding.{IsLawful, Reached, Advances, Proceeds}
 use Rattle.dm_estanding.specs.Summaries.{storage_seen, entry_over, StandsFor, MayBeAdded}
 use Rattle.dm_estanding.specs.Undoing.{IsWithin}
 use Rattle.dm_estanding.proofs.DeclaringLemmas.{below-held}
 use Rattle.dm_estanding.proofs.LawfulLemmas.{proper-over, entries-proper, declared-agrees, declared-lawful, object-agrees, object-lawful}
-use Rattle.dm_estanding.proofs.ProceedingLemmas.{Arrives, starts, types, type-fails, stops-there, reached-on, advances-on, stands-grown, typed-within, typed-adds, typed-gives, typed-reached}
+use Rattle.dm_estanding.proofs.ProceedingLemmas.{Arrives, starts, types, type-fails, stops-there, advances-on, stands-grown, typed-within, typed-adds, typed-gives, typed-reached}
 use Rattle.dm_estanding.proofs.WithinLemmas.{within-itself, within-on, within-grown}
-use Rattle.dm_edeclaration.specs.declared.initialised.Object.{Object}
 use Rattle.dm_edeclaration.specs.declared.specified.Specification.{Specification}
-use Rattle.dm_edeclaration.specs.Steps.{specified_over, rule_broken, Permits, Means, IsNamed, ProceedsWhere, bare_over, LocalFits, object_initialised}
+use Rattle.dm_edeclaration.specs.Steps.{specified_over, rule_broken, Permits, IsNamed, ProceedsWhere, bare_over, LocalFits, object_initialised}
 use Rattle.dm_edeclaration.proofs.DeclarableLemmas.{by_rule, declarable-by, not-misplaced, named-here, named-still, may-be-defined, defined-added}
 use Rattle.dm_edeclaration.proofs.InitialKeepLemmas.{alone-keeps, alone-trees, initialiser-keeps, initialiser-trees}
 use Rattle.dm_edeclaration.proofs.StepLemmas.{plain-over, initialised-over, plain-fits, initialised-fits}
@@ -165,13 +159,14 @@ module _ (setting : Setting) (now : Held) (said : Specification) (declarator : D
       numbered = plain-fits new.known.types number defines;
       within = declared-within;
       gives = λ later on before stands lawful.
-          let p = permits later (on-mid later on) before stands lawful in
-          (declared_here before (entry_over later entry),
-          plain-by later (on-now later on) before stands
-              ∙ ap (λ rule. by_rule rule (plain-next later before)) p.0
-              ∙ ap (goes_on (declared_here before (entry_over later entry)))
-              (ap₂ local_plain (sym (declared-number later before stands lawful)) (sym defines-is) ∙ sym (plain-over later number defines)),
-          declared-reached later on before stands lawful p.1 p.2);
+          let p = permits later (on-mid later on) before stands lawful in (
+            declared_here before (entry_over later entry),
+            plain-by later (on-now later on) before stands
+                ∙ ap (λ rule. by_rule rule (plain-next later before)) p.0
+                ∙ ap (goes_on (declared_here before (entry_over later entry)))
+                (ap₂ local_plain (sym (declared-number later before stands lawful)) (sym defines-is) ∙ sym (plain-over later number defines)),
+            declared-reached later on before stands lawful p.1 p.2,
+          );
     }
 
     -- with one
@@ -326,9 +321,9 @@ module _ (setting : Setting) (source : Source) (entry : Declaration) (number her
           let gives = typed-gives now typed typed.known refl refl refl links retyped InitialFits initial_over source initial object-run f object-keeps later on-typed s stands.known in
           let same : SameTrees s.known k = (subst (Leads SameTrees s.known) gives (initialiser-trees setting (is_fixed entry.sort) s.known (type_over later type) one)).leads in
           let adds : Adds s.known k = subst (λ it. Adds it k) (sym stands.known)
-              (typed-adds now typed typed.known refl refl refl links retyped InitialFits initial_over source initial object-run f object-keeps later on-typed) in
+          (typed-adds now typed typed.known refl refl refl links retyped InitialFits initial_over source initial object-run f object-keeps later on-typed) in
           let reached = typed-reached now typed typed.known refl refl refl links retyped InitialFits initial_over source initial object-run f object-keeps later on-typed s stands lawful
-              (ap (λ trees. record k { constants = trees }) same) in
+          (ap (λ trees. record k { constants = trees }) same) in
           subst (Advances (bare_over later) source later last s result)
           (sym (ap (λ outcome. typing s outcome (λ behind it. object_defined behind entry number here at (type_over later type) it)) gives))
           (advances-on (bare_over later) source later typed last s (knowing s k) result (object_defined (knowing s k) entry number here at (type_over later type) (initial_over later initial)) reached
@@ -399,14 +394,15 @@ module _ (entry : Declaration) (number here at : ℕ) (source : Source) (now new
         let proper = proper-over later kind in
         let is = may later then_on s stands in
         let complete = ap (λ known. is_complete known type) stands.known ∙ whole later then_on in
-        let defined = may-be-defined s entry number type lawful named is starts in
-        (object_here s entry number type,
-        ap₂ (λ test other. defined-left test other later s) is complete ∙ ap (goes_on (object_here s entry number type)) (sym (initialised-over later number initial)),
-        record {
-          stands = known later on s stands (λ linked. defined-added s entry number type lawful named is proper linked);
-          lawful = object-lawful s lawful number type proper entry defined;
-          remembers = (object-agrees s lawful number type proper entry defined).remembers;
-        });
+        let defined = may-be-defined s entry number type lawful named is starts in (
+          object_here s entry number type,
+          ap₂ (λ test other. defined-left test other later s) is complete ∙ ap (goes_on (object_here s entry number type)) (sym (initialised-over later number initial)),
+          record {
+            stands = known later on s stands (λ linked. defined-added s entry number type lawful named is proper linked);
+            lawful = object-lawful s lawful number type proper entry defined;
+            remembers = (object-agrees s lawful number type proper entry defined).remembers;
+          },
+        );
   }
 
   pub twice-defined : (fault : Stop) → ((later : List Shape) → Begins now.known.types.shapes later → (s : Standing) → StandsFor later now.known now.links s → may_define s number (type_over later kind) ≡ false)
@@ -430,7 +426,10 @@ module _ (entry : Declaration) (number here at : ℕ) (source : Source) (now new
         shapes = begins-itself now.known.types.shapes;
         numbered = tt;
         within = tt;
-        gives = λ later on s stands lawful named.
-            (5, here,
-            ap₂ (λ test other. defined-left test other later s) (may later on s stands) (ap (λ known. is_complete known (type_over later kind)) stands.known ∙ whole later on), refl);
+        gives = λ later on s stands lawful named. (
+          5,
+          here,
+          ap₂ (λ test other. defined-left test other later s) (may later on s stands) (ap (λ known. is_complete known (type_over later kind)) stands.known ∙ whole later on),
+          refl,
+        );
       })

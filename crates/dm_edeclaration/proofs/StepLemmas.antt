@@ -1,33 +1,30 @@
 -- What the code has on the way through declarations.
-use Rattle.std.specs.Prelude.{◌≡◌, ℕ, ◌<◌, ◌≤◌, Bool, true, false, ◌&&◌, not, IsTrue, List, [], ◌∷◌, ◌++◌, length, map, flat_map, All, Option, Some, None, slice_get, option_map, refl}
-use Rattle.std.proofs.Common.{rules, sym, ap, ap₂, ◌∙◌, subst, arith, append-nil, append_assoc}
+use Rattle.std.specs.Prelude.{◌≡◌, ℕ, Bool, true, List, [], ◌∷◌, ◌++◌, length, map, Option, Some, None, refl}
+use Rattle.std.proofs.Common.{rules, sym, ap, ◌∙◌, append-nil, append_assoc}
 use Rattle.std.proofs.lemmas.List.{map-append}
-use Rattle.std.proofs.lemmas.List.Elements.{All-nil, All-append, All-push, All-head, All-tail}
 use Rattle.dm_type.specs.declared.shape.Shape.{Shape}
-use Rattle.dm_type.specs.Tables.{Table, IsId}
+use Rattle.dm_type.specs.Tables.{Table}
 use Rattle.dm_tree.specs.declared.tree.Core.{Core}
 use Rattle.dm_tree.specs.declared.tree.Core as q
 use Rattle.dm_tree.specs.declared.tree.Initial.{Initial as InitialHeld}
 use Rattle.dm_tree.specs.declared.tree.Local.{Local as LocalHeld}
-use Rattle.dm_tree.specs.Trees.{Tree, Declarator}
+use Rattle.dm_tree.specs.Trees.{Declarator}
 use Rattle.dm_tree.specs.TypeNumbers.{are_known_in_local}
 use Rattle.dm_tree.specs.Views.{OpenedLocal, declarators_of, expressions_of_locals}
-use Rattle.dm_typing.specs.Known.{Known, Setting, Outcome}
-use Rattle.dm_typing.specs.Fitting.{AreNumbered}
+use Rattle.dm_typing.specs.Known.{Known, Setting}
 use Rattle.dm_typing.specs.Specifiers.{nothing_said, Where}
-use Rattle.dm_typing.specs.Typing.{words_said, typed_said, steps_of, derived}
+use Rattle.dm_typing.specs.Typing.{words_said, typed_said, steps_of}
 use Rattle.dm_typing.specs.Views.{Begins, view_over}
 use Rattle.dm_syn.specs.Trees.{Specifiers}
 use Rattle.dm_syn.specs.Trees as tree
 use Rattle.dm_typing.proofs.LaterLemmas.{trees-later}
 use Rattle.dm_eexpr.proofs.KeepLemmas.{KeepsIn, after-keeps, with-keeps, words-keep, said-keeps, steps-keep, derived-keeps}
-use Rattle.dm_edecl.specs.Declaring.{Specified, specified_by, specified, typed_declarator, Local, local_plain, local_initialised, with_lengths, constants_of, expressions_of}
+use Rattle.dm_edecl.specs.Declaring.{specified_by, specified, typed_declarator, Local, local_plain, local_initialised, constants_of, expressions_of}
 use Rattle.dm_edecl.specs.Declaring as declaring
 use Rattle.dm_einitial.specs.Steps.{initial_over, InitialFits, are_known_in_initial}
 use Rattle.dm_einitial.proofs.InitialLemmas.{initial-later}
-use Rattle.dm_edeclaration.specs.declared.items.TypedLocal.{TypedLocal}
 use Rattle.dm_edeclaration.specs.declared.items.TypedLocals.{TypedLocals}
-use Rattle.dm_edeclaration.specs.Steps.{local_seen, opened_over, bare_over, LocalFits, typed_over, TypedFits, Together, together_of, joined, items_over, ItemsFit}
+use Rattle.dm_edeclaration.specs.Steps.{local_seen, opened_over, bare_over, LocalFits, typed_over, Together, joined, items_over, ItemsFit}
 
 -- ---- specifiers and declarators
 

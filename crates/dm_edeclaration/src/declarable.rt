@@ -1,6 +1,6 @@
 //! What may be declared (C2, C3, C5, C36).
 
-ghost use Rattle.std.specs.Prelude.{◌≡◌, List, IfOk, length};
+ghost use Rattle.std.specs.Prelude.{◌≡◌, List, IfOk};
 ghost use Rattle.dm_type.specs.declared.shape.Shape.{Shape as OneShape};
 ghost use Rattle.dm_type.specs.Tables.{IsId};
 ghost use Rattle.dm_syn.specs.Views as syntax;

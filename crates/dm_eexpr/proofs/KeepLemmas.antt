@@ -14,7 +14,7 @@ use Rattle.dm_type.specs.Layouts.{contained, struct_layout}
 use Rattle.dm_type.specs.CTypes.{CType, integer, struct, bare}
 use Rattle.dm_type.specs.TableLaws.{injected}
 use Rattle.dm_type.specs.Tables.{with_struct, with_content}
-use Rattle.dm_scope.specs.Scopes.{Numbers, Scopes, number_of, is_declared, declared as declared_in}
+use Rattle.dm_scope.specs.Scopes.{Scopes, number_of, is_declared, declared as declared_in}
 use Rattle.dm_syn.specs.declared.symbol.Symbol.{Symbol}
 use Rattle.dm_syn.specs.declared.symbol.Symbol.TheVariants as symbol
 use Rattle.dm_syn.specs.Sources.{spelling_at, symbol_at}
@@ -350,28 +350,32 @@ field-keeps : (setting : Setting) (known : Known) (here : ℕ) (name : Option �
 field-keeps setting known here name before type = obeys-keeps known (is_complete known type) 5 here _ (obeys-keeps known (not (is_named (name_of setting name) before)) 6 (unwrap_or name here) _ (stays Keeps known _ (keeps-itself known)))
 
 left-keeps : {A : Type 0} (known : Known) (outcome : Outcome A) → KeepsIn (entered known) outcome → KeepsIn known (left known.scopes outcome)
-left-keeps known (given behind it) h = record { leads = record {
-  adds = record {
-    outer = refl;
-    depth = refl;
-    more = h.leads.adds.more;
-    declared = h.leads.adds.declared;
-    unlinked = h.leads.adds.unlinked;
-    inside = λ name number e. inl e;
-    still = λ name e. e;
+left-keeps known (given behind it) h = record {
+  leads = record {
+    adds = record {
+      outer = refl;
+      depth = refl;
+      more = h.leads.adds.more;
+      declared = h.leads.adds.declared;
+      unlinked = h.leads.adds.unlinked;
+      inside = λ name number e. inl e;
+      still = λ name e. e;
+    };
+    begun = h.leads.begun;
   };
-  begun = h.leads.begun;
-} }
+}
 left-keeps known (broken rule at) h = record { leads = tt }
 
 ended-name-keeps : (known : Known) (outcome : Outcome CType) → KeepsIn (record known { constants = [] }) outcome → KeepsIn known (name_ended known.constants outcome)
 ended-name-keeps known (given behind kind) h =
     let bare : Known = record known { constants = [] } in
     let done : Known = record behind { constants = known.constants } in
-    record { leads = record {
-      adds = adds-on known bare done (adds-none known bare refl refl) (adds-on bare behind done h.leads.adds (adds-none behind done refl refl));
-      begun = h.leads.begun;
-    } }
+    record {
+      leads = record {
+        adds = adds-on known bare done (adds-none known bare refl refl) (adds-on bare behind done h.leads.adds (adds-none behind done refl refl));
+        begun = h.leads.begun;
+      };
+    }
 ended-name-keeps known (broken rule at) h = record { leads = tt }
 
 same-itself : (known : Known) → SameTrees known known

@@ -1,5 +1,5 @@
 -- What holds at each place of a unit holds at the next, and what was declared is remembered.
-use Rattle.std.specs.Prelude.{◌≡◌, ◌==◌, ℕ, zero, suc, ◌⊎◌, ◌<◌, ◌≤◌, Bool, true, false, ◌&&◌, ◌||◌, if◌then◌else◌, IsTrue, List, [], ◌∷◌, ◌++◌, length, map, drop, All, Option, Some, None, is_some, unwrap_or, option_map, option_and_then, slice_get, refl}
+use Rattle.std.specs.Prelude.{◌≡◌, ◌==◌, ℕ, zero, suc, ◌⊎◌, ◌<◌, ◌≤◌, Bool, true, false, ◌&&◌, ◌||◌, if◌then◌else◌, IsTrue, List, [], ◌∷◌, ◌++◌, length, drop, All, Option, Some, None, is_some, unwrap_or, option_map, option_and_then, slice_get, refl}
 use Rattle.std.specs.FinMap as finite
 use Rattle.std.proofs.Common.{sym, ap, ◌∙◌, subst, arith, inl, inr, ⊎_elim, append-nil, append_assoc}
 use Rattle.std.proofs.lemmas.List.{length-append}
@@ -27,11 +27,11 @@ use Rattle.dm_typing.proofs.TypeLemmas.{both-hold, same-types}
 use Rattle.dm_enames.proofs.TagStepLemmas.{number-below}
 use Rattle.dm_eexpr.proofs.KeepLemmas.{number_inside, Adds}
 use Rattle.dm_edecl.specs.Standing.{Linked, Standing, knowing, opened, known_behind}
-use Rattle.dm_edecl.specs.Linkages.{whole_kind, is_called, number_linked, number_shared, is_number, kind_with, kind_from_here, kind_seen, meaning_here, is_typedef, is_same_typedef, is_linked_if_there, is_same_linkage, agree, agrees_with, agrees_if_there, may_be_declared, number_before, with_kind, number_here, with_link_if, object_here}
+use Rattle.dm_edecl.specs.Linkages.{whole_kind, is_called, number_linked, number_shared, is_number, kind_with, kind_from_here, kind_seen, meaning_here, is_typedef, is_same_typedef, is_linked_if_there, is_same_linkage, agree, agrees_with, agrees_if_there, may_be_declared, number_before, with_kind, with_link_if, object_here}
 use Rattle.dm_edecl.specs.Settled.{IsBound, is_linked, AreProperLinks, IsSameEntry}
 use Rattle.dm_edecl.specs.Units.{beginning}
 use Rattle.dm_edecl.proofs.KeepsLemmas.{same-itself, same-through, there, front-kept}
-use Rattle.dm_edecl.proofs.LinkLemmas.{bound-front, bound-last, proper-push, some-then, some-now, linked-push, linked-last, linked-back, agree-push}
+use Rattle.dm_edecl.proofs.LinkLemmas.{bound-front, bound-last, proper-push, some-then, some-now, linked-back, agree-push}
 use Rattle.dm_edecl.proofs.NamingLemmas.{three-hold, behind_name}
 use Rattle.dm_estanding.specs.Proceeding.{IsLawful, Remembers}
 use Rattle.dm_estanding.specs.Summaries.{entry_over, IsUnited, declared_as}
@@ -56,9 +56,10 @@ remembers-on a b c first second = record {
       let one = first.declared at entry h in
       let two = second.declared at one.0 one.1 in
       (two.0, two.1, same-through entry one.0 two.0 one.2 two.2);
-  linked =
-      (first.linked.0 ++ second.linked.0,
-      second.linked.1 ∙ ap (λ list. list ++ second.linked.0) first.linked.1 ∙ append_assoc a.linked first.linked.0 second.linked.0);
+  linked = (
+    first.linked.0 ++ second.linked.0,
+    second.linked.1 ∙ ap (λ list. list ++ second.linked.0) first.linked.1 ∙ append_assoc a.linked first.linked.0 second.linked.0,
+  );
   unlinked = λ at inside h. first.unlinked at inside (second.unlinked at (let one = first.entries in omega (arith, one, inside)) h);
 }
 
@@ -299,7 +300,7 @@ module _ (s : Standing) (known : Known) (adds : Adds s.known known) where
         knowing-names lawful name ∙ lawful.united name number entry was (sym (grown number low) ∙ is) linkage)
         (λ high.
         let none = back-holds (λ (one : Declaration). has_linkage one.linkage ≡ false) s.known.declared adds.more number entry adds.unlinked high
-            (sym (ap (λ entries. slice_get entries number) adds.declared) ∙ is) in
+        (sym (ap (λ entries. slice_get entries number) adds.declared) ∙ is) in
         absurd (cc))
         (scopes-either s.known.scopes known.scopes name number (length s.known.declared) adds.outer adds.depth (adds.inside name number) (adds.still name) means)
 

@@ -28,7 +28,7 @@ use Rattle.dm_eexpr.proofs.KeepLemmas.{Adds, Keeps, KeepsIn, Leads, SameTrees}
 use Rattle.dm_edecl.specs.Standing.{Standing, Progress, goes_on, stops, further, knowing, typing, collecting, keeps, opened, closed, known_behind}
 use Rattle.dm_estanding.specs.declared.links.Links.{Links}
 use Rattle.dm_estanding.specs.declared.standing.Standing.{Standing as Held}
-use Rattle.dm_estanding.specs.Proceeding.{IsLawful, Remembers, Reached, Advances, Proceeds}
+use Rattle.dm_estanding.specs.Proceeding.{IsLawful, Reached, Advances, Proceeds}
 use Rattle.dm_estanding.specs.Summaries.{entry_over, Summarises, StandsFor}
 use Rattle.dm_estanding.specs.Undoing.{IsWithin, Opens}
 use Rattle.dm_estanding.proofs.DeclaringLemmas.{below-held}
@@ -140,12 +140,15 @@ pub grows : {A : Type 0} (old now new : Held) (whole left : List Shape → Stand
     → new.retyped.items ≡ now.retyped.items → Arrives old new whole left
 grows old now new whole left a g links retyped =
     moves old now new whole left left (within-grown now now new (within-itself now) g retyped) a
-    (λ later on behind stands lawful.
-    (behind, refl, record {
-      stands = stands-grown later now.known new.known now.links new.links behind g links stands;
-      lawful = lawful;
-      remembers = remembers-itself behind;
-    }))
+    (λ later on behind stands lawful. (
+      behind,
+      refl,
+      record {
+        stands = stands-grown later now.known new.known now.links new.links behind g links stands;
+        lawful = lawful;
+        remembers = remembers-itself behind;
+      },
+    ))
 
 -- a rule holds
 pub holds : {A : Type 0} (old now : Held) (whole next : List Shape → Standing → Progress A) (test : List Shape → Standing → Bool) (rule at : ℕ)
@@ -328,9 +331,11 @@ module _ {A B D : Type 0} (Fits : Table → A → Type 0) (view : List Shape →
       (λ later on behind stands lawful.
       let k = known_over later new.known in
       let gives = typed-gives now new new.known refl refl refl links retyped Fits view source it one f keeps-all later on behind stands.known in
-      let same : SameTrees behind.known k = (subst (Leads SameTrees behind.known) gives (trees later behind.known)).leads in
-      (knowing behind k, ap (λ outcome. typing behind outcome (next later)) gives,
-      typed-reached now new new.known refl refl refl links retyped Fits view source it one f keeps-all later on behind stands lawful (ap (λ trees. record k { constants = trees }) same)))
+      let same : SameTrees behind.known k = (subst (Leads SameTrees behind.known) gives (trees later behind.known)).leads in (
+        knowing behind k,
+        ap (λ outcome. typing behind outcome (next later)) gives,
+        typed-reached now new new.known refl refl refl links retyped Fits view source it one f keeps-all later on behind stands lawful (ap (λ trees. record k { constants = trees }) same),
+      ))
 
   pub type-fails : {C : Type 0} (FitsAll : Table → C → Type 0) (seen : List Shape → C → D) (fault : Stop)
       → Follows Fits view source now.known new.known (Err fault) (λ later. one later (known_over later now.known)) → Proceeds FitsAll seen source old new (Err fault) whole
@@ -358,11 +363,12 @@ module _ {A B D : Type 0} (Fits : Table → A → Type 0) (view : List Shape →
       (typed-within now new typed same.types same.scopes same.declared links retyped Fits view source it one f keeps-all) a
       (λ later on behind stands lawful.
       let k = known_over later typed in
-      let gives = typed-gives now new typed same.types same.scopes same.declared links retyped Fits view source it one f keeps-all later on behind stands.known in
-      (knowing behind k,
-      ap (λ outcome. collecting behind outcome (next later)) gives ∙ ap (λ list. next later (knowing behind k) (map (view_over later) list) (view later it)) (sym taken),
-      typed-reached now new typed same.types same.scopes same.declared links retyped Fits view source it one f keeps-all later on behind stands lawful
-      (constants-over later typed new.known same ∙ ap (λ list. record k { constants = list }) (ap (map (view_over later)) none ∙ sym lawful.constants))))
+      let gives = typed-gives now new typed same.types same.scopes same.declared links retyped Fits view source it one f keeps-all later on behind stands.known in (
+        knowing behind k,
+        ap (λ outcome. collecting behind outcome (next later)) gives ∙ ap (λ list. next later (knowing behind k) (map (view_over later) list) (view later it)) (sym taken),
+        typed-reached now new typed same.types same.scopes same.declared links retyped Fits view source it one f keeps-all later on behind stands lawful
+            (constants-over later typed new.known same ∙ ap (λ list. record k { constants = list }) (ap (map (view_over later)) none ∙ sym lawful.constants)),
+      ))
 
   pub collect-fails : {C : Type 0} (FitsAll : Table → C → Type 0) (seen : List Shape → C → D) (fault : Stop)
       → Follows Fits view source now.known new.known (Err fault) (λ later. one later (known_over later now.known)) → Proceeds FitsAll seen source old new (Err fault) whole
@@ -420,14 +426,15 @@ module _ {A B : Type 0} (Fits : Table → A → Type 0) (view : List Shape → A
         let then_on = subst (λ (table : Table). Begins table.shapes later) types on in
         let there = p.gives later then_on (opened scope before) (enters later before stands) (opened-lawful scope before (fresh later before stands) lawful) in
         let kept = remembers-on before (opened scope before) there.0 (opened-remembers scope before) there.2.remembers in
-        let below = below-held later outside.known before.known stands.known outside.known.numbers in
-        (record there.0 { known = known_behind before.known there.0.known },
-        ap (closed before) there.1,
-        record {
-          stands = closes later then_on before there.0 stands there.2.stands;
-          lawful = closed-lawful before there.0 kept below lawful there.2.lawful;
-          remembers = closed-remembers before there.0 kept;
-        });
+        let below = below-held later outside.known before.known stands.known outside.known.numbers in (
+          record there.0 { known = known_behind before.known there.0.known },
+          ap (closed before) there.1,
+          record {
+            stands = closes later then_on before there.0 stands there.2.stands;
+            lawful = closed-lawful before there.0 kept below lawful there.2.lawful;
+            remembers = closed-remembers before there.0 kept;
+          },
+        );
   }
 
   pub scope-fails : (fault : Stop) → Proceeds Fits view source opened-held inside (Err fault) progress → Proceeds Fits view source outside inside (Err fault) scope-of

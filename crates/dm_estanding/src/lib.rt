@@ -14,7 +14,10 @@ mod standing;
 pub mod storage;
 mod wholes;
 
-pub use laws::{changes_add_up, names_stay_united, redeclared_types_are_compatible};
+pub use laws::{
+    a_unit_begins_lawfully, changes_add_up, declarators_stay_lawful, names_stay_united,
+    redeclared_types_are_compatible, scopes_stay_lawful, typing_stays_lawful,
+};
 pub use links::{Links, Whole, composite};
 pub use standing::{Mark, Retyped, Standing};
 pub use wholes::with_whole_kinds;

@@ -1,5 +1,5 @@
 -- The rules are tried in their order.
-use Rattle.std.specs.Prelude.{◌≡◌, true, false, refl, Err}
+use Rattle.std.specs.Prelude.{true, false, refl, Err}
 use Rattle.std.proofs.Common.{sym, ap, ◌∙◌, subst}
 use Rattle.dm_typing.specs.Known.{Known}
 use Rattle.dm_typing.specs.Views.{known_over, source_of}
@@ -7,7 +7,7 @@ use Rattle.dm_typing.proofs.GivesLemmas.{grown}
 use Rattle.dm_typing.proofs.LaterLemmas.{begins-on}
 use Rattle.dm_edecl.specs.Declaring.{is_misplaced_static, may_be_object, may_be_main}
 use Rattle.dm_edecl.specs.Linkages.{kind_seen}
-use Rattle.dm_estanding.specs.Summaries.{storage_seen, entry_over}
+use Rattle.dm_estanding.specs.Summaries.{entry_over}
 use Rattle.dm_estanding.proofs.AgreementLemmas.{seen-compatible}
 use Rattle.dm_edeclaration.specs.Steps.{specified_over, rule_broken, Permits}
 use Rattle.dm_edeclaration.proofs.DeclarableLemmas.{third-rule, second-rule, fifth-rule, last-rule}
@@ -43,7 +43,7 @@ returns-then-not-may_be_object-clause-gives c = λ later on before stands lawful
     let known = stands.known ∙ grown later old new c.kind_seen.ensures.grows in
     let seen = c.in_ok-kind.ensures.seen later on before stands (seen-compatible before entry lawful b) in
     let object = ap (λ (it : Known). may_be_object it said.storage c.args.initialised entry.sort (kind_seen before entry)) known
-        ∙ ap (may_be_object (known_over later new) said.storage c.args.initialised entry.sort) (sym seen) ∙ sym (c.may_be_object.ensures later on) ∙ c.if-not-may_be_object.true in
+    ∙ ap (may_be_object (known_over later new) said.storage c.args.initialised entry.sort) (sym seen) ∙ sym (c.may_be_object.ensures later on) ∙ c.if-not-may_be_object.true in
     subst (λ fault. Permits later (source_of c.args.typer.now) (Err fault) (rule_broken said before c.args.initialised c.args.here c.args.name entry) before entry)
     (sym c.broken-then-not-may_be_object.ensures)
     (5, c.args.here, fifth-rule said before c.args.initialised c.args.here c.args.name entry a b object, refl)
@@ -62,7 +62,7 @@ returns-then-not-may-clause-gives c = λ later on before stands lawful.
     let known = stands.known ∙ grown later old mid c.kind_seen.ensures.grows in
     let seen = c.in_ok-kind.ensures.seen later on-mid before stands (seen-compatible before entry lawful b) in
     let object = ap (λ (it : Known). may_be_object it said.storage c.args.initialised entry.sort (kind_seen before entry)) known
-        ∙ ap (may_be_object (known_over later mid) said.storage c.args.initialised entry.sort) (sym seen) ∙ sym (c.may_be_object.ensures later on-mid) ∙ c.if-not-may_be_object.false in
+    ∙ ap (may_be_object (known_over later mid) said.storage c.args.initialised entry.sort) (sym seen) ∙ sym (c.may_be_object.ensures later on-mid) ∙ c.if-not-may_be_object.false in
     let main = ap (λ (it : Known). may_be_main it entry) (known ∙ grown later mid new c.may_be_main.ensures.grows) ∙ sym (c.in_ok-may.ensures.may later on) ∙ c.if-not-may.true in
     subst (λ fault. Permits later (source_of c.args.typer.now) (Err fault) (rule_broken said before c.args.initialised c.args.here c.args.name entry) before entry)
     (sym c.broken-then-not-may.ensures)
@@ -82,6 +82,6 @@ returns-clause-gives c = λ later on before stands lawful.
     let known = stands.known ∙ grown later old mid c.kind_seen.ensures.grows in
     let seen = c.in_ok-kind.ensures.seen later on-mid before stands (seen-compatible before entry lawful b) in
     let object = ap (λ (it : Known). may_be_object it said.storage c.args.initialised entry.sort (kind_seen before entry)) known
-        ∙ ap (may_be_object (known_over later mid) said.storage c.args.initialised entry.sort) (sym seen) ∙ sym (c.may_be_object.ensures later on-mid) ∙ c.if-not-may_be_object.false in
+    ∙ ap (may_be_object (known_over later mid) said.storage c.args.initialised entry.sort) (sym seen) ∙ sym (c.may_be_object.ensures later on-mid) ∙ c.if-not-may_be_object.false in
     let main = ap (λ (it : Known). may_be_main it entry) (known ∙ grown later mid new c.may_be_main.ensures.grows) ∙ sym (c.in_ok-may.ensures.may later on) ∙ c.if-not-may.false in
     (last-rule said before c.args.initialised c.args.here c.args.name entry a b object true main, b, seen)

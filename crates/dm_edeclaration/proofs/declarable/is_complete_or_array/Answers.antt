@@ -1,7 +1,6 @@
 -- The type is complete, or that of an array that is initialised.
-use Rattle.std.specs.Prelude.{◌≡◌, ◌&&◌, ◌||◌, Bool, List}
+use Rattle.std.specs.Prelude.{◌&&◌, ◌||◌}
 use Rattle.std.proofs.Common.{sym, ap, ◌∙◌}
-use Rattle.dm_type.specs.declared.shape.Shape.{Shape}
 use Rattle.dm_tree.specs.Scenes.{is_array}
 use Rattle.dm_typing.specs.Views.{type_over}
 use Rattle.dm_typing.proofs.GivesLemmas.{complete-later}

@@ -1,5 +1,5 @@
 -- Each of them is a function.
-use Rattle.std.specs.Prelude.{◌≡◌, ◌&&◌, ◌+◌, drop}
+use Rattle.std.specs.Prelude.{◌&&◌, ◌+◌, drop}
 use Rattle.std.proofs.Common.{sym, ap, ◌∙◌}
 use Rattle.dm_typing.specs.Views.{known_over}
 use Rattle.dm_eexpr.proofs.LoopLemmas.{cut, past}

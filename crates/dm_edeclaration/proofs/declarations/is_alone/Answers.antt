@@ -1,5 +1,5 @@
 -- There are no declarators, and one specifier.
-use Rattle.std.specs.Prelude.{◌≡◌, [], nat_eq}
+use Rattle.std.specs.Prelude.{nat_eq}
 use Rattle.std.proofs.Common.{sym, ap, ◌∙◌}
 use Rattle.dm_syn.specs.Views as syntax
 use Rattle.dm_edecl.specs.Declaring.{is_alone}

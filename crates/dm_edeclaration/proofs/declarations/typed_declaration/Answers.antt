@@ -1,5 +1,5 @@
 -- The specifiers are typed, and the declarators for them.
-use Rattle.std.specs.Prelude.{◌≡◌, refl}
+use Rattle.std.specs.Prelude.{refl}
 use Rattle.std.proofs.Common.{◌∙◌}
 use Rattle.dm_typing.specs.Views.{source_of, setting_of}
 use Rattle.dm_estanding.proofs.ProceedingLemmas.{relays}

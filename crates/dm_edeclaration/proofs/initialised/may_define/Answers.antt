@@ -1,10 +1,9 @@
 -- The type is compared with that of all declarations.
-use Rattle.std.specs.Prelude.{◌≡◌, ◌&&◌, not, true, false, unwrap_or}
+use Rattle.std.specs.Prelude.{◌&&◌, not, true, false}
 use Rattle.std.proofs.Common.{sym, ap, ap₂, ◌∙◌}
 use Rattle.dm_type.specs.Alike.{are_compatible}
-use Rattle.dm_typing.specs.Views.{type_over}
 use Rattle.dm_typing.proofs.LaterLemmas.{type-later}
-use Rattle.dm_edecl.specs.Linkages.{whole_kind, is_defined}
+use Rattle.dm_edecl.specs.Linkages.{is_defined}
 use Rattle.dm_edeclaration.proofs.initialised.may_define.Goals as goal
 
 pub returns-then-not-compatible : goal.returns-then-not-compatible

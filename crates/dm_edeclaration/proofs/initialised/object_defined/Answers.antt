@@ -1,5 +1,5 @@
 -- The object is defined with a type that is complete.
-use Rattle.std.specs.Prelude.{◌≡◌, true}
+use Rattle.std.specs.Prelude.{true}
 use Rattle.std.proofs.Common.{sym, ap, ◌∙◌, subst}
 use Rattle.dm_tree.specs.Typing.{has_linkage}
 use Rattle.dm_typing.specs.Views.{type_over, source_of}

@@ -1,5 +1,5 @@
 -- The initialiser is typed, and the object defined.
-use Rattle.std.specs.Prelude.{◌≡◌, Ok, Err, refl}
+use Rattle.std.specs.Prelude.{Ok, Err, refl}
 use Rattle.std.proofs.Common.{sym, ap, ◌∙◌, subst}
 use Rattle.dm_syn.specs.Views as syntax
 use Rattle.dm_tree.specs.Initialisers.{is_fixed}

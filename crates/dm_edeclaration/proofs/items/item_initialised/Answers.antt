@@ -1,9 +1,9 @@
 -- The entry may be declared, and its object initialised.
-use Rattle.std.specs.Prelude.{◌≡◌, true, refl}
+use Rattle.std.specs.Prelude.{true, refl}
 use Rattle.std.proofs.Common.{sym, ap}
 use Rattle.dm_token.specs.declared.place.Span.{Span}
 use Rattle.dm_syn.specs.Views as syntax
-use Rattle.dm_typing.specs.Views.{type_over, source_of, setting_of}
+use Rattle.dm_typing.specs.Views.{source_of, setting_of}
 use Rattle.dm_typing.proofs.LaterLemmas.{begins-on}
 use Rattle.dm_edecl.specs.Declaring.{item_initialised}
 use Rattle.dm_edeclarator.proofs.DeclaratorStepLemmas.{span-declarator}

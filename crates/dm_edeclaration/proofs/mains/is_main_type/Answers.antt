@@ -1,5 +1,5 @@
 -- The type is compared with both.
-use Rattle.std.specs.Prelude.{◌≡◌, ◌||◌, ℕ, ◌<◌, Bool, List, length}
+use Rattle.std.specs.Prelude.{◌||◌, ◌<◌, length}
 use Rattle.std.proofs.Common.{sym, ap, ap₂, ◌∙◌, arith}
 use Rattle.dm_int.specs.declared.Kind.TheVariants as k
 use Rattle.dm_type.specs.Alike.{are_compatible}
