@@ -247,12 +247,12 @@ link-there : (test : Bool) (number : ℕ) (kind : CType) (defines : Bool) (linke
 link-there true number kind defines linked h = linked-last (record { number = number; kind = kind; defines = defines }) number linked (numbers-same number number refl)
 link-there false number kind defines linked h = absurd (cc)
 
-link-absent : (test : Bool) (number : ℕ) (kind : CType) (defines : Bool) (linked : List Linked) → test ≡ false → is_linked number linked ≡ false
+pub link-absent : (test : Bool) (number : ℕ) (kind : CType) (defines : Bool) (linked : List Linked) → test ≡ false → is_linked number linked ≡ false
     → is_linked number (with_link_if test number kind defines linked) ≡ false
 link-absent true number kind defines linked h absent = absurd (cc)
 link-absent false number kind defines linked h absent = absent
 
-never-linked : (test : Bool) → (test ≡ true → ⊥) → test ≡ false
+pub never-linked : (test : Bool) → (test ≡ true → ⊥) → test ≡ false
 never-linked true h = absurd (h refl)
 never-linked false h = refl
 
@@ -272,7 +272,7 @@ fresh-by true found entry agreed shared number many e h g = absurd (cc)
 fresh-by false found entry agreed shared number many e h g =
     subst (λ it. unwrap_or (if is_some it then number else None) many ≡ many) (sym (typedef-only found entry h g)) refl
 
-fresh-number : (s : Standing) (entry : Declaration) → has_linkage entry.linkage ≡ false → is_object entry.sort ≡ true → may_be_declared s entry ≡ true
+pub fresh-number : (s : Standing) (entry : Declaration) → has_linkage entry.linkage ≡ false → is_object entry.sort ≡ true → may_be_declared s entry ≡ true
     → number_here s entry ≡ length s.known.declared
 fresh-number s entry e h g = fresh-by (has_linkage entry.linkage) (meaning_here s.known entry.name) entry _ _ _ (length s.known.declared) e h g
 

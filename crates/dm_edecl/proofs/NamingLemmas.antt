@@ -220,7 +220,7 @@ called-name : (name : List ℕ) (found : Option Declaration) (old : Declaration)
 called-name name (Some one) old e h = subst (λ (it : Declaration). it.name ≡ name) (injected one old e) ((bytes_eq-Decides one.name name).0 h)
 called-name name None old e h = absurd (cc)
 
-seen-by : (P : CType → Type 0) (kind : CType) (visible : Bool) (found : Option Declaration) (old : Declaration) → found ≡ Some old → P kind → P (composite old.kind kind)
+pub seen-by : (P : CType → Type 0) (kind : CType) (visible : Bool) (found : Option Declaration) (old : Declaration) → found ≡ Some old → P kind → P (composite old.kind kind)
     → P (kind_with kind visible found)
 seen-by P kind true (Some one) old e a b = subst (λ (it : Declaration). P (composite it.kind kind)) (sym (injected one old e)) b
 seen-by P kind true None old e a b = a

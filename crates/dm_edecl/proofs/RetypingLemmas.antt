@@ -24,14 +24,14 @@ use Rattle.dm_edecl.proofs.LinkLemmas.{bound-front, bound-last, proper-push, lin
 
 -- ---- entries of which one has another type
 
-pub IsChanged : ℕ → CType → ℕ → Declaration → Declaration → Type 0
+unfoldable pub IsChanged : ℕ → CType → ℕ → Declaration → Declaration → Type 0
 IsChanged number kind at old entry = ((at ≡ number → ⊥) × (entry ≡ old)) ⊎ ((at ≡ number) × (entry ≡ record old { kind = kind }))
 
 changed-later : (number : ℕ) (kind : CType) (at : ℕ) (old entry : Declaration) → IsChanged number kind at old entry → IsChanged (suc number) kind (suc at) old entry
 unfolding IsChanged
 changed-later number kind at old entry h = ⊎_elim (λ l. inl ((λ e. l.0 (omega (arith, e))), l.1)) (λ r. inr (ap suc r.0, r.1)) h
 
-kind-get : (number : ℕ) (kind : CType) (entries : List Declaration) (at : ℕ) (entry : Declaration) → slice_get (with_kind number kind entries) at ≡ Some entry
+pub kind-get : (number : ℕ) (kind : CType) (entries : List Declaration) (at : ℕ) (entry : Declaration) → slice_get (with_kind number kind entries) at ≡ Some entry
     → (old : Declaration) × (slice_get entries at ≡ Some old) × IsChanged number kind at old entry
 unfolding IsChanged
 kind-get number kind [] at entry h = absurd (cc)
@@ -51,7 +51,7 @@ kind-put (suc number) kind (one ∷ others) zero old h = (old, h, inl ((λ e. ab
 kind-put (suc number) kind (one ∷ others) (suc at) old h =
     let rest = kind-put number kind others at old h in (rest.0, rest.1, changed-later number kind at old rest.0 rest.2)
 
-kind-length : (number : ℕ) (kind : CType) (entries : List Declaration) → length (with_kind number kind entries) ≡ length entries
+pub kind-length : (number : ℕ) (kind : CType) (entries : List Declaration) → length (with_kind number kind entries) ≡ length entries
 kind-length number kind [] = refl
 kind-length zero kind (one ∷ others) = refl
 kind-length (suc number) kind (one ∷ others) = ap suc (kind-length number kind others)
@@ -104,7 +104,7 @@ changed-known s number kind scopes sound is =
       constants = subst (λ list. AreConstants other list) (sym sound.constants) (All-nil (IsConstant (scene_of other)), tt);
     }
 
-changed-same : (number : ℕ) (kind : CType) (at : ℕ) (old entry : Declaration) → IsChanged number kind at old entry → IsSameEntry old entry
+pub changed-same : (number : ℕ) (kind : CType) (at : ℕ) (old entry : Declaration) → IsChanged number kind at old entry → IsSameEntry old entry
 unfolding IsChanged
 changed-same number kind at old entry h =
     ⊎_elim (λ l. subst (IsSameEntry old) (sym l.1) (same-itself old)) (λ r. subst (IsSameEntry old) (sym r.1) (record { name = refl; sort = refl; linkage = refl })) h

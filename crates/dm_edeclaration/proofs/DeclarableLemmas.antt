@@ -1,24 +1,23 @@
 -- What may be declared, and what holds behind its declarator.
-use Rattle.std.specs.Prelude.{◌≡◌, ℕ, Bool, true, false, ◌&&◌, ◌||◌, not, if◌then◌else◌, length, Option, Some, None, is_some, IfSome, unwrap_or, refl}
+use Rattle.std.specs.Prelude.{◌≡◌, ℕ, Bool, true, false, ◌||◌, not, length, Option, Some, None, IfSome, unwrap_or, refl}
 use Rattle.std.proofs.Common.{sym, ap, ◌∙◌, subst, arith}
 use Rattle.dm_type.specs.Alike.{are_compatible}
 use Rattle.dm_type.specs.CTypes.{CType}
-use Rattle.dm_scope.specs.Scopes.{number_of}
 use Rattle.dm_tree.specs.declared.unit.Sort.{Sort}
 use Rattle.dm_tree.specs.declared.unit.Sort.TheVariants.{Object, Function}
 use Rattle.dm_tree.specs.Initialisers.{is_object, is_function_sort}
 use Rattle.dm_tree.specs.Typing.{FitsSort, IsEntry, has_linkage}
 use Rattle.dm_tree.specs.Units.{Declaration}
 use Rattle.dm_typing.specs.Bounds.{AreBelow}
-use Rattle.dm_typing.specs.Conversions.{is_same}
 use Rattle.dm_typing.specs.Known.{Known}
 use Rattle.dm_typing.specs.Sound.{IsProper}
 use Rattle.dm_typing.proofs.TypeLemmas.{both-hold}
 use Rattle.dm_eexpr.proofs.KeepLemmas.{Adds}
 use Rattle.dm_edecl.specs.Standing.{Linked, Standing, Progress, stops, keeps, knowing}
-use Rattle.dm_edecl.specs.Linkages.{whole_kind, number_shared, kind_seen, meaning_here, is_typedef, is_same_typedef, is_linked_if_there, agrees_if_there, may_be_declared, known_kind, with_link_if, number_here, declared_here, is_defined}
+use Rattle.dm_edecl.specs.Linkages.{whole_kind, kind_seen, may_be_declared, known_kind, number_here, declared_here, is_defined}
 use Rattle.dm_edecl.specs.Declaring.{Specified, is_misplaced_static, may_be_object, may_be_main, declarable, may_define}
 use Rattle.dm_edecl.specs.Settled.{is_linked}
+use Rattle.dm_edecl.proofs.DeclarationFitLemmas.{not-true, fresh-number, link-absent, never-linked}
 use Rattle.dm_edecl.proofs.LinkLemmas.{proper-push, agree-push}
 use Rattle.dm_estanding.specs.Proceeding.{IsLawful}
 use Rattle.dm_estanding.specs.Summaries.{MayBeAdded}
@@ -55,10 +54,6 @@ declarable-by said s initialised here name entry next =
 none-first : (test : Bool) (rule at : ℕ) (broken : Option (ℕ × ℕ)) → broken_unless test rule at broken ≡ None → test ≡ true
 none-first true rule at broken h = refl
 none-first false rule at broken h = absurd (cc)
-
-not-true : (test : Bool) → not test ≡ true → test ≡ false
-not-true true h = absurd (cc)
-not-true false h = refl
 
 pub not-misplaced : (said : Specified) (s : Standing) (initialised : Bool) (here name : ℕ) (entry : Declaration) → rule_broken said s initialised here name entry ≡ None
     → is_misplaced_static s.known said.storage entry.sort ≡ false
@@ -107,15 +102,6 @@ module _ (said : Specified) (s : Standing) (initialised : Bool) (here name : ℕ
 
 -- ---- behind a declarator
 
-typedef-only : (found : Option Declaration) (entry : Declaration) → is_object entry.sort ≡ true → is_same_typedef found entry ≡ true → is_some found ≡ false
-typedef-only None entry h g = refl
-typedef-only (Some old) entry h g = absurd (never (is_typedef old.sort) entry.sort (is_same old.kind entry.kind) h g)
-  where
-    never : (old : Bool) (sort : Sort) (same : Bool) → is_object sort ≡ true → (old && is_typedef sort && same) ≡ true → ⊥
-    never true (Object fixed) same h g = absurd (cc)
-    never false (Object fixed) same h g = absurd (cc)
-    never old sort same h g = absurd (cc)
-
 object-or-function : (sort : Sort) (kind : CType) (linked : Bool) → FitsSort sort kind linked → is_function_sort sort ≡ true → linked ≡ true
 object-or-function Function kind linked fits h = fits.1
 object-or-function sort kind linked fits h = absurd (cc)
@@ -123,22 +109,11 @@ object-or-function sort kind linked fits h = absurd (cc)
 module _ (s : Standing) (entry : Declaration) (lawful : IsLawful s) (below : AreBelow (length s.known.declared) s.known.scopes) (may : may_be_declared s entry ≡ true) where
   -- an object without linkage is new
   alone : has_linkage entry.linkage ≡ false → is_object entry.sort ≡ true → is_linked (number_here s entry) (declared_here s entry).linked ≡ false
-  alone unlinked object = go (has_linkage entry.linkage) unlinked may
-    where
-      before : Bool → Option ℕ
-      before test = if test then number_shared s entry.name else if is_some (meaning_here s.known entry.name) then number_of s.known.scopes entry.name else None
-
-      none-yet : (test : Bool) → is_linked (length s.known.declared) s.linked ≡ test → test ≡ false
-      none-yet true e = let one = lawful.within (length s.known.declared) e in absurd (omega (arith, one))
-      none-yet false e = refl
-
-      go : (test : Bool) → test ≡ false
-          → (if test then is_linked_if_there (meaning_here s.known entry.name) && agrees_if_there s entry (number_shared s entry.name) else is_same_typedef (meaning_here s.known entry.name) entry) ≡ true
-          → is_linked (unwrap_or (before test) (length s.known.declared)) (with_link_if test (unwrap_or (before test) (length s.known.declared)) entry.kind false s.linked) ≡ false
-      go true e h = absurd (cc)
-      go false e h =
-          ap (λ found. is_linked (unwrap_or (if found then number_of s.known.scopes entry.name else None) (length s.known.declared)) s.linked) (typedef-only (meaning_here s.known entry.name) entry object h)
-          ∙ none-yet (is_linked (length s.known.declared) s.linked) refl
+  alone unlinked object =
+      let number = number_here s entry in
+      let fresh = fresh-number s entry unlinked object may in
+      link-absent (has_linkage entry.linkage) number entry.kind false s.linked unlinked
+      (never-linked (is_linked number s.linked) (λ h. let one = lawful.within number h in absurd (omega (arith, one, fresh))))
 
   pub named-here : IsEntry entry → IsNamed entry (number_here s entry) (declared_here s entry)
   named-here is = record {

@@ -8,7 +8,6 @@ use Rattle.dm_tree.specs.declared.tree.Core.{Core}
 use Rattle.dm_tree.specs.declared.tree.Core as q
 use Rattle.dm_tree.specs.declared.tree.Initial.{Initial as InitialHeld}
 use Rattle.dm_tree.specs.declared.tree.Local.{Local as LocalHeld}
-use Rattle.dm_tree.specs.Trees.{Declarator}
 use Rattle.dm_tree.specs.TypeNumbers.{are_known_in_local}
 use Rattle.dm_tree.specs.Views.{OpenedLocal, declarators_of, expressions_of_locals}
 use Rattle.dm_typing.specs.Known.{Known, Setting}

@@ -48,15 +48,22 @@ names-kind name n kind entries (one ∷ others) =
     ap (λ test. if test then Some one.number else number_linked name (with_kind n kind entries) others) (called-kind name n kind entries one.number)
     ∙ ap (λ found. if is_called name (slice_get entries one.number) then Some one.number else found) (names-kind name n kind entries others)
 
+linked-itself : (one : Linked) (others : List Linked) → is_linked one.number (one ∷ others) ≡ true
+linked-itself one others = some-now (one.number == one.number) _ (whole_kind one.number others) (numbers-same one.number one.number refl)
+
+-- numbers hang on the names of the entries with linkage alone
+pub names-same : (name : List ℕ) (one other : List Declaration) (linked : List Linked) → ((n : ℕ) → is_linked n linked ≡ true → slice_get other n ≡ slice_get one n)
+    → number_linked name other linked ≡ number_linked name one linked
+names-same name one other [] same = refl
+names-same name one other (first ∷ others) same =
+    ap (λ found. if is_called name found then Some first.number else number_linked name other others) (same first.number (linked-itself first others))
+    ∙ ap (λ found. if is_called name (slice_get one first.number) then Some first.number else found)
+    (names-same name one other others (λ n h. same n (some-then (first.number == n) _ (whole_kind n others) h)))
+
 -- a new entry has no declarations yet
 names-more : (name : List ℕ) (entries : List Declaration) (entry : Declaration) (linked : List Linked) → ((n : ℕ) → is_linked n linked ≡ true → n < length entries)
     → number_linked name (entries ++ entry ∷ []) linked ≡ number_linked name entries linked
-names-more name entries entry [] within = refl
-names-more name entries entry (one ∷ others) within =
-    ap (λ found. if is_called name found then Some one.number else number_linked name (entries ++ entry ∷ []) others)
-    (front-kept entries (entry ∷ []) one.number (within one.number (some-now (one.number == one.number) _ (whole_kind one.number others) (numbers-same one.number one.number refl))))
-    ∙ ap (λ found. if is_called name (slice_get entries one.number) then Some one.number else found)
-    (names-more name entries entry others (λ n h. within n (some-then (one.number == n) _ (whole_kind n others) h)))
+names-more name entries entry linked within = names-same name entries (entries ++ entry ∷ []) linked (λ n h. front-kept entries (entry ∷ []) n (within n h))
 
 -- the number that is found is that of an entry of the name
 pub called-found : (name : List ℕ) (declared : List Declaration) (linked : List Linked) (number : ℕ) → number_linked name declared linked ≡ Some number → is_called name (slice_get declared number) ≡ true

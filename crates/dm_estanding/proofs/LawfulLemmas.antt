@@ -1,5 +1,5 @@
 -- What holds at each place of a unit holds at the next, and what was declared is remembered.
-use Rattle.std.specs.Prelude.{◌≡◌, ◌==◌, ℕ, zero, suc, ◌⊎◌, ◌<◌, ◌≤◌, Bool, true, false, ◌&&◌, ◌||◌, if◌then◌else◌, IsTrue, List, [], ◌∷◌, ◌++◌, length, drop, All, Option, Some, None, is_some, unwrap_or, option_map, option_and_then, slice_get, refl}
+use Rattle.std.specs.Prelude.{◌≡◌, ℕ, zero, suc, ◌⊎◌, ◌<◌, ◌≤◌, Bool, true, false, ◌&&◌, ◌||◌, if◌then◌else◌, IsTrue, List, [], ◌∷◌, ◌++◌, length, drop, All, Option, Some, None, is_some, unwrap_or, option_map, option_and_then, slice_get, refl}
 use Rattle.std.specs.FinMap as finite
 use Rattle.std.proofs.Common.{sym, ap, ◌∙◌, subst, arith, inl, inr, ⊎_elim, append-nil, append_assoc}
 use Rattle.std.proofs.lemmas.List.{length-append}
@@ -27,16 +27,17 @@ use Rattle.dm_typing.proofs.TypeLemmas.{both-hold, same-types}
 use Rattle.dm_enames.proofs.TagStepLemmas.{number-below}
 use Rattle.dm_eexpr.proofs.KeepLemmas.{number_inside, Adds}
 use Rattle.dm_edecl.specs.Standing.{Linked, Standing, knowing, opened, known_behind}
-use Rattle.dm_edecl.specs.Linkages.{whole_kind, is_called, number_linked, number_shared, is_number, kind_with, kind_from_here, kind_seen, meaning_here, is_typedef, is_same_typedef, is_linked_if_there, is_same_linkage, agree, agrees_with, agrees_if_there, may_be_declared, number_before, with_kind, with_link_if, object_here}
+use Rattle.dm_edecl.specs.Linkages.{whole_kind, is_called, number_linked, number_shared, is_number, kind_from_here, kind_seen, meaning_here, is_typedef, is_same_typedef, is_linked_if_there, is_same_linkage, agree, agrees_with, agrees_if_there, may_be_declared, number_before, with_kind, with_link_if, object_here}
 use Rattle.dm_edecl.specs.Settled.{IsBound, is_linked, AreProperLinks, IsSameEntry}
 use Rattle.dm_edecl.specs.Units.{beginning}
 use Rattle.dm_edecl.proofs.KeepsLemmas.{same-itself, same-through, there, front-kept}
-use Rattle.dm_edecl.proofs.LinkLemmas.{bound-front, bound-last, proper-push, some-then, some-now, linked-back, agree-push}
-use Rattle.dm_edecl.proofs.NamingLemmas.{three-hold, behind_name}
+use Rattle.dm_edecl.proofs.LinkLemmas.{bound-front, bound-last, proper-push, linked-back, agree-push}
+use Rattle.dm_edecl.proofs.NamingLemmas.{three-hold, seen-by, behind_name}
+use Rattle.dm_edecl.proofs.RetypingLemmas.{IsChanged, kind-get, kind-put, kind-length, changed-same}
 use Rattle.dm_estanding.specs.Proceeding.{IsLawful, Remembers}
 use Rattle.dm_estanding.specs.Summaries.{entry_over, IsUnited, declared_as}
 use Rattle.dm_estanding.proofs.AgreementLemmas.{linked-found}
-use Rattle.dm_estanding.proofs.DeclaringLemmas.{names-kind}
+use Rattle.dm_estanding.proofs.DeclaringLemmas.{names-same, names-kind}
 use Rattle.dm_estanding.proofs.UnitedLemmas.{united-still}
 
 -- ---- what is remembered
@@ -65,18 +66,6 @@ remembers-on a b c first second = record {
 
 -- ---- the numbers of names with linkage
 
-linked-itself : (one : Linked) (others : List Linked) → is_linked one.number (one ∷ others) ≡ true
-linked-itself one others = some-now (one.number == one.number) _ (whole_kind one.number others) (numbers-same one.number one.number refl)
-
--- they hang on the names of the entries with linkage alone
-names-same : (name : List ℕ) (one other : List Declaration) (linked : List Linked) → ((n : ℕ) → is_linked n linked ≡ true → slice_get other n ≡ slice_get one n)
-    → number_linked name other linked ≡ number_linked name one linked
-names-same name one other [] same = refl
-names-same name one other (first ∷ others) same =
-    ap (λ found. if is_called name found then Some first.number else number_linked name other others) (same first.number (linked-itself first others))
-    ∙ ap (λ found. if is_called name (slice_get one first.number) then Some first.number else found)
-    (names-same name one other others (λ n h. same n (some-then (first.number == n) _ (whole_kind n others) h)))
-
 -- the first declaration of a name stays the first
 names-on : (name : List ℕ) (declared : List Declaration) (linked more : List Linked) (number : ℕ) → number_linked name declared linked ≡ Some number
     → number_linked name declared (linked ++ more) ≡ Some number
@@ -92,51 +81,6 @@ names-on name declared (first ∷ others) more number h = go (names-on name decl
 bound-before : (bound : CType) (n : ℕ) (linked more : List Linked) → IsBound bound n (linked ++ more) → IsBound bound n linked
 bound-before bound n [] more b = tt
 bound-before bound n (first ∷ others) more b = (b.0, bound-before bound n others more b.1)
-
--- ---- entries of which one has another type
-
-retyped-length : (number : ℕ) (kind : CType) (entries : List Declaration) → length (with_kind number kind entries) ≡ length entries
-retyped-length number kind [] = refl
-retyped-length zero kind (first ∷ others) = refl
-retyped-length (suc number) kind (first ∷ others) = ap suc (retyped-length number kind others)
-
--- the entry of a number before
-pub record WasEntry (number : ℕ) (kind : CType) (entries : List Declaration) (at : ℕ) (entry : Declaration) : Type 0 where
-  pub old : Declaration
-  pub at_old : slice_get entries at ≡ Some old
-  pub same : IsSameEntry old entry
-  pub is : ((at ≡ number) × (entry.kind ≡ kind)) ⊎ ((at ≡ number → ⊥) × (entry.kind ≡ old.kind))
-
-was-later : (number : ℕ) (kind : CType) (first : Declaration) (entries : List Declaration) (at : ℕ) (entry : Declaration) → WasEntry number kind entries at entry
-    → WasEntry (suc number) kind (first ∷ entries) (suc at) entry
-was-later number kind first entries at entry was = record {
-  old = was.old;
-  at_old = was.at_old;
-  same = was.same;
-  is = ⊎_elim (λ now. inl (ap suc now.0, now.1)) (λ other. inr ((λ e. other.0 (omega (arith, e))), other.1)) was.is;
-}
-
--- this entry itself
-was-it : (number : ℕ) (kind : CType) (entries : List Declaration) (at : ℕ) (entry : Declaration) → slice_get entries at ≡ Some entry → (at ≡ number → ⊥) → WasEntry number kind entries at entry
-was-it number kind entries at entry h other = record { old = entry; at_old = h; same = same-itself entry; is = inr (other, refl) }
-
-retyped-get : (number : ℕ) (kind : CType) (entries : List Declaration) (at : ℕ) (entry : Declaration) → slice_get (with_kind number kind entries) at ≡ Some entry → WasEntry number kind entries at entry
-retyped-get number kind [] at entry h = absurd (cc)
-retyped-get zero kind (first ∷ others) zero entry h =
-    subst (WasEntry zero kind (first ∷ others) zero) (injected (record first { kind = kind }) entry h)
-    (record { old = first; at_old = refl; same = record { name = refl; sort = refl; linkage = refl }; is = inl (refl, refl) })
-retyped-get zero kind (first ∷ others) (suc at) entry h = was-it zero kind (first ∷ others) (suc at) entry h (λ e. absurd (omega (arith, e)))
-retyped-get (suc number) kind (first ∷ others) zero entry h = was-it (suc number) kind (first ∷ others) zero entry h (λ e. absurd (omega (arith, e)))
-retyped-get (suc number) kind (first ∷ others) (suc at) entry h = was-later number kind first others at entry (retyped-get number kind others at entry h)
-
-retyped-put : (number : ℕ) (kind : CType) (entries : List Declaration) (at : ℕ) (old : Declaration) → slice_get entries at ≡ Some old
-    → (entry : Declaration) × (slice_get (with_kind number kind entries) at ≡ Some entry) × IsSameEntry old entry
-retyped-put number kind [] at old h = absurd (cc)
-retyped-put zero kind (first ∷ others) zero old h =
-    (record old { kind = kind }, ap (λ (it : Declaration). Some (record it { kind = kind })) (injected first old h), record { name = refl; sort = refl; linkage = refl })
-retyped-put zero kind (first ∷ others) (suc at) old h = (old, h, same-itself old)
-retyped-put (suc number) kind (first ∷ others) zero old h = (old, h, same-itself old)
-retyped-put (suc number) kind (first ∷ others) (suc at) old h = retyped-put number kind others at old h
 
 -- ---- the types of entries
 
@@ -332,7 +276,11 @@ module _ (s : Standing) (lawful : IsLawful s) (number : ℕ) (kind : CType) (sco
   retyping linked = record s { known = record s.known { scopes = scopes; declared = with_kind number kind s.known.declared }; linked = linked }
 
   same-length : length (with_kind number kind s.known.declared) ≡ length s.known.declared
-  same-length = retyped-length number kind s.known.declared
+  same-length = kind-length number kind s.known.declared
+
+  same-entries : (at : ℕ) (entry : Declaration) → slice_get s.known.declared at ≡ Some entry
+      → (later : Declaration) × (slice_get (with_kind number kind s.known.declared) at ≡ Some later) × IsSameEntry entry later
+  same-entries at entry h = let one = kind-put number kind s.known.declared at entry h in (one.0, one.1, changed-same number kind at entry one.0 one.2)
 
   -- with one declaration more of what has linkage
   module _ (x : Linked) (same : x.number ≡ number) (already : is_linked number s.linked ≡ true) (proper : IsProper x.kind)
@@ -342,47 +290,58 @@ module _ (s : Standing) (lawful : IsLawful s) (number : ℕ) (kind : CType) (sco
     linked-before n h =
         ⊎_elim (λ old. old) (λ new. subst (λ m. is_linked m s.linked ≡ true) (sym same ∙ same-numbers x.number n new) already) (linked-back x n s.linked h)
 
+    again-kinds : (n : ℕ) (entry : Declaration) (bound : CType) → is_linked n (s.linked ++ x ∷ []) ≡ true → slice_get (with_kind number kind s.known.declared) n ≡ Some entry
+        → IsBound bound n (s.linked ++ x ∷ []) → IsTrue (covers bound entry.kind)
+    unfolding IsChanged
+    again-kinds n entry bound is h b =
+        let one = kind-get number kind s.known.declared n entry h in
+        let before = bound-front x bound n s.linked b in
+        ⊎_elim
+        (λ other. subst (λ (it : Declaration). IsTrue (covers bound it.kind)) (sym other.1) (lawful.kinds n one.0 bound (linked-before n is) one.1 before))
+        (λ now. subst (λ (it : Declaration). IsTrue (covers bound it.kind)) (sym now.1)
+        (most bound (subst (λ m. IsBound bound m s.linked) now.0 before) (bound-last x bound n s.linked b (numbers-same x.number n (same ∙ sym now.0))))) one.2
+
     pub again-agrees : AgreeOn s (retyping (s.linked ++ x ∷ []))
     again-agrees = record {
       within = λ n h. let one = lawful.within n (linked-before n h) in let l = same-length in omega (arith, one, l);
       agree = agree-push x s.linked lawful.proper lawful.agree fits;
       proper = proper-push x s.linked lawful.proper proper;
-      kinds = λ n entry bound is h b.
-          let was = retyped-get number kind s.known.declared n entry h in
-          let before = bound-front x bound n s.linked b in
-          ⊎_elim
-          (λ now. subst (λ type. IsTrue (covers bound type)) (sym now.1)
-          (most bound (subst (λ m. IsBound bound m s.linked) now.0 before) (bound-last x bound n s.linked b (numbers-same x.number n (same ∙ sym now.0)))))
-          (λ other. subst (λ type. IsTrue (covers bound type)) (sym other.1) (lawful.kinds n was.old bound (linked-before n is) was.at_old before)) was.is;
+      kinds = again-kinds;
       remembers = record {
         entries = let l = same-length in omega (arith, l);
-        declared = λ at entry h. retyped-put number kind s.known.declared at entry h;
+        declared = same-entries;
         linked = (x ∷ [], refl);
         unlinked = λ at inside h. linked-before at h;
       };
     }
 
   -- an entry without linkage, or one that has this type
-  pub other-agrees : (is_linked number s.linked ≡ true → (old : Declaration) → slice_get s.known.declared number ≡ Some old → old.kind ≡ kind) → AgreeOn s (retyping s.linked)
-  other-agrees typed = record {
-    within = λ n h. let one = lawful.within n h in let l = same-length in omega (arith, one, l);
-    agree = lawful.agree;
-    proper = lawful.proper;
-    kinds = λ n entry bound is h b.
-        let was = retyped-get number kind s.known.declared n entry h in
-        let before = lawful.kinds n was.old bound is was.at_old b in
+  module _ (typed : is_linked number s.linked ≡ true → (old : Declaration) → slice_get s.known.declared number ≡ Some old → old.kind ≡ kind) where
+    other-kinds : (n : ℕ) (entry : Declaration) (bound : CType) → is_linked n s.linked ≡ true → slice_get (with_kind number kind s.known.declared) n ≡ Some entry
+        → IsBound bound n s.linked → IsTrue (covers bound entry.kind)
+    unfolding IsChanged
+    other-kinds n entry bound is h b =
+        let one = kind-get number kind s.known.declared n entry h in
+        let before = lawful.kinds n one.0 bound is one.1 b in
         ⊎_elim
+        (λ other. subst (λ (it : Declaration). IsTrue (covers bound it.kind)) (sym other.1) before)
         (λ now.
-        let old = typed (subst (λ m. is_linked m s.linked ≡ true) now.0 is) was.old (subst (λ m. slice_get s.known.declared m ≡ Some was.old) now.0 was.at_old) in
-        subst (λ type. IsTrue (covers bound type)) (old ∙ sym now.1) before)
-        (λ other. subst (λ type. IsTrue (covers bound type)) (sym other.1) before) was.is;
-    remembers = record {
-      entries = let l = same-length in omega (arith, l);
-      declared = λ at entry h. retyped-put number kind s.known.declared at entry h;
-      linked = ([], sym (append-nil s.linked));
-      unlinked = λ at inside h. h;
-    };
-  }
+        let old = typed (subst (λ m. is_linked m s.linked ≡ true) now.0 is) one.0 (subst (λ m. slice_get s.known.declared m ≡ Some one.0) now.0 one.1) in
+        subst (λ (it : Declaration). IsTrue (covers bound it.kind)) (sym now.1) (subst (λ type. IsTrue (covers bound type)) old before)) one.2
+
+    pub other-agrees : AgreeOn s (retyping s.linked)
+    other-agrees = record {
+      within = λ n h. let one = lawful.within n h in let l = same-length in omega (arith, one, l);
+      agree = lawful.agree;
+      proper = lawful.proper;
+      kinds = other-kinds;
+      remembers = record {
+        entries = let l = same-length in omega (arith, l);
+        declared = same-entries;
+        linked = ([], sym (append-nil s.linked));
+        unlinked = λ at inside h. h;
+      };
+    }
 
 -- ---- a new entry
 
@@ -460,12 +419,6 @@ module _ (s : Standing) (lawful : IsLawful s) (entry : Declaration) (defines : B
 
 -- ---- C2
 
-seen-covered : (bound kind : CType) (visible : Bool) (found : Option Declaration) → ((old : Declaration) → found ≡ Some old → IsProper old.kind × (covers bound old.kind ≡ true))
-    → covers bound kind ≡ true → covers bound (kind_with kind visible found) ≡ true
-seen-covered bound kind true (Some old) was c = let one = was old refl in covers-joined bound old.kind kind one.0 one.1 c
-seen-covered bound kind true None was c = c
-seen-covered bound kind false found was c = c
-
 -- a typedef again has the same type
 typedef-kind : (test : Bool) (found : Option ℕ) (entries : List Declaration) (number : ℕ) (entry : Declaration) → found ≡ Some number
     → is_some (if test then option_and_then (slice_get entries) found else None) ≡ true
@@ -508,8 +461,8 @@ module _ (s : Standing) (entry : Declaration) (defines : Bool) (lawful : IsLawfu
 
       most : (bound : CType) → IsBound bound number s.linked → covers bound entry.kind ≡ true → covers bound (kind_from_here s.known entry (Some number)) ≡ true
       most bound b c =
-          seen-covered bound entry.kind (is_number (number_of s.known.scopes entry.name) number) (slice_get s.known.declared number)
-          (λ was at. (entries number was at, lawful.kinds number was bound already at b)) c
+          seen-by (λ type. covers bound type ≡ true) entry.kind (is_number (number_of s.known.scopes entry.name) number) (slice_get s.known.declared number) old.0 old.1 c
+          (covers-joined bound old.0.kind entry.kind (entries number old.0 old.1) (lawful.kinds number old.0 bound already old.1 b) c)
 
   by-number : (found : Option ℕ) → number_shared s entry.name ≡ found → agrees_if_there s entry found ≡ true
       → AgreeOn s (behind_name s (kind_from_here s.known entry found) entry true found defines)
@@ -577,8 +530,9 @@ module _ (s : Standing) (lawful : IsLawful s) (number : ℕ) (kind : CType) (pro
 
   object-united : (linked : Bool) → IsUnited (object linked)
   object-united linked name at entry means is linkage =
-      let was = retyped-get number kind s.known.declared at entry is in
-      object-names linked name at (lawful.united name at was.old means was.at_old (ap has_linkage (sym was.same.linkage) ∙ linkage))
+      let one = kind-get number kind s.known.declared at entry is in
+      let same = changed-same number kind at one.0 entry one.2 in
+      object-names linked name at (lawful.united name at one.0 means one.1 (ap has_linkage (sym same.linkage) ∙ linkage))
 
   pub object-agrees : (entry : Declaration) → MayBeDefined s (has_linkage entry.linkage) number kind → AgreeOn s (object_here s entry number kind)
   object-agrees entry may = object-by (has_linkage entry.linkage) may

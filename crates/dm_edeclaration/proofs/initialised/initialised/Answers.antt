@@ -1,5 +1,5 @@
 -- The initialiser completes the type.
-use Rattle.std.specs.Prelude.{◌||◌, not, true, [], refl}
+use Rattle.std.specs.Prelude.{◌||◌, not, [], refl}
 use Rattle.std.proofs.Common.{sym, ap, ◌∙◌}
 use Rattle.dm_syn.specs.Views as syntax
 use Rattle.dm_tree.specs.Initialisers.{is_object, is_function_sort}

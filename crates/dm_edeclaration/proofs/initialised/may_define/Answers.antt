@@ -1,5 +1,5 @@
 -- The type is compared with that of all declarations.
-use Rattle.std.specs.Prelude.{◌&&◌, not, true, false}
+use Rattle.std.specs.Prelude.{◌&&◌, not}
 use Rattle.std.proofs.Common.{sym, ap, ap₂, ◌∙◌}
 use Rattle.dm_type.specs.Alike.{are_compatible}
 use Rattle.dm_typing.proofs.LaterLemmas.{type-later}
