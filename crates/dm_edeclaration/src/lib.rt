@@ -3,7 +3,7 @@
 
 pub mod declarable;
 pub mod declarations;
-pub mod initialised;
+mod initialised;
 pub mod items;
 pub mod mains;
 pub mod specified;
