@@ -4,7 +4,6 @@ ghost use Rattle.std.specs.Prelude.{◌≡◌, List, IfOk};
 ghost use Rattle.dm_type.specs.declared.shape.Shape.{Shape as OneShape};
 ghost use Rattle.dm_type.specs.Tables.{IsId};
 ghost use Rattle.dm_syn.specs.Views as syntax;
-ghost use Rattle.dm_tree.specs.Initialisers as initialisers;
 ghost use Rattle.dm_typing.specs.Views.{Begins, type_over, known_over, source_of, Grows};
 ghost use Rattle.dm_edecl.specs.Declaring as declaring;
 ghost use Rattle.dm_edecl.specs.Linkages as linkages;
@@ -18,7 +17,7 @@ use crate::mains::may_be_main;
 use crate::specified::Specification;
 use dm_edeclarator::declarators::declarator_name;
 use dm_estanding::Links;
-use dm_estanding::redeclaring::{kind_seen, may_be_declared};
+use dm_estanding::redeclaring::{is_object, kind_seen, may_be_declared};
 use dm_estanding::storage::{Storage, is_file_scope};
 use dm_syn::Declarator;
 use dm_token::Stop;
@@ -42,20 +41,6 @@ fn is_extern(storage: Storage) -> bool
     ensures { result ≡ linkages.is_extern (storage_seen storage) }
 {
     matches!(storage, Storage::Extern)
-}
-
-/// Whether it is an object.
-pub fn is_object(sort: Sort) -> bool
-    ensures { result ≡ initialisers.is_object sort }
-{
-    matches!(sort, Sort::Object { fixed: _ })
-}
-
-/// Whether it is a function.
-pub fn is_function_sort(sort: Sort) -> bool
-    ensures { result ≡ initialisers.is_function_sort sort }
-{
-    matches!(sort, Sort::Function)
 }
 
 /// Whether a function in a block is `static` (6.7.1p7).

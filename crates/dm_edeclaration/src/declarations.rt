@@ -10,12 +10,12 @@ ghost use Rattle.dm_edecl.specs.Declaring as declaring;
 ghost use Rattle.dm_estanding.specs.Proceeding.{Proceeds};
 ghost use Rattle.dm_edeclaration.specs.Steps.{items_over, ItemsFit, summed, are_functions_in, may_be_inline_in};
 
-use crate::declarable::is_function_sort;
 use crate::items::{TypedLocals, typed_items};
 use crate::specified::{Specification, specified};
 use dm_edeclarator::places::replace_constants;
 use dm_edeclarator::specifiers::Where;
 use dm_estanding::Standing;
+use dm_estanding::redeclaring::is_function_sort;
 use dm_syn::{Declaration, Specifiers};
 use dm_token::{List, Memory, Stop};
 use dm_tree::{Core, Local};

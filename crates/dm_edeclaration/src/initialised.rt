@@ -16,10 +16,10 @@ ghost use Rattle.dm_estanding.specs.Proceeding.{Proceeds};
 ghost use Rattle.dm_estanding.specs.Summaries.{StandsFor};
 ghost use Rattle.dm_edeclaration.specs.Steps.{bare_over, LocalFits, Means, IsNamed, ProceedsWhere, object_initialised};
 
-use crate::declarable::{is_function_sort, is_object};
 use dm_einitial::lengths::completed;
 use dm_einitial::lists::{expressions_alone, typed_initialiser};
 use dm_estanding::Standing;
+use dm_estanding::redeclaring::{is_function_sort, is_object};
 use dm_estanding::storage::{has_linkage, is_file_scope};
 use dm_syn::Initialiser;
 use dm_token::{Span, Stop, Text};

@@ -11,12 +11,13 @@ ghost use Rattle.dm_estanding.specs.Proceeding.{Proceeds};
 ghost use Rattle.dm_estanding.specs.Summaries.{storage_seen};
 ghost use Rattle.dm_edeclaration.specs.Steps.{specified_over, SpecifiedFits, bare_over, LocalFits, typed_over, TypedFits, item_of, together, items_over, ItemsFit, joined};
 
-use crate::declarable::{declarable, is_object, name_at};
+use crate::declarable::{declarable, name_at};
 use crate::initialised::{Object, initialised};
 use crate::specified::Specification;
 use dm_edeclarator::places::replace_constants;
 use dm_eexpr::syntax::declared_type;
 use dm_estanding::Standing;
+use dm_estanding::redeclaring::is_object;
 use dm_estanding::storage::{Storage, entry_of};
 use dm_syn::{Declarator, InitDeclarator, Initialiser};
 use dm_token::{List, Memory, Span, Stop};

@@ -43,14 +43,14 @@ fn is_typedef(sort: Sort) -> bool
 }
 
 /// Whether it is an object.
-fn is_object(sort: Sort) -> bool
+pub fn is_object(sort: Sort) -> bool
     ensures { result ≡ initialisers.is_object sort }
 {
     matches!(sort, Sort::Object { fixed: _ })
 }
 
 /// Whether it is a function.
-fn is_function_sort(sort: Sort) -> bool
+pub fn is_function_sort(sort: Sort) -> bool
     ensures { result ≡ initialisers.is_function_sort sort }
 {
     matches!(sort, Sort::Function)
