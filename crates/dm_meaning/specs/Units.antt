@@ -5,6 +5,7 @@
 use Rattle.std.specs.Prelude.{◌≡◌, ℕ, suc, ◌+◌, ◌==◌, Bool, true, false, not, ◌&&◌, List, [], ◌∷◌, ◌++◌, map, length, take, drop, Option, Some, None, ℤ, pos, is_some, if◌then◌else◌}
 use Rattle.dm_int.specs.declared.Kind.TheVariants.{Int, Char}
 use Rattle.dm_int.specs.declared.Op.{Op}
+use Rattle.dm_int.specs.Kinds as kinds
 use Rattle.dm_int.specs.Operators as operators
 use Rattle.dm_type.specs.CTypes.{CType, integer, pointer, array, bare}
 use Rattle.dm_type.specs.Tables.{Table}
@@ -167,9 +168,9 @@ abbrev pub number_or : Option ℤ → Pointer → ℤ
 number_or (Some z) p = z
 number_or None p = operators.truth (not (is_null p))
 
--- the value that an expression gives an object of this type (6.7.9p4)
+-- the value that an expression gives an object of this type, converted to it (6.7.9p4, p11)
 abbrev pub static_scalar : Program → Objects → Memory → CType → Tree → Value
-static_scalar program objects memory (integer kind) tree = integer_value kind (number_or (constant_of program tree) (address_of program objects memory tree))
+static_scalar program objects memory (integer kind) tree = integer_value kind (kinds.convert kind (number_or (constant_of program tree) (address_of program objects memory tree)))
 static_scalar program objects memory (pointer target) tree = pointer_value (address_of program objects memory tree)
 static_scalar program objects memory (array element count) tree = array_of (array element count) (characters_of tree)
 static_scalar program objects memory kind tree = unset
