@@ -16,8 +16,8 @@ use Rattle.dm_meaning.specs.declared.cause.Cause.TheVariants.{Unset, Life, Const
 use Rattle.dm_meaning.specs.Values.{Name, numbered, literal_of, elsewhere, part, part_value, At, Pointer, null, to, Value, integer_value, pointer_value, parts as compound, unset}
 use Rattle.dm_meaning.specs.Memory.{Memory, Block, look_up, look, lives, may_be_written, reached, written, contents_at, or_unset}
 use Rattle.dm_meaning.specs.Programs.{layout}
-use Rattle.dm_meaning.specs.Causes.{earliest, when, is_unset, is_fixed, is_null, target_of, absence_causes, access_causes, read_causes, store_causes, update_causes, use_causes, follow_causes, moved_pointer, moved_causes, pointer_distance, distance_causes, order_causes}
-use Rattle.dm_meaning.specs.Operations.{Result, of_value, designates, Operand, World, Scene, Did, gives, breaks, ends_with, decided, provided, unless, plain, typed, is_of_kind, number_alone, or_null, or_zero, truth_in, pointer_minus, byte_at, equal_pointers, ordered, equated, update_at, count_at, faulted, on_one, on_two, on_value, on_set, ill, on_place, designated, object_named, read_at, followed, member_of, converted, convert_bare, Truth, holds, untold, truth_of, on_truth, signed, on_pointers, on_move, on_plus, pointer_plus, combined, store_at, Made, replace_at, operate}
+use Rattle.dm_meaning.specs.Causes.{earliest, when, is_unset, is_fixed, is_null, absence_causes, access_causes, read_causes, store_causes, update_causes, use_causes, follow_causes, moved_pointer, moved_causes, pointer_distance, distance_causes, order_causes}
+use Rattle.dm_meaning.specs.Operations.{Result, of_value, designates, Operand, World, Scene, Did, gives, breaks, ends_with, decided, provided, unless, plain, typed, is_of_kind, number_alone, or_null, or_zero, truth_in, pointer_minus, byte_at, equal_pointers, ordered, equated, update_at, count_at, faulted, on_one, on_two, on_value, on_set, ill, on_place, designated, object_named, read_at, followed, member_of, converted, convert_bare, Truth, holds, untold, truth_of, on_truth, signed, on_pointers, on_move, on_plus, pointer_plus, combined, store_at, Made, replace_at, operate, on_target, pointer_further}
 use Rattle.dm_meaning.specs.MoreObjects.{IsMade, IsMadeName}
 use Rattle.dm_meaning.proofs.ExtendLemmas.{nil_left, nil_right, when_false, access_absence}
 
@@ -159,19 +159,24 @@ module _ (scene : Scene) (world : World) (locks : List At) where
   equated_changes kind sense a b =
       unless_changes (use_causes world.memory a ++ use_causes world.memory b) (plain world (truth_in kind (sense (equal_pointers scene world a b)))) unchanged
 
-  pointers_change : (kind target : CType) (op : Op) (a b : Pointer) → DidChanges (on_pointers scene world kind target op a b)
-  pointers_change kind target Sub a b = minus_changes kind target a b
-  pointers_change kind target Less a b = ordered_changes kind Less a b
-  pointers_change kind target Greater a b = ordered_changes kind Greater a b
-  pointers_change kind target LessEq a b = ordered_changes kind LessEq a b
-  pointers_change kind target GreaterEq a b = ordered_changes kind GreaterEq a b
-  pointers_change kind target Equal a b = equated_changes kind (λ truth. truth) a b
-  pointers_change kind target NotEqual a b = equated_changes kind not a b
-  pointers_change kind target op a b = tt
+  target_changes : (kind : CType) (next : CType → Did) → ((target : CType) → DidChanges (next target)) → DidChanges (on_target kind next)
+  target_changes (pointer target) next h = h target
+  target_changes kind next h = tt
+
+  pointers_change : (kind left : CType) (op : Op) (a b : Pointer) → DidChanges (on_pointers scene world kind left op a b)
+  pointers_change kind left Sub a b = target_changes left _ (λ target. minus_changes kind target a b)
+  pointers_change kind left Less a b = ordered_changes kind Less a b
+  pointers_change kind left Greater a b = ordered_changes kind Greater a b
+  pointers_change kind left LessEq a b = ordered_changes kind LessEq a b
+  pointers_change kind left GreaterEq a b = ordered_changes kind GreaterEq a b
+  pointers_change kind left Equal a b = equated_changes kind (λ truth. truth) a b
+  pointers_change kind left NotEqual a b = equated_changes kind not a b
+  pointers_change kind left op a b = tt
 
   plus_changes : (kind : CType) (p : Pointer) (m : ℤ) → DidChanges (pointer_plus scene world kind p m)
   plus_changes kind p m =
-      unless_changes (moved_causes (layout scene.program) world.memory (target_of kind) p m) (plain world (pointer_value (or_null (moved_pointer (layout scene.program) world.memory (target_of kind) p m)))) unchanged
+      target_changes kind (λ target. pointer_further scene world target p m)
+      (λ target. unless_changes (moved_causes (layout scene.program) world.memory target p m) (plain world (pointer_value (or_null (moved_pointer (layout scene.program) world.memory target p m)))) unchanged)
 
   move_changes : (op : Op) (m : ℤ) (next : ℤ → Did) → ((z : ℤ) → DidChanges (next z)) → DidChanges (on_move op m next)
   move_changes Add m next h = h m
@@ -186,7 +191,7 @@ module _ (scene : Scene) (world : World) (locks : List At) where
   combined_changes kind left op (integer_value j x) (integer_value k y) = provided_changes (is_right op j y) _ (faulted_changes (operators.binary op j x y) (number_alone world kind) (number_changes kind))
   combined_changes kind left op (pointer_value p) (integer_value k y) = move_changes op y (pointer_plus scene world kind p) (plus_changes kind p)
   combined_changes kind left op (integer_value j x) (pointer_value q) = on_plus_changes op (pointer_plus scene world kind q x) (plus_changes kind q x)
-  combined_changes kind left op (pointer_value p) (pointer_value q) = pointers_change kind (target_of left) op p q
+  combined_changes kind left op (pointer_value p) (pointer_value q) = pointers_change kind left op p q
   combined_changes kind left op (integer_value j x) (compound all) = tt
   combined_changes kind left op (integer_value j x) unset = tt
   combined_changes kind left op (pointer_value p) (compound all) = tt

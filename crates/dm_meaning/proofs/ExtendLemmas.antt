@@ -18,8 +18,8 @@ use Rattle.dm_meaning.specs.Values.{Name, numbered, literal_of, elsewhere, part,
 use Rattle.dm_meaning.specs.Objects.{Layout}
 use Rattle.dm_meaning.specs.Memory.{Memory, Block, look_up, look, changed_block, written, reached_in, value_in, or_unset, contents_at, lives, may_be_written}
 use Rattle.dm_meaning.specs.Programs.{layout}
-use Rattle.dm_meaning.specs.Causes.{earliest, when, is_outside, is_other, is_fixed, is_unset, is_unset_object, absence_causes, access_causes, read_causes, store_causes, update_causes, is_null, use_causes, follow_causes, target_of, path_moved, pointer_along, moved_pointer, moved_causes, distance_in, pointer_distance, distance_causes, in_one_object, order_causes}
-use Rattle.dm_meaning.specs.Operations.{Result, of_value, designates, Operand, World, Scene, Did, gives, unless, plain, typed, faulted, on_one, on_two, on_value, on_set, ill, on_place, object_named, designated, read_at, followed, member_of, truth_in, converted, convert_bare, told, truth_of, on_truth, signed, or_null, pointer_plus, or_zero, pointer_minus, byte_in_block, byte_at, equal_pointers, ordered, equated, on_pointers, on_move, on_plus, combined, store_at, Made, made_pointer, updated, counted, move_of, replace_at, operate, provided, is_of_kind, number_alone}
+use Rattle.dm_meaning.specs.Causes.{earliest, when, is_outside, is_other, is_fixed, is_unset, is_unset_object, absence_causes, access_causes, read_causes, store_causes, update_causes, is_null, use_causes, follow_causes, path_moved, pointer_along, moved_pointer, moved_causes, distance_in, pointer_distance, distance_causes, in_one_object, order_causes}
+use Rattle.dm_meaning.specs.Operations.{Result, of_value, designates, Operand, World, Scene, Did, gives, unless, plain, typed, faulted, on_one, on_two, on_value, on_set, ill, on_place, object_named, designated, read_at, followed, member_of, truth_in, converted, convert_bare, told, truth_of, on_truth, signed, or_null, pointer_plus, or_zero, pointer_minus, byte_in_block, byte_at, equal_pointers, ordered, equated, on_pointers, on_move, on_plus, combined, store_at, Made, made_pointer, updated, counted, move_of, replace_at, operate, provided, is_of_kind, number_alone, on_target, pointer_further}
 use Rattle.dm_meaning.proofs.OptionLemmas.{mapped_some}
 use Rattle.dm_meaning.specs.Extending.{HasAll, Extends, AreAmong, SameUnlessUndefined}
 
@@ -320,12 +320,19 @@ module _ (scene : Scene) (world more : World) (extends : Extends more world) (lo
         same,
       )
 
-  plus_same : (kind : CType) (p : Pointer) (n : ℤ) → SameUnlessUndefined (pointer_plus scene world kind p n) (pointer_plus scene more kind p n)
-  plus_same kind p n =
-      unless_same (moved_causes (layout scene.program) world.memory (target_of kind) p n) (moved_causes (layout scene.program) more.memory (target_of kind) p n)
-      (plain world (pointer_value (or_null (moved_pointer (layout scene.program) world.memory (target_of kind) p n)))) (plain more (pointer_value (or_null (moved_pointer (layout scene.program) more.memory (target_of kind) p n)))) (λ e.
-      let same = moved_causes_same (target_of kind) p n e in
+  further_same : (target : CType) (p : Pointer) (n : ℤ) → SameUnlessUndefined (pointer_further scene world target p n) (pointer_further scene more target p n)
+  further_same target p n =
+      unless_same (moved_causes (layout scene.program) world.memory target p n) (moved_causes (layout scene.program) more.memory target p n)
+      (plain world (pointer_value (or_null (moved_pointer (layout scene.program) world.memory target p n)))) (plain more (pointer_value (or_null (moved_pointer (layout scene.program) more.memory target p n)))) (λ e.
+      let same = moved_causes_same target p n e in
       (same.0, plain_equal _ _ (sym (ap (λ o. pointer_value (or_null o)) same.1))))
+
+  target_same : (kind : CType) (next other : CType → Did) → ((target : CType) → SameUnlessUndefined (next target) (other target)) → SameUnlessUndefined (on_target kind next) (on_target kind other)
+  target_same (pointer target) next other h = h target
+  target_same kind next other h = tt
+
+  plus_same : (kind : CType) (p : Pointer) (n : ℤ) → SameUnlessUndefined (pointer_plus scene world kind p n) (pointer_plus scene more kind p n)
+  plus_same kind p n = target_same kind (λ target. pointer_further scene world target p n) (λ target. pointer_further scene more target p n) (λ target. further_same target p n)
 
   distance_same : (target : CType) (a b : Pointer) → use_causes world.memory a ≡ [] → pointer_distance (layout scene.program) more.memory target a b ≡ pointer_distance (layout scene.program) world.memory target a b
   distance_same target null b e = refl
@@ -386,23 +393,23 @@ module _ (scene : Scene) (world more : World) (extends : Extends more world) (lo
         plain_equal _ _ (sym (ap (λ b'. truth_in kind (sense b')) (equal_same a b used_a used_b))),
       ))
 
-  pointers_same : (kind target : CType) (op : Op) (a b : Pointer) → SameUnlessUndefined (on_pointers scene world kind target op a b) (on_pointers scene more kind target op a b)
-  pointers_same kind target Sub a b = minus_same kind target a b
-  pointers_same kind target Less a b = ordered_same kind Less a b
-  pointers_same kind target Greater a b = ordered_same kind Greater a b
-  pointers_same kind target LessEq a b = ordered_same kind LessEq a b
-  pointers_same kind target GreaterEq a b = ordered_same kind GreaterEq a b
-  pointers_same kind target Equal a b = equated_same kind (λ truth. truth) a b
-  pointers_same kind target NotEqual a b = equated_same kind not a b
-  pointers_same kind target Add a b = tt
-  pointers_same kind target Mul a b = tt
-  pointers_same kind target Div a b = tt
-  pointers_same kind target Rem a b = tt
-  pointers_same kind target Shl a b = tt
-  pointers_same kind target Shr a b = tt
-  pointers_same kind target And a b = tt
-  pointers_same kind target Xor a b = tt
-  pointers_same kind target Or a b = tt
+  pointers_same : (kind left : CType) (op : Op) (a b : Pointer) → SameUnlessUndefined (on_pointers scene world kind left op a b) (on_pointers scene more kind left op a b)
+  pointers_same kind left Sub a b = target_same left _ _ (λ target. minus_same kind target a b)
+  pointers_same kind left Less a b = ordered_same kind Less a b
+  pointers_same kind left Greater a b = ordered_same kind Greater a b
+  pointers_same kind left LessEq a b = ordered_same kind LessEq a b
+  pointers_same kind left GreaterEq a b = ordered_same kind GreaterEq a b
+  pointers_same kind left Equal a b = equated_same kind (λ truth. truth) a b
+  pointers_same kind left NotEqual a b = equated_same kind not a b
+  pointers_same kind left Add a b = tt
+  pointers_same kind left Mul a b = tt
+  pointers_same kind left Div a b = tt
+  pointers_same kind left Rem a b = tt
+  pointers_same kind left Shl a b = tt
+  pointers_same kind left Shr a b = tt
+  pointers_same kind left And a b = tt
+  pointers_same kind left Xor a b = tt
+  pointers_same kind left Or a b = tt
 
   move_same : (op : Op) (n : ℤ) (next other : ℤ → Did) → ((z : ℤ) → SameUnlessUndefined (next z) (other z)) → SameUnlessUndefined (on_move op n next) (on_move op n other)
   move_same Add n next other h = h n
@@ -417,7 +424,7 @@ module _ (scene : Scene) (world more : World) (extends : Extends more world) (lo
   combined_same kind left op (integer_value j m) (integer_value k n) = provided_same (is_right op j n) _ _ (faulted_same (operators.binary op j m n) (number_alone world kind) (number_alone more kind) (number_same kind))
   combined_same kind left op (pointer_value p) (integer_value k n) = move_same op n (pointer_plus scene world kind p) (pointer_plus scene more kind p) (plus_same kind p)
   combined_same kind left op (integer_value j m) (pointer_value q) = on_plus_same op (pointer_plus scene world kind q m) (pointer_plus scene more kind q m) (plus_same kind q m)
-  combined_same kind left op (pointer_value p) (pointer_value q) = pointers_same kind (target_of left) op p q
+  combined_same kind left op (pointer_value p) (pointer_value q) = pointers_same kind left op p q
   combined_same kind left op (integer_value j m) (compound all) = tt
   combined_same kind left op (integer_value j m) unset = tt
   combined_same kind left op (pointer_value p) (compound all) = tt
@@ -444,9 +451,10 @@ module _ (scene : Scene) (world more : World) (extends : Extends more world) (lo
   SameMade made other = made.causes ≡ [] → (other.causes ≡ []) × (made.value ≡ other.value)
 
   made_pointer_same : (kind : CType) (p : Pointer) (n : ℤ) → SameMade (made_pointer scene world kind p n) (made_pointer scene more kind p n)
-  made_pointer_same kind p n e =
-      let same = moved_causes_same (target_of kind) p n e in
+  made_pointer_same (pointer target) p n e =
+      let same = moved_causes_same target p n e in
       (same.0, sym (ap (λ o. pointer_value (or_null o)) same.1))
+  made_pointer_same kind p n e = (e, refl)
 
   updated_same : (kind : CType) (op : Op) (works : CType) (a b : Value) → SameMade (updated scene world kind op works a b) (updated scene more kind op works a b)
   updated_same kind op works (integer_value k m) (integer_value j n) = λ e. (e, refl)

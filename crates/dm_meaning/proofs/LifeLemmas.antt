@@ -21,8 +21,8 @@ use Rattle.dm_meaning.specs.Values.{Name, numbered, literal_of, elsewhere, part,
 use Rattle.dm_meaning.specs.Memory.{Memory, Block, look_up, changed_block, written, killed, contents_at, or_unset, IsFresh}
 use Rattle.dm_meaning.specs.Primitives.{Answer, answers, stops, refuses, Prim}
 use Rattle.dm_meaning.specs.Programs.{Program, Definition, layout, declaration_of, definition_of}
-use Rattle.dm_meaning.specs.Causes.{earliest, when, is_unset, is_null, target_of, read_causes, store_causes, update_causes, use_causes, follow_causes, moved_pointer, moved_causes, pointer_distance, distance_causes, order_causes}
-use Rattle.dm_meaning.specs.Operations.{Result, of_value, designates, Operand, World, Scene, Objects, Did, gives, breaks, ends_with, decided, unless, plain, typed, or_null, or_zero, truth_in, pointer_minus, byte_at, equal_pointers, ordered, equated, update_at, count_at, faulted, on_one, on_two, on_value, on_set, ill, on_place, designated, object_named, read_at, followed, member_of, converted, convert_bare, Truth, holds, untold, truth_of, on_truth, signed, on_pointers, on_move, on_plus, pointer_plus, combined, store_at, Made, replace_at, operate, provided, is_of_kind, number_alone}
+use Rattle.dm_meaning.specs.Causes.{earliest, when, is_unset, is_null, read_causes, store_causes, update_causes, use_causes, follow_causes, moved_pointer, moved_causes, pointer_distance, distance_causes, order_causes}
+use Rattle.dm_meaning.specs.Operations.{Result, of_value, designates, Operand, World, Scene, Objects, Did, gives, breaks, ends_with, decided, unless, plain, typed, or_null, or_zero, truth_in, pointer_minus, byte_at, equal_pointers, ordered, equated, update_at, count_at, faulted, on_one, on_two, on_value, on_set, ill, on_place, designated, object_named, read_at, followed, member_of, converted, convert_bare, Truth, holds, untold, truth_of, on_truth, signed, on_pointers, on_move, on_plus, pointer_plus, combined, store_at, Made, replace_at, operate, provided, is_of_kind, number_alone, on_target, pointer_further}
 use Rattle.dm_meaning.specs.Running.{Doing, evaluates, gives_truth, gives_value, Run, done, to_do, Runs, no_runs, more_runs, locks_in, locks_in_all, Open, first_open, others_open, open_parts, operands_in, Hole, within, Holes, in_first, in_others}
 use Rattle.dm_meaning.specs.Expressions.{Move, goes, calls, fails, exits, lifted, as_move, by_truth, on_operand, value_of, answered, undefined_called, called, call_step, function_named, nth_run, form_step, node_step, own_or_inner, where_open, moves, moves_in}
 use Rattle.dm_meaning.specs.States.{Use, drops, chooses, selects, repeats, continues, returns, initialises, Task, begins, declares, initials, evaluates as evaluating, again, tests, ends, ends_switch, leaves, skips, hands_back, Caller, State}
@@ -232,19 +232,24 @@ module _ (n : ℕ) where
     equated_keeps kind sense a b =
         unless_keeps (use_causes world.memory a ++ use_causes world.memory b) (plain world (truth_in kind (sense (equal_pointers scene world a b)))) alive
 
-    pointers_keep : (kind target : CType) (op : Op) (a b : Pointer) → DidKeeps (on_pointers scene world kind target op a b)
-    pointers_keep kind target Sub a b = minus_keeps kind target a b
-    pointers_keep kind target Less a b = ordered_keeps kind Less a b
-    pointers_keep kind target Greater a b = ordered_keeps kind Greater a b
-    pointers_keep kind target LessEq a b = ordered_keeps kind LessEq a b
-    pointers_keep kind target GreaterEq a b = ordered_keeps kind GreaterEq a b
-    pointers_keep kind target Equal a b = equated_keeps kind (λ truth. truth) a b
-    pointers_keep kind target NotEqual a b = equated_keeps kind not a b
-    pointers_keep kind target op a b = tt
+    target_keeps : (kind : CType) (next : CType → Did) → ((target : CType) → DidKeeps (next target)) → DidKeeps (on_target kind next)
+    target_keeps (pointer target) next h = h target
+    target_keeps kind next h = tt
+
+    pointers_keep : (kind left : CType) (op : Op) (a b : Pointer) → DidKeeps (on_pointers scene world kind left op a b)
+    pointers_keep kind left Sub a b = target_keeps left _ (λ target. minus_keeps kind target a b)
+    pointers_keep kind left Less a b = ordered_keeps kind Less a b
+    pointers_keep kind left Greater a b = ordered_keeps kind Greater a b
+    pointers_keep kind left LessEq a b = ordered_keeps kind LessEq a b
+    pointers_keep kind left GreaterEq a b = ordered_keeps kind GreaterEq a b
+    pointers_keep kind left Equal a b = equated_keeps kind (λ truth. truth) a b
+    pointers_keep kind left NotEqual a b = equated_keeps kind not a b
+    pointers_keep kind left op a b = tt
 
     plus_keeps : (kind : CType) (p : Pointer) (m : ℤ) → DidKeeps (pointer_plus scene world kind p m)
     plus_keeps kind p m =
-        unless_keeps (moved_causes (layout scene.program) world.memory (target_of kind) p m) (plain world (pointer_value (or_null (moved_pointer (layout scene.program) world.memory (target_of kind) p m)))) alive
+        target_keeps kind (λ target. pointer_further scene world target p m)
+        (λ target. unless_keeps (moved_causes (layout scene.program) world.memory target p m) (plain world (pointer_value (or_null (moved_pointer (layout scene.program) world.memory target p m)))) alive)
 
     move_keeps : (op : Op) (m : ℤ) (next : ℤ → Did) → ((z : ℤ) → DidKeeps (next z)) → DidKeeps (on_move op m next)
     move_keeps Add m next h = h m
@@ -259,7 +264,7 @@ module _ (n : ℕ) where
     combined_keeps kind left op (integer_value j x) (integer_value k y) = provided_keeps (is_right op j y) _ (faulted_keeps (operators.binary op j x y) (number_alone world kind) (number_keeps kind))
     combined_keeps kind left op (pointer_value p) (integer_value k y) = move_keeps op y (pointer_plus scene world kind p) (plus_keeps kind p)
     combined_keeps kind left op (integer_value j x) (pointer_value q) = on_plus_keeps op (pointer_plus scene world kind q x) (plus_keeps kind q x)
-    combined_keeps kind left op (pointer_value p) (pointer_value q) = pointers_keep kind (target_of left) op p q
+    combined_keeps kind left op (pointer_value p) (pointer_value q) = pointers_keep kind left op p q
     combined_keeps kind left op (integer_value j x) (compound all) = tt
     combined_keeps kind left op (integer_value j x) unset = tt
     combined_keeps kind left op (pointer_value p) (compound all) = tt

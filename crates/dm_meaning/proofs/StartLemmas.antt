@@ -50,8 +50,12 @@ module _ (program : Program) (objects : Objects) (memory : Memory) where
   no_address_convert kind spans no_trees below form = refl
   no_address_convert kind spans (more_trees first rest) below form = below.0 (and_right _ _ form)
 
+  null_moved : (kind : CType) (z : ℤ) → pointer_moved program memory kind null z ≡ null
+  null_moved (pointer target) z = refl
+  null_moved kind z = refl
+
   moved_null : (kind : CType) (p : Pointer) (z : ℤ) → p ≡ null → pointer_moved program memory kind p z ≡ null
-  moved_null kind p z e = ap (λ q. pointer_moved program memory kind q z) e
+  moved_null kind p z e = ap (λ q. pointer_moved program memory kind q z) e ∙ null_moved kind z
 
   if_both : {A : Type 0} (b : Bool) (x y z : A) → x ≡ z → y ≡ z → (if b then x else y) ≡ z
   if_both true x y z e f = e

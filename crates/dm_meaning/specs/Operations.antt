@@ -25,7 +25,7 @@ use Rattle.dm_meaning.specs.Values.{Name, numbered, literal_of, part, Path, At, 
 use Rattle.dm_meaning.specs.Objects.{Layout, byte_of}
 use Rattle.dm_meaning.specs.Programs.{Program, layout, declaration_of}
 use Rattle.dm_meaning.specs.Memory.{Memory, Block, look, contents_at, or_unset, written}
-use Rattle.dm_meaning.specs.Causes.{earliest, when, fault_cause, read_causes, store_causes, update_causes, use_causes, follow_causes, moved_pointer, moved_causes, pointer_distance, distance_causes, order_causes, target_of, is_null, is_unset}
+use Rattle.dm_meaning.specs.Causes.{earliest, when, fault_cause, read_causes, store_causes, update_causes, use_causes, follow_causes, moved_pointer, moved_causes, pointer_distance, distance_causes, order_causes, is_null, is_unset}
 
 -- what evaluating an expression gives (6.5p1)
 pub data Result : Type 0 where
@@ -221,15 +221,23 @@ signed world kind Not value = on_truth (truth_of world.memory value) (λ truth. 
 signed world kind sign (integer_value other z) = faulted (unary_value sign other z) (number_alone world kind)
 signed world kind sign value = ill
 
+-- what a type points to; in no typed tree has a pointer that moves another type
+abbrev pub on_target : CType → (CType → Did) → Did
+on_target (pointer type) next = next type
+on_target type next = ill
+
 -- the pointer a number of elements on from another (6.5.6p8)
 abbrev pub or_null : Option Pointer → Pointer
 or_null None = null
 or_null (Some p) = p
 
+abbrev pub pointer_further : Scene → World → CType → Pointer → ℤ → Did
+pointer_further scene world target p n =
+    unless (moved_causes (layout scene.program) world.memory target p n)
+    (plain world (pointer_value (or_null (moved_pointer (layout scene.program) world.memory target p n))))
+
 abbrev pub pointer_plus : Scene → World → CType → Pointer → ℤ → Did
-pointer_plus scene world kind p n =
-    unless (moved_causes (layout scene.program) world.memory (target_of kind) p n)
-    (plain world (pointer_value (or_null (moved_pointer (layout scene.program) world.memory (target_of kind) p n))))
+pointer_plus scene world kind p n = on_target kind (λ target. pointer_further scene world target p n)
 
 abbrev pub or_zero : Option ℤ → ℤ
 or_zero None = pos 0
@@ -265,16 +273,16 @@ abbrev pub equated : Scene → World → CType → (Bool → Bool) → Pointer �
 equated scene world kind sense a b =
     unless (use_causes world.memory a ++ use_causes world.memory b) (plain world (truth_in kind (sense (equal_pointers scene world a b))))
 
--- a binary operator on two pointers; `target` is what the first points to
+-- a binary operator on two pointers, of which the first has the type `left`
 abbrev pub on_pointers : Scene → World → CType → CType → Op → Pointer → Pointer → Did
-on_pointers scene world kind target Sub a b = pointer_minus scene world kind target a b
-on_pointers scene world kind target Less a b = ordered scene world kind Less a b
-on_pointers scene world kind target Greater a b = ordered scene world kind Greater a b
-on_pointers scene world kind target LessEq a b = ordered scene world kind LessEq a b
-on_pointers scene world kind target GreaterEq a b = ordered scene world kind GreaterEq a b
-on_pointers scene world kind target Equal a b = equated scene world kind (λ truth. truth) a b
-on_pointers scene world kind target NotEqual a b = equated scene world kind not a b
-on_pointers scene world kind target op a b = ill
+on_pointers scene world kind left Sub a b = on_target left (λ target. pointer_minus scene world kind target a b)
+on_pointers scene world kind left Less a b = ordered scene world kind Less a b
+on_pointers scene world kind left Greater a b = ordered scene world kind Greater a b
+on_pointers scene world kind left LessEq a b = ordered scene world kind LessEq a b
+on_pointers scene world kind left GreaterEq a b = ordered scene world kind GreaterEq a b
+on_pointers scene world kind left Equal a b = equated scene world kind (λ truth. truth) a b
+on_pointers scene world kind left NotEqual a b = equated scene world kind not a b
+on_pointers scene world kind left op a b = ill
 
 -- the number of elements by which += or -=, or + or -, moves a pointer
 abbrev pub on_move : Op → ℤ → (ℤ → Did) → Did
@@ -293,7 +301,7 @@ combined scene world kind left op (integer_value a m) (integer_value b n) =
     provided (is_right op a n) (faulted (operators.binary op a m n) (number_alone world kind))
 combined scene world kind left op (pointer_value p) (integer_value b n) = on_move op n (pointer_plus scene world kind p)
 combined scene world kind left op (integer_value a m) (pointer_value q) = on_plus op (pointer_plus scene world kind q m)
-combined scene world kind left op (pointer_value p) (pointer_value q) = on_pointers scene world kind (target_of left) op p q
+combined scene world kind left op (pointer_value p) (pointer_value q) = on_pointers scene world kind left op p q
 combined scene world kind left op a b = ill
 
 -- ---- assignments (6.5.16, 6.5.2.4, 6.5.3.1)
@@ -322,11 +330,15 @@ abbrev pub made_right : Bool → Made → Made
 made_right true made = made
 made_right false made = made_ill
 
-abbrev pub made_pointer : Scene → World → CType → Pointer → ℤ → Made
-made_pointer scene world kind p n = record {
-  causes = moved_causes (layout scene.program) world.memory (target_of kind) p n;
-  value = pointer_value (or_null (moved_pointer (layout scene.program) world.memory (target_of kind) p n));
+abbrev pub made_further : Scene → World → CType → Pointer → ℤ → Made
+made_further scene world target p n = record {
+  causes = moved_causes (layout scene.program) world.memory target p n;
+  value = pointer_value (or_null (moved_pointer (layout scene.program) world.memory target p n));
 }
+
+abbrev pub made_pointer : Scene → World → CType → Pointer → ℤ → Made
+made_pointer scene world (pointer target) p n = made_further scene world target p n
+made_pointer scene world kind p n = made_ill
 
 -- the causes that don't depend on the object's value
 abbrev pub causes_anyway : Op → Kind → ℤ → List Cause

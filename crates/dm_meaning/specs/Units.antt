@@ -17,7 +17,7 @@ use Rattle.dm_meaning.specs.Machines.{Machine, going}
 use Rattle.dm_meaning.specs.Values.{Name, numbered, literal_of, elsewhere, part, past, Pointer, null, to, Value, integer_value, pointer_value, parts, unset, values, parts_in}
 use Rattle.dm_meaning.specs.Objects.{inner_type, all_zero}
 use Rattle.dm_meaning.specs.Memory.{Memory, new_block, literal_block, written, IsFresh}
-use Rattle.dm_meaning.specs.Causes.{target_of, is_null, moved_pointer}
+use Rattle.dm_meaning.specs.Causes.{is_null, moved_pointer}
 use Rattle.dm_meaning.specs.Programs.{Definition, Static, Program, layout, declaration_at, declaration_of, constant_of}
 use Rattle.dm_meaning.specs.Operations.{Objects, object_named, whole, part_of, move_of, or_zero}
 use Rattle.dm_meaning.specs.States.{State}
@@ -121,7 +121,8 @@ or_beyond null None = null
 or_beyond (to at) None = to (record { name = at.name; path = past ∷ past ∷ [] })
 
 abbrev pub pointer_moved : Program → Memory → CType → Pointer → ℤ → Pointer
-pointer_moved program memory kind p n = or_beyond p (moved_pointer (layout program) memory (target_of kind) p n)
+pointer_moved program memory (pointer target) p n = or_beyond p (moved_pointer (layout program) memory target p n)
+pointer_moved program memory kind p n = null
 
 abbrev pub is_pointer : CType → Bool
 is_pointer (pointer target) = true
