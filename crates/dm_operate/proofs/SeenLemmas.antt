@@ -1,0 +1,14 @@
+-- What values of each form stand for.
+use Rattle.std.proofs.Common.{◌≡◌, rules, ap, ◌∙◌}
+use Rattle.dm_meaning.specs.Values as values
+use Rattle.dm_value.specs.declared.value.Pointer.{Pointer}
+use Rattle.dm_value.specs.declared.value.Value as q
+use Rattle.dm_value.specs.declared.value.Value.{Value}
+use Rattle.dm_value.specs.declared.value.Value.TheVariants as form
+use Rattle.dm_value.specs.Views.{view_of_pointer, view_of_value}
+
+pointer-view : (pointer : Pointer) → view_of_value (form.Pointer pointer) ≡ values.pointer_value (view_of_pointer pointer)
+pointer-view pointer = search (rules, q.the_lemmas)
+
+pub seen-Pointer : (value : Value) (pointer : Pointer) → value ≡ form.Pointer pointer → view_of_value value ≡ values.pointer_value (view_of_pointer pointer)
+seen-Pointer value pointer is = ap view_of_value is ∙ pointer-view pointer
