@@ -1,2 +1,3 @@
 pub mod ConversionLemmas
+pub mod MovedLemmas
 pub mod SeenLemmas
