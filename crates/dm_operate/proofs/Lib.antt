@@ -1,3 +1,4 @@
 pub mod ConversionLemmas
 pub mod MovedLemmas
 pub mod SeenLemmas
+pub mod StoreLemmas

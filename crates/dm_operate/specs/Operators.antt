@@ -41,7 +41,7 @@ IsFunction other = ⊥
 
 abbrev pub StandsLeaf : Table → Leaf → Label → Type 0
 StandsLeaf table (Number z) own = own ≡ label.number z
-StandsLeaf table (Literal bytes unit) own = own ≡ label.literal bytes.now unit
+StandsLeaf table (Literal bytes unit) own = own ≡ label.literal bytes unit
 StandsLeaf table Function own = IsFunction own
 StandsLeaf table (SizeofKind kind) own = own ≡ label.sizeof_kind (type_of table kind)
 

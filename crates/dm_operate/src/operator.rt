@@ -1,20 +1,19 @@
 //! The operator of a node, whatever its operands are.
 
-ghost use Rattle.std.specs.Prelude.{length, IsTrue};
-ghost use Rattle.dm_type.specs.Tables.{Table};
+ghost use Rattle.std.specs.Prelude.{length, IfOk, IsTrue};
 ghost use Rattle.dm_tree.specs.TypeNumbers.{are_known_in_form};
 ghost use Rattle.dm_tree.specs.Views.{opened_form};
 ghost use Rattle.dm_operate.specs.Operators.{Stands, IsKnownOperator};
 
 use dm_int::Op;
-use dm_token::Text;
+use dm_token::{Memory, Text};
 use dm_tree::{Form, Sign};
 use dm_type::{TypeId, Types};
 
 /// What a node does with its operands.
-#[derive(Clone, Copy)]
-pub enum Operator<'a> {
-    Leaf(Leaf<'a>),
+#[derive(Drop)]
+pub enum Operator {
+    Leaf(Leaf),
     Convert,
     Member(u32),
     Value(OnValue),
@@ -25,10 +24,10 @@ pub enum Operator<'a> {
 }
 
 /// The operators without operands.
-#[derive(Clone, Copy)]
-pub enum Leaf<'a> {
+#[derive(Drop)]
+pub enum Leaf {
     Number(i128),
-    Literal(&'a Text, u32),
+    Literal(Text, u32),
     Function,
     SizeofKind(TypeId),
 }
@@ -60,36 +59,36 @@ pub enum Two {
     Update(Op, TypeId),
 }
 
-/// The operator of a form.
-pub(crate) fn operator_of<'a>(types: &Types, form: &'a Form) -> Operator<'a>
+/// The operator of a form. It fails only where a counter of owners is full.
+pub(crate) fn operator_of(types: &Types, form: &Form) -> Result<Operator, Memory>
     requires { IsTrue (are_known_in_form (length types.now.shapes) form.now) }
-    ensures stands { Stands types.now result (opened_form types.now form.now).label }
-    ensures known { IsKnownOperator types.now result }
+    ensures stands { IfOk result (λ operator. Stands types.now operator (opened_form types.now form.now).label) }
+    ensures known { IfOk result (IsKnownOperator types.now) }
 {
     let _ = types;
     match form {
-        Form::Number(value) => Operator::Leaf(Leaf::Number(*value)),
-        Form::Literal(bytes, unit) => Operator::Leaf(Leaf::Literal(bytes, *unit)),
-        Form::Function(_) => Operator::Leaf(Leaf::Function),
-        Form::SizeofKind(kind, _) => Operator::Leaf(Leaf::SizeofKind(*kind)),
-        Form::Convert(_, _) => Operator::Convert,
-        Form::Member(_, number) => Operator::Member(*number),
-        Form::Follow(_) => Operator::Value(OnValue::Follow),
-        Form::Unary(sign, _) => Operator::Value(OnValue::Unary(*sign)),
-        Form::Read(_) => Operator::Place(OnPlace::Read),
-        Form::Decay(_) => Operator::Place(OnPlace::Decay),
-        Form::Address(_) => Operator::Place(OnPlace::Address),
+        Form::Number(value) => Ok(Operator::Leaf(Leaf::Number(*value))),
+        Form::Literal(bytes, unit) => Ok(Operator::Leaf(Leaf::Literal(bytes.copy()?, *unit))),
+        Form::Function(_) => Ok(Operator::Leaf(Leaf::Function)),
+        Form::SizeofKind(kind, _) => Ok(Operator::Leaf(Leaf::SizeofKind(*kind))),
+        Form::Convert(_, _) => Ok(Operator::Convert),
+        Form::Member(_, number) => Ok(Operator::Member(*number)),
+        Form::Follow(_) => Ok(Operator::Value(OnValue::Follow)),
+        Form::Unary(sign, _) => Ok(Operator::Value(OnValue::Unary(*sign))),
+        Form::Read(_) => Ok(Operator::Place(OnPlace::Read)),
+        Form::Decay(_) => Ok(Operator::Place(OnPlace::Decay)),
+        Form::Address(_) => Ok(Operator::Place(OnPlace::Address)),
         Form::Count {
             plus,
             before,
             object: _,
-        } => Operator::Place(OnPlace::Count {
+        } => Ok(Operator::Place(OnPlace::Count {
             plus: *plus,
             before: *before,
-        }),
-        Form::Binary(op, _, _) => Operator::Two(Two::Binary(*op)),
-        Form::Store(_, _) => Operator::Two(Two::Store),
-        Form::Update(op, works, _, _) => Operator::Two(Two::Update(*op, *works)),
-        _ => Operator::Other,
+        })),
+        Form::Binary(op, _, _) => Ok(Operator::Two(Two::Binary(*op))),
+        Form::Store(_, _) => Ok(Operator::Two(Two::Store)),
+        Form::Update(op, works, _, _) => Ok(Operator::Two(Two::Update(*op, *works))),
+        _ => Ok(Operator::Other),
     }
 }

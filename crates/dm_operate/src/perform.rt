@@ -26,6 +26,7 @@ use crate::places::{address, decay, follow, literal, member, read};
 use crate::signs::sign;
 use crate::stores::{count, store, update};
 use crate::sums::combine;
+use dm_int::Op;
 use dm_layout::Layout;
 use dm_memory::Blocks;
 use dm_token::Memory;
@@ -52,7 +53,7 @@ pub fn operate(
         (label_of (view layout.now node.now)) (type_of layout.now node.now.kind) (view_of_operands layout.now operands))) }
     ensures known { AreKnown layout.now blocks.new }
 {
-    let own = operator_of(layout.types(), &node.form);
+    let own = operator_of(layout.types(), &node.form)?;
     let did = performed(alloc, layout, blocks, locks, node.kind, own, operands)?;
     Ok(did)
 }
@@ -77,7 +78,7 @@ fn performed(
     ensures known { AreKnown layout.now blocks.new }
 {
     match own {
-        Operator::Leaf(leaf) => Ok(perform_leaf(layout, kind, leaf)?),
+        Operator::Leaf(leaf) => Ok(perform_leaf(layout, kind, leaf)),
         Operator::Convert => match operands.into_one() {
             Some(a) => Ok(convert(layout, blocks, kind, a.result)),
             None => Ok(Did::ill()),
@@ -95,7 +96,7 @@ fn performed(
             None => Ok(Did::ill()),
         },
         Operator::Two(own) => match operands.into_two() {
-            Some((a, b)) => Ok(perform_two(alloc, layout, blocks, locks, kind, own, a, b.result)?),
+            Some((a, b)) => Ok(perform_two(alloc, layout, blocks, locks, kind, &own, a, b.result)?),
             None => Ok(Did::ill()),
         },
         Operator::Other => Ok(Did::ill()),
@@ -103,17 +104,17 @@ fn performed(
 }
 
 /// The step of an operator without operands.
-fn perform_leaf(layout: &Layout, kind: TypeId, own: Leaf) -> Result<Did, Memory>
+fn perform_leaf(layout: &Layout, kind: TypeId, own: Leaf) -> Did
     requires kind { IsId layout.now kind }
     requires operator { IsKnownLeaf layout.now own }
     ensures { (label : Label) (blocks : List Block) (locks : List values.At) (operands : List operations.Operand) → StandsLeaf layout.now own label
-        → IfOk result (λ did. Does layout.now blocks blocks did (λ scene world. operations.operate scene world locks label (type_of layout.now kind) operands)) }
+        → Does layout.now blocks blocks result (λ scene world. operations.operate scene world locks label (type_of layout.now kind) operands) }
 {
     match own {
-        Leaf::Number(value) => Ok(number(layout, kind, value)),
-        Leaf::Literal(bytes, unit) => Ok(literal(bytes, unit)?),
-        Leaf::Function => Ok(Did::plain(Value::Unset)),
-        Leaf::SizeofKind(measured) => Ok(size(layout, kind, measured)),
+        Leaf::Number(value) => number(layout, kind, value),
+        Leaf::Literal(bytes, unit) => literal(bytes, unit),
+        Leaf::Function => Did::plain(Value::Unset),
+        Leaf::SizeofKind(measured) => size(layout, kind, measured),
     }
 }
 
@@ -187,54 +188,106 @@ fn perform_two(
     blocks: &mut Blocks,
     locks: &[At],
     kind: TypeId,
-    own: Two,
+    own: &Two,
     left: Operand,
     right: Evaluation,
 ) -> Result<Did, Memory>
     requires kind { IsId layout.now kind }
     requires known { AreKnown layout.now blocks.old }
-    requires operator { IsKnownTwo layout.now own }
+    requires operator { IsKnownTwo layout.now own.now }
     requires left { IsId layout.now left.kind }
-    ensures did { (label : Label) (type : CType) → StandsTwo layout.now own label
+    ensures did { (label : Label) (type : CType) → StandsTwo layout.now own.now label
         → IfOk result (λ did. Does layout.now blocks.old blocks.new did (λ scene world. operations.operate scene world (map view_of_at locks.now)
             label (type_of layout.now kind) (view_of_operand layout.now left ∷ record { kind = type; result = view_of_evaluation right } ∷ []))) }
     ensures known { AreKnown layout.now blocks.new }
 {
-    let Operand {
-        kind: left_kind,
-        result: left,
-    } = left;
-    match (own, left, right) {
-        (Two::Binary(op), Evaluation::Value(a), Evaluation::Value(b)) => Ok(combine(
-            alloc,
-            layout,
-            blocks,
-            kind,
-            left_kind,
-            op,
-            &a,
-            &b,
-        )?),
-        (Two::Store, Evaluation::Object(at), right) => Ok(store(
-            alloc,
-            layout,
-            blocks,
-            locks,
-            kind,
-            at,
-            right,
-        )?),
-        (Two::Update(op, works), Evaluation::Object(at), Evaluation::Value(right)) => Ok(update(
-            alloc,
-            layout,
-            blocks,
-            locks,
-            kind,
-            op,
-            works,
-            at,
-            &right,
-        )?),
-        _ => Ok(Did::ill()),
+    match own {
+        Two::Binary(op) => {
+            let did = combine_two(
+                alloc,
+                layout,
+                blocks,
+                kind,
+                left.kind,
+                *op,
+                &left.result,
+                &right,
+            )?;
+            Ok(did)
+        }
+        Two::Store => match left.result {
+            Evaluation::Object(at) => Ok(store(alloc, layout, blocks, locks, kind, at, right)?),
+            Evaluation::Value(_) => Ok(Did::ill()),
+        },
+        Two::Update(op, works) => match left.result {
+            Evaluation::Object(at) => {
+                let did = update_place(
+                    alloc,
+                    layout,
+                    blocks,
+                    locks,
+                    kind,
+                    *op,
+                    *works,
+                    at,
+                    &right,
+                )?;
+                Ok(did)
+            }
+            Evaluation::Value(_) => Ok(Did::ill()),
+        },
     }
+}
+
+/// A binary operator on two operands, the first of the type `left`.
+fn combine_two(
+    alloc: Global,
+    layout: &Layout,
+    blocks: &Blocks,
+    kind: TypeId,
+    left: TypeId,
+    op: Op,
+    a: &Evaluation,
+    b: &Evaluation,
+) -> Result<Did, Memory>
+    requires kind { IsId layout.now kind }
+    requires left { IsId layout.now left }
+    requires known { AreKnown layout.now blocks.now }
+    ensures { IfOk result (λ did. Does layout.now blocks.now blocks.now did (λ scene world. operations.on_value (view_of_evaluation a.now)
+        (λ x. operations.on_value (view_of_evaluation b.now) (operations.combined scene world (type_of layout.now kind) (type_of layout.now left) op x)))) }
+{
+    let Evaluation::Value(a) = a else {
+        return Ok(Did::ill());
+    };
+    let Evaluation::Value(b) = b else {
+        return Ok(Did::ill());
+    };
+    let did = combine(alloc, layout, blocks, kind, left, op, a, b)?;
+    Ok(did)
+}
+
+/// A compound assignment to an object.
+fn update_place(
+    alloc: Global,
+    layout: &Layout,
+    blocks: &mut Blocks,
+    locks: &[At],
+    kind: TypeId,
+    op: Op,
+    works: TypeId,
+    at: At,
+    right: &Evaluation,
+) -> Result<Did, Memory>
+    requires kind { IsId layout.now kind }
+    requires works { IsId layout.now works }
+    requires known { AreKnown layout.now blocks.old }
+    ensures did { IfOk result (λ did. Does layout.now blocks.old blocks.new did (λ scene world. operations.on_value (view_of_evaluation right.now)
+        (operations.update_at scene world (map view_of_at locks.now) (type_of layout.now kind) op (type_of layout.now works) (view_of_at at)))) }
+    ensures known { AreKnown layout.now blocks.new }
+{
+    let Evaluation::Value(right) = right else {
+        return Ok(Did::ill());
+    };
+    let did = update(alloc, layout, blocks, locks, kind, op, works, at, right)?;
+    Ok(did)
 }
