@@ -13,8 +13,6 @@ use Rattle.dm_operate.specs.declared.operator.OnPlace.{OnPlace}
 use Rattle.dm_operate.specs.declared.operator.OnPlace.TheVariants.{Read, Decay, Address, Count}
 use Rattle.dm_operate.specs.declared.operator.OnValue.{OnValue}
 use Rattle.dm_operate.specs.declared.operator.OnValue.TheVariants.{Follow, Unary}
-use Rattle.dm_operate.specs.declared.operator.Two.{Two}
-use Rattle.dm_operate.specs.declared.operator.Two.TheVariants.{Binary, Store, Update}
 
 -- the labels of nodes that have such a step; those of names apart
 abbrev pub has_step : Label → Bool
@@ -55,27 +53,20 @@ StandsOnPlace Decay own = own ≡ label.decay
 StandsOnPlace Address own = own ≡ label.address
 StandsOnPlace (Count plus before) own = own ≡ label.count plus before
 
-abbrev pub StandsTwo : Table → Two → Label → Type 0
-StandsTwo table (Binary op) own = own ≡ label.binary op
-StandsTwo table Store own = own ≡ label.store
-StandsTwo table (Update op works) own = own ≡ label.update op (type_of table works)
-
 abbrev pub Stands : Table → Operator → Label → Type 0
 Stands table (operator.Leaf leaf) own = StandsLeaf table leaf own
 Stands table operator.Convert own = own ≡ label.convert
 Stands table (operator.Member n) own = own ≡ label.member n
 Stands table (operator.Value one) own = StandsOnValue one own
 Stands table (operator.Place one) own = StandsOnPlace one own
-Stands table (operator.Two two) own = StandsTwo table two own
+Stands table (operator.Binary op) own = own ≡ label.binary op
+Stands table operator.Store own = own ≡ label.store
+Stands table (operator.Update op works) own = own ≡ label.update op (type_of table works)
 Stands table operator.Other own = has_step own ≡ false
 
 abbrev pub IsKnownLeaf : Table → Leaf → Type 0
 IsKnownLeaf table (SizeofKind kind) = IsId table kind
 IsKnownLeaf table leaf = Unit {0}
-
-abbrev pub IsKnownTwo : Table → Two → Type 0
-IsKnownTwo table (Update op works) = IsId table works
-IsKnownTwo table two = Unit {0}
 
 abbrev pub IsKnownOperator : Table → Operator → Type 0
 IsKnownOperator table (operator.Leaf leaf) = IsKnownLeaf table leaf
@@ -83,5 +74,7 @@ IsKnownOperator table operator.Convert = Unit {0}
 IsKnownOperator table (operator.Member n) = Unit {0}
 IsKnownOperator table (operator.Value one) = Unit {0}
 IsKnownOperator table (operator.Place one) = Unit {0}
-IsKnownOperator table (operator.Two two) = IsKnownTwo table two
+IsKnownOperator table (operator.Binary op) = Unit {0}
+IsKnownOperator table operator.Store = Unit {0}
+IsKnownOperator table (operator.Update op works) = IsId table works
 IsKnownOperator table operator.Other = Unit {0}

@@ -18,7 +18,9 @@ pub enum Operator {
     Member(u32),
     Value(OnValue),
     Place(OnPlace),
-    Two(Two),
+    Binary(Op),
+    Store,
+    Update(Op, TypeId),
     /// What has no such step: names, and the forms that don't evaluate all their operands or are no expressions.
     Other,
 }
@@ -51,14 +53,6 @@ pub enum OnPlace {
     },
 }
 
-/// The operators of two operands.
-#[derive(Clone, Copy)]
-pub enum Two {
-    Binary(Op),
-    Store,
-    Update(Op, TypeId),
-}
-
 /// The operator of a form. It fails only where a counter of owners is full.
 pub(crate) fn operator_of(types: &Types, form: &Form) -> Result<Operator, Memory>
     requires { IsTrue (are_known_in_form (length types.now.shapes) form.now) }
@@ -86,9 +80,9 @@ pub(crate) fn operator_of(types: &Types, form: &Form) -> Result<Operator, Memory
             plus: *plus,
             before: *before,
         })),
-        Form::Binary(op, _, _) => Ok(Operator::Two(Two::Binary(*op))),
-        Form::Store(_, _) => Ok(Operator::Two(Two::Store)),
-        Form::Update(op, works, _, _) => Ok(Operator::Two(Two::Update(*op, *works))),
+        Form::Binary(op, _, _) => Ok(Operator::Binary(*op)),
+        Form::Store(_, _) => Ok(Operator::Store),
+        Form::Update(op, works, _, _) => Ok(Operator::Update(*op, *works)),
         _ => Ok(Operator::Other),
     }
 }

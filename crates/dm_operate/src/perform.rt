@@ -16,12 +16,12 @@ ghost use Rattle.dm_value.specs.Views.{view_of_value};
 ghost use Rattle.dm_memory.specs.declared.blocks.Block.{Block};
 ghost use Rattle.dm_memory.specs.Blocks.{AreKnown};
 ghost use Rattle.dm_operate.specs.Evaluations.{asks_names, view_of_did, view_of_evaluation, view_of_operand, view_of_operands, AreKnownOperands, Does};
-ghost use Rattle.dm_operate.specs.Operators.{IsKnownLeaf, IsKnownOperator, IsKnownTwo, Stands, StandsLeaf, StandsOnPlace, StandsOnValue, StandsTwo};
+ghost use Rattle.dm_operate.specs.Operators.{IsKnownLeaf, IsKnownOperator, Stands, StandsLeaf, StandsOnPlace, StandsOnValue};
 
 use crate::conversions::convert;
 use crate::evaluation::{Did, Evaluation, Operand, Operands};
 use crate::numbers::number;
-use crate::operator::{Leaf, OnPlace, OnValue, Operator, Two, operator_of};
+use crate::operator::{Leaf, OnPlace, OnValue, Operator, operator_of};
 use crate::places::{address, decay, follow, literal, member, read};
 use crate::signs::sign;
 use crate::stores::{count, store, update};
@@ -95,8 +95,16 @@ fn performed(
             Some(at) => Ok(perform_on_place(alloc, layout, blocks, locks, kind, own, at)?),
             None => Ok(Did::ill()),
         },
-        Operator::Two(own) => match operands.into_two() {
-            Some((a, b)) => Ok(perform_two(alloc, layout, blocks, locks, kind, &own, a, b.result)?),
+        Operator::Binary(op) => match operands.into_two() {
+            Some((a, b)) => Ok(perform_binary(alloc, layout, blocks, kind, op, &a, &b)?),
+            None => Ok(Did::ill()),
+        },
+        Operator::Store => match operands.into_two() {
+            Some((a, b)) => Ok(perform_store(alloc, layout, blocks, locks, kind, a, b)?),
+            None => Ok(Did::ill()),
+        },
+        Operator::Update(op, works) => match operands.into_two() {
+            Some((a, b)) => Ok(perform_update(alloc, layout, blocks, locks, kind, op, works, a, b)?),
             None => Ok(Did::ill()),
         },
         Operator::Other => Ok(Did::ill()),
@@ -181,89 +189,84 @@ fn perform_on_place(
     }
 }
 
-/// The step of an operator of two operands.
-fn perform_two(
+/// A binary operator.
+fn perform_binary(
+    alloc: Global,
+    layout: &Layout,
+    blocks: &Blocks,
+    kind: TypeId,
+    op: Op,
+    a: &Operand,
+    b: &Operand,
+) -> Result<Did, Memory>
+    requires kind { IsId layout.now kind }
+    requires left { IsId layout.now a.now.kind }
+    requires known { AreKnown layout.now blocks.now }
+    ensures { IfOk result (λ did. Does layout.now blocks.now blocks.now did (λ scene world. operations.on_value (view_of_evaluation a.now.result)
+        (λ x. operations.on_value (view_of_evaluation b.now.result) (operations.combined scene world (type_of layout.now kind) (type_of layout.now a.now.kind) op x)))) }
+{
+    let Evaluation::Value(left) = &a.result else {
+        return Ok(Did::ill());
+    };
+    let Evaluation::Value(right) = &b.result else {
+        return Ok(Did::ill());
+    };
+    let did = combine(alloc, layout, blocks, kind, a.kind, op, left, right)?;
+    Ok(did)
+}
+
+/// An assignment (6.5.16.1).
+fn perform_store(
     alloc: Global,
     layout: &Layout,
     blocks: &mut Blocks,
     locks: &[At],
     kind: TypeId,
-    own: &Two,
-    left: Operand,
-    right: Evaluation,
+    a: Operand,
+    b: Operand,
 ) -> Result<Did, Memory>
     requires kind { IsId layout.now kind }
     requires known { AreKnown layout.now blocks.old }
-    requires operator { IsKnownTwo layout.now own.now }
-    requires left { IsId layout.now left.kind }
-    ensures did { (label : Label) (type : CType) → StandsTwo layout.now own.now label
-        → IfOk result (λ did. Does layout.now blocks.old blocks.new did (λ scene world. operations.operate scene world (map view_of_at locks.now)
-            label (type_of layout.now kind) (view_of_operand layout.now left ∷ record { kind = type; result = view_of_evaluation right } ∷ []))) }
+    ensures did { IfOk result (λ did. Does layout.now blocks.old blocks.new did (λ scene world. operations.on_place (view_of_evaluation a.result)
+        (λ at. operations.on_set (view_of_evaluation b.result) (operations.store_at scene world (map view_of_at locks.now) (type_of layout.now kind) at)))) }
     ensures known { AreKnown layout.now blocks.new }
 {
-    match own {
-        Two::Binary(op) => {
-            let did = combine_two(
-                alloc,
-                layout,
-                blocks,
-                kind,
-                left.kind,
-                *op,
-                &left.result,
-                &right,
-            )?;
+    match a.result {
+        Evaluation::Object(at) => {
+            let did = store(alloc, layout, blocks, locks, kind, at, b.result)?;
             Ok(did)
         }
-        Two::Store => match left.result {
-            Evaluation::Object(at) => Ok(store(alloc, layout, blocks, locks, kind, at, right)?),
-            Evaluation::Value(_) => Ok(Did::ill()),
-        },
-        Two::Update(op, works) => match left.result {
-            Evaluation::Object(at) => {
-                let did = update_place(
-                    alloc,
-                    layout,
-                    blocks,
-                    locks,
-                    kind,
-                    *op,
-                    *works,
-                    at,
-                    &right,
-                )?;
-                Ok(did)
-            }
-            Evaluation::Value(_) => Ok(Did::ill()),
-        },
+        Evaluation::Value(_) => Ok(Did::ill()),
     }
 }
 
-/// A binary operator on two operands, the first of the type `left`.
-fn combine_two(
+/// A compound assignment (6.5.16.2).
+fn perform_update(
     alloc: Global,
     layout: &Layout,
-    blocks: &Blocks,
+    blocks: &mut Blocks,
+    locks: &[At],
     kind: TypeId,
-    left: TypeId,
     op: Op,
-    a: &Evaluation,
-    b: &Evaluation,
+    works: TypeId,
+    a: Operand,
+    b: Operand,
 ) -> Result<Did, Memory>
     requires kind { IsId layout.now kind }
-    requires left { IsId layout.now left }
-    requires known { AreKnown layout.now blocks.now }
-    ensures { IfOk result (λ did. Does layout.now blocks.now blocks.now did (λ scene world. operations.on_value (view_of_evaluation a.now)
-        (λ x. operations.on_value (view_of_evaluation b.now) (operations.combined scene world (type_of layout.now kind) (type_of layout.now left) op x)))) }
+    requires works { IsId layout.now works }
+    requires known { AreKnown layout.now blocks.old }
+    ensures did { IfOk result (λ did. Does layout.now blocks.old blocks.new did (λ scene world. operations.on_place (view_of_evaluation a.result)
+        (λ at. operations.on_value (view_of_evaluation b.result)
+            (operations.update_at scene world (map view_of_at locks.now) (type_of layout.now kind) op (type_of layout.now works) at)))) }
+    ensures known { AreKnown layout.now blocks.new }
 {
-    let Evaluation::Value(a) = a else {
-        return Ok(Did::ill());
-    };
-    let Evaluation::Value(b) = b else {
-        return Ok(Did::ill());
-    };
-    let did = combine(alloc, layout, blocks, kind, left, op, a, b)?;
-    Ok(did)
+    match a.result {
+        Evaluation::Object(at) => {
+            let did = update_place(alloc, layout, blocks, locks, kind, op, works, at, b.result)?;
+            Ok(did)
+        }
+        Evaluation::Value(_) => Ok(Did::ill()),
+    }
 }
 
 /// A compound assignment to an object.
@@ -276,18 +279,20 @@ fn update_place(
     op: Op,
     works: TypeId,
     at: At,
-    right: &Evaluation,
+    right: Evaluation,
 ) -> Result<Did, Memory>
     requires kind { IsId layout.now kind }
     requires works { IsId layout.now works }
     requires known { AreKnown layout.now blocks.old }
-    ensures did { IfOk result (λ did. Does layout.now blocks.old blocks.new did (λ scene world. operations.on_value (view_of_evaluation right.now)
+    ensures did { IfOk result (λ did. Does layout.now blocks.old blocks.new did (λ scene world. operations.on_value (view_of_evaluation right)
         (operations.update_at scene world (map view_of_at locks.now) (type_of layout.now kind) op (type_of layout.now works) (view_of_at at)))) }
     ensures known { AreKnown layout.now blocks.new }
 {
-    let Evaluation::Value(right) = right else {
-        return Ok(Did::ill());
-    };
-    let did = update(alloc, layout, blocks, locks, kind, op, works, at, right)?;
-    Ok(did)
+    match right {
+        Evaluation::Value(right) => {
+            let did = update(alloc, layout, blocks, locks, kind, op, works, at, &right)?;
+            Ok(did)
+        }
+        Evaluation::Object(_) => Ok(Did::ill()),
+    }
 }
