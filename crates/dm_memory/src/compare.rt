@@ -92,7 +92,13 @@ pub fn pointer_distance(
 }
 
 /// The same of places.
-fn distance_between(layout: &Layout, blocks: &Blocks, target: TypeId, a: &At, b: &At) -> Option<i128>
+fn distance_between(
+    layout: &Layout,
+    blocks: &Blocks,
+    target: TypeId,
+    a: &At,
+    b: &At,
+) -> Option<i128>
     requires known { AreKnown layout.now blocks.now }
     requires target { IsId layout.now target }
     ensures { result ≡ table.pointer_distance (laid_out layout.now) (view_of_blocks layout.now blocks.now) (type_of layout.now target)

@@ -19,12 +19,7 @@ use dm_type::{Shape, TypeId};
 use dm_value::{Pointer, Value, converted};
 
 /// An operand converted to a type.
-pub(crate) fn convert(
-    layout: &Layout,
-    blocks: &Blocks,
-    kind: TypeId,
-    operand: Evaluation,
-) -> Did
+pub(crate) fn convert(layout: &Layout, blocks: &Blocks, kind: TypeId, operand: Evaluation) -> Did
     requires { IsId layout.now kind }
     ensures { Does layout.now blocks.now blocks.now result (λ scene world. operations.convert_to world (type_of layout.now kind) (view_of_evaluation operand)) }
 {

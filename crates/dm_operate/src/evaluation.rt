@@ -110,10 +110,12 @@ impl Operands {
             (λ value. operations.on_one (view_of_operands table self) (λ a. operations.on_value a.result next) ≡ next (view_of_value value)) }
     {
         match self {
-            Operands::One(Operand {
-                kind: _,
-                result: Evaluation::Value(value),
-            }) => Some(value),
+            Operands::One(
+                Operand {
+                    kind: _,
+                    result: Evaluation::Value(value),
+                },
+            ) => Some(value),
             _ => None,
         }
     }
@@ -125,10 +127,12 @@ impl Operands {
             (λ at. operations.on_one (view_of_operands table self) (λ a. operations.on_place a.result next) ≡ next (view_of_at at)) }
     {
         match self {
-            Operands::One(Operand {
-                kind: _,
-                result: Evaluation::Object(at),
-            }) => Some(at),
+            Operands::One(
+                Operand {
+                    kind: _,
+                    result: Evaluation::Object(at),
+                },
+            ) => Some(at),
             _ => None,
         }
     }

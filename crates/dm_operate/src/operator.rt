@@ -47,10 +47,7 @@ pub enum OnPlace {
     Read,
     Decay,
     Address,
-    Count {
-        plus: bool,
-        before: bool,
-    },
+    Count { plus: bool, before: bool },
 }
 
 /// The operator of a form. It fails only where a counter of owners is full.

@@ -14,7 +14,9 @@ use crate::evaluation::Did;
 use crate::numbers::{number, truth_value};
 use dm_int::Op;
 use dm_layout::Layout;
-use dm_memory::{Blocks, are_equal, byte_pointed, pointer_distance, to_compare, to_order, to_subtract};
+use dm_memory::{
+    Blocks, are_equal, byte_pointed, pointer_distance, to_compare, to_order, to_subtract,
+};
 use dm_token::Memory;
 use dm_type::{Shape, TypeId};
 use dm_value::{Pointer, Value};

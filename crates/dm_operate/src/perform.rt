@@ -74,7 +74,7 @@ fn performed(
     requires operands { AreKnownOperands layout.now operands }
     ensures did { (label : Label) → Stands layout.now own label → asks_names label ≡ false
         → IfOk result (λ did. Does layout.now blocks.old blocks.new did (λ scene world. operations.operate scene world (map view_of_at locks.now)
-            label (type_of layout.now kind) (view_of_operands layout.now operands))) }
+        label (type_of layout.now kind) (view_of_operands layout.now operands))) }
     ensures known { AreKnown layout.now blocks.new }
 {
     match own {
@@ -104,7 +104,9 @@ fn performed(
             None => Ok(Did::ill()),
         },
         Operator::Update(op, works) => match operands.into_two() {
-            Some((a, b)) => Ok(perform_update(alloc, layout, blocks, locks, kind, op, works, a, b)?),
+            Some((a, b)) => Ok(perform_update(
+                alloc, layout, blocks, locks, kind, op, works, a, b,
+            )?),
             None => Ok(Did::ill()),
         },
         Operator::Other => Ok(Did::ill()),
@@ -147,7 +149,7 @@ fn perform_on_value(
     requires kind { IsId layout.now kind }
     ensures { (label : Label) (type : CType) (locks : List values.At) → StandsOnValue own label
         → IfOk result (λ did. Does layout.now blocks.now blocks.now did (λ scene world. operations.operate scene world locks
-            label (type_of layout.now kind) (record { kind = type; result = operations.of_value (view_of_value value.now) } ∷ []))) }
+        label (type_of layout.now kind) (record { kind = type; result = operations.of_value (view_of_value value.now) } ∷ []))) }
 {
     match own {
         OnValue::Follow => Ok(follow(blocks, value)?),
@@ -169,7 +171,7 @@ fn perform_on_place(
     requires known { AreKnown layout.now blocks.old }
     ensures did { (label : Label) (type : CType) → StandsOnPlace own label
         → IfOk result (λ did. Does layout.now blocks.old blocks.new did (λ scene world. operations.operate scene world (map view_of_at locks.now)
-            label (type_of layout.now kind) (record { kind = type; result = operations.designates (view_of_at at) } ∷ []))) }
+        label (type_of layout.now kind) (record { kind = type; result = operations.designates (view_of_at at) } ∷ []))) }
     ensures known { AreKnown layout.now blocks.new }
 {
     match own {
@@ -177,14 +179,7 @@ fn perform_on_place(
         OnPlace::Decay => Ok(decay(alloc, &at)?),
         OnPlace::Address => Ok(address(alloc, at)?),
         OnPlace::Count { plus, before } => Ok(count(
-            alloc,
-            layout,
-            blocks,
-            locks,
-            kind,
-            plus,
-            before,
-            at,
+            alloc, layout, blocks, locks, kind, plus, before, at,
         )?),
     }
 }
@@ -257,7 +252,7 @@ fn perform_update(
     requires known { AreKnown layout.now blocks.old }
     ensures did { IfOk result (λ did. Does layout.now blocks.old blocks.new did (λ scene world. operations.on_place (view_of_evaluation a.result)
         (λ at. operations.on_value (view_of_evaluation b.result)
-            (operations.update_at scene world (map view_of_at locks.now) (type_of layout.now kind) op (type_of layout.now works) at)))) }
+        (operations.update_at scene world (map view_of_at locks.now) (type_of layout.now kind) op (type_of layout.now works) at)))) }
     ensures known { AreKnown layout.now blocks.new }
 {
     match a.result {

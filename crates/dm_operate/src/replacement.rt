@@ -79,10 +79,7 @@ pub(crate) fn update(
     let works = kind_in(layout, works);
     match (object, right) {
         (Value::Integer(object), Value::Integer(right)) => Ok(updated_number(
-            op,
-            works,
-            *object,
-            *right,
+            op, works, *object, *right,
         )),
         (Value::Pointer(pointer), Value::Integer(right)) => {
             let made = moved(
@@ -120,7 +117,14 @@ pub(crate) fn count(
     match object {
         Value::Integer(object) => Ok(counted_number(plus, *object)),
         Value::Pointer(pointer) => {
-            let made = moved(alloc, layout, blocks, kind, pointer, if plus { 1 } else { -1 })?;
+            let made = moved(
+                alloc,
+                layout,
+                blocks,
+                kind,
+                pointer,
+                if plus { 1 } else { -1 },
+            )?;
             Ok(made)
         }
         Value::Unset => Ok(Made {
