@@ -2,7 +2,7 @@
 use Rattle.std.proofs.Common.{◌≡◌, ◌≢◌, refl, sym, subst}
 use Rattle.dm_type.specs.CTypes as ctypes
 use Rattle.dm_type.specs.CTypes.{CType}
-use Rattle.dm_meaning.specs.Operations.{Result, World, Did, convert_bare, converted, on_set}
+use Rattle.dm_meaning.specs.Operations.{Result, World, convert_bare, converted, on_set}
 use Rattle.dm_operate.specs.declared.conversions.Target.{Target}
 use Rattle.dm_operate.specs.declared.conversions.Target.TheVariants.{Void, Integer, Pointer, Whole}
 use Rattle.dm_operate.specs.Targets.{IsTarget, IsWhole}

@@ -1,9 +1,9 @@
 -- A pointer moves by an integer.
-use Rattle.std.proofs.Common.{◌≡◌, to_z, of_z, rules, sym, ap, subst, ◌∙◌}
+use Rattle.std.proofs.Common.{◌≡◌, to_z, of_z, rules, sym, subst}
 use mir.Syntax.{w128}
 use Rattle.dm_type.specs.Tables.{type_of}
 use Rattle.dm_meaning.specs.Operations.{made_pointer, move_of, updated}
-use Rattle.dm_meaning.specs.Values.{integer_value, pointer_value}
+use Rattle.dm_meaning.specs.Values.{pointer_value}
 use Rattle.dm_memory.specs.Blocks.{view_of_blocks}
 use Rattle.dm_memory.specs.Scenes.{scene_in, world_in}
 use Rattle.dm_operate.specs.Replacements.{Is}
