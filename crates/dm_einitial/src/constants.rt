@@ -4,17 +4,17 @@ ghost use Rattle.std.specs.Prelude.{◌≡◌, pos, false, IsTrue, List as Seque
 ghost use Rattle.dm_type.specs.declared.shape.Shape.{Shape as OneShape};
 ghost use Rattle.dm_type.specs.Layouts.{size_of};
 ghost use Rattle.dm_type.specs.Tables.{IsId, type_of};
-ghost use Rattle.dm_int.specs.Kinds.{InRange, is_in_range};
-ghost use Rattle.dm_int.specs.Operators.{IsRight};
 ghost use Rattle.dm_tree.specs.Constants as constants;
-ghost use Rattle.dm_tree.specs.Evaluation.{is_right, is_true};
+ghost use Rattle.dm_tree.specs.Evaluation.{is_true};
 ghost use Rattle.dm_tree.specs.Views.{entries_of, view};
 ghost use Rattle.dm_typing.specs.Fitting.{IsNumbered};
 ghost use Rattle.dm_typing.specs.Views.{Begins, seen, view_over, known_over};
 ghost use Rattle.dm_edecl.specs.Initialising as initialising;
 
-use dm_int::{Kind, Op, binary, convert, greatest, least};
-use dm_tree::{Core, Form, Sign, Sort, has_constant_form, is_nonzero, unary};
+use dm_int::{Kind, Op, binary, convert};
+use dm_tree::{
+    Core, Form, Sign, Sort, has_constant_form, in_range, is_nonzero, may_stand_right, unary,
+};
 use dm_type::{TypeId, Types};
 use dm_typing::Known;
 use dm_typing::looks::integer_kind;
@@ -265,20 +265,4 @@ fn truth_of(value: Option<i128>) -> Option<i128>
 {
     let value = value?;
     Some(i128::from(is_nonzero(value)))
-}
-
-/// Whether a number is a value of the kind.
-fn in_range(kind: Kind, value: i128) -> bool
-    ensures test { result ≡ is_in_range kind value }
-    ensures fact { IsTrue result → InRange kind value }
-{
-    least(kind) <= value && value <= greatest(kind)
-}
-
-/// Whether a number may stand on the right of an operator on values of the kind.
-fn may_stand_right(op: Op, kind: Kind, value: i128) -> bool
-    ensures test { result ≡ is_right op kind value }
-    ensures fact { IsTrue result → IsRight op kind value }
-{
-    op == Op::Shl || op == Op::Shr || in_range(kind, value)
 }
