@@ -1,0 +1,63 @@
+//! What a statement stands within.
+
+ghost use Rattle.std.specs.Prelude.{◌≡◌, true, IfOk};
+ghost use Rattle.dm_type.specs.Tables.{IsId};
+ghost use Rattle.dm_type.specs.declared.shape.Shape.TheVariants.{Void};
+ghost use Rattle.dm_typing.specs.Views.{IsNumberOf, Grows};
+ghost use Rattle.dm_estatement.specs.Parts.{WithinFits};
+
+use dm_token::Memory;
+use dm_type::{Shape, TypeId};
+use dm_typing::Known;
+
+/// A function, and whether a loop or a switch is round a statement in it.
+#[derive(Clone, Copy)]
+pub struct Within {
+    /// The type of the function's result.
+    pub result: TypeId,
+    /// The type of each statement's node: void.
+    pub statement: TypeId,
+    /// Whether `break` may stand here.
+    pub breaks: bool,
+    /// Whether `continue` may.
+    pub continues: bool,
+}
+
+impl Within {
+    /// Within the body of a function of this result, and no loop and no switch.
+    pub fn function(known: &mut Known, result: TypeId) -> Result<Within, Memory>
+        requires { IsId known.old.types result }
+        ensures fits { IfOk result (WithinFits known.new.types) }
+        ensures made { IfOk result (λ within. (within.result ≡ result)) }
+        ensures grows { Grows known.old known.new }
+    {
+        let statement = known.intern(Shape::Void)?;
+        Ok(Within {
+            result,
+            statement,
+            breaks: false,
+            continues: false,
+        })
+    }
+
+    /// Within a loop.
+    pub(crate) fn in_loop(self) -> Within
+        ensures { result ≡ record self { breaks = true; continues = true } }
+    {
+        Within {
+            breaks: true,
+            continues: true,
+            ..self
+        }
+    }
+
+    /// Within a switch.
+    pub(crate) fn in_switch(self) -> Within
+        ensures { result ≡ record self { breaks = true } }
+    {
+        Within {
+            breaks: true,
+            ..self
+        }
+    }
+}
