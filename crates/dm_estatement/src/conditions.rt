@@ -110,11 +110,11 @@ pub(crate) fn typed_subject(
     ensures { Follows SubjectFits subject_over (source_of typer.now) known.old known.new result (λ later. statements.typed_subject (setting_of typer.now) (known_over later known.old) (syntax.expr expr.now)) }
 {
     let value = value_of(typer, known, true, expr)?;
-    subject(typer, known, expr.span.first, value)
+    integer_operand(typer, known, expr.span.first, value)
 }
 
 /// A value that is an integer, promoted.
-fn subject(
+fn integer_operand(
     typer: &Typer<'_>,
     known: &mut Known,
     here: u32,

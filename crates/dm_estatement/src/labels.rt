@@ -70,7 +70,7 @@ pub(crate) fn typed_case(
     labels: &Labels,
     expr: &Expr,
 ) -> Result<CaseValue, Stop>
-    ensures { Follows CaseFits case_over (source_of typer.now) known.old known.new result (λ later. statements.typed_case (setting_of typer.now) (known_over later known.old) kind (labels_of labels.now) (syntax.expr expr.now)) }
+    ensures follows { Follows CaseFits case_over (source_of typer.now) known.old known.new result (λ later. statements.typed_case (setting_of typer.now) (known_over later known.old) kind (labels_of labels.now) (syntax.expr expr.now)) }
     ensures fresh { IfOk result (λ one. statements.is_label_among (Some one.value) (labels_of labels.now) ≡ false) }
 {
     let value = value_of(typer, known, true, expr)?;

@@ -1,6 +1,6 @@
 //! The nodes of statements.
 
-ghost use Rattle.std.specs.Prelude.{◌≡◌, ℕ, ◌&&◌, nat_lt, is_some, [], ◌∷◌, ◌++◌, length, map, option_map, IfOk};
+ghost use Rattle.std.specs.Prelude.{◌≡◌, ℕ, true, ◌&&◌, nat_lt, is_some, [], ◌∷◌, ◌++◌, length, map, option_map, IfOk};
 ghost use Rattle.dm_type.specs.Tables.{Table, type_of};
 ghost use Rattle.dm_tree.specs.Trees as label;
 ghost use Rattle.dm_tree.specs.TypeNumbers.{are_known, are_known_in_local, all_pass, passes_if_there};
@@ -24,7 +24,7 @@ pub(crate) struct Clauses {
 }
 
 /// A statement's own tokens.
-pub(crate) fn extent(span: Span) -> Extent
+fn extent(span: Span) -> Extent
     ensures { result ≡ typing.extent span span }
 {
     Extent {
@@ -204,8 +204,42 @@ pub(crate) fn for_loop(
     let body = typer.boxed(body)?;
     let first = boxed_if(typer, first)?;
     let condition = boxed_if(typer, condition)?;
-    let form = Form::For(first, condition, boxed_if(typer, step)?, body);
-    Ok(typer.made(extent(span), form, kind))
+    let step = boxed_if(typer, step)?;
+    Ok(for_boxed(typer, kind, span, first, condition, step, body))
+}
+
+/// The same of trees that are boxed.
+fn for_boxed(
+    typer: &Typer<'_>,
+    kind: TypeId,
+    span: Span,
+    first: Option<Boxed<Core>>,
+    condition: Option<Boxed<Core>>,
+    step: Option<Boxed<Core>>,
+    body: Boxed<Core>,
+) -> Core
+    ensures view { (types : Table) → view types result ≡ made (source_of typer.now) (typing.extent span span) (label.for_loop (is_some first) (is_some condition) (is_some step)) (type_of types kind)
+        (if_there (option_map (view types) first) ++ (if_there (option_map (view types) condition) ++ (if_there (option_map (view types) step) ++ view types body ∷ []))) }
+    ensures known { (n : ℕ) → are_known n result ≡ (nat_lt kind n && (passes_if_there (option_map (are_known n) first) && (passes_if_there (option_map (are_known n) condition)
+        && (passes_if_there (option_map (are_known n) step) && are_known n body)))) }
+{
+    typer.made(extent(span), Form::For(first, condition, step, body), kind)
+}
+
+/// `break` (6.8.6.3).
+pub(crate) fn breaking(typer: &Typer<'_>, kind: TypeId, span: Span) -> Core
+    ensures view { (types : Table) → view types result ≡ made (source_of typer.now) (typing.extent span span) label.break (type_of types kind) [] }
+    ensures known { (n : ℕ) → are_known n result ≡ (nat_lt kind n && true) }
+{
+    typer.made(extent(span), Form::Break, kind)
+}
+
+/// `continue` (6.8.6.2).
+pub(crate) fn continuing(typer: &Typer<'_>, kind: TypeId, span: Span) -> Core
+    ensures view { (types : Table) → view types result ≡ made (source_of typer.now) (typing.extent span span) label.continue (type_of types kind) [] }
+    ensures known { (n : ℕ) → are_known n result ≡ (nat_lt kind n && true) }
+{
+    typer.made(extent(span), Form::Continue, kind)
 }
 
 /// `return` (6.8.6.4).

@@ -1,6 +1,6 @@
 //! What a statement stands within.
 
-ghost use Rattle.std.specs.Prelude.{◌≡◌, true, IfOk};
+ghost use Rattle.std.specs.Prelude.{◌≡◌, true, false, IfOk};
 ghost use Rattle.dm_type.specs.Tables.{IsId};
 ghost use Rattle.dm_type.specs.declared.shape.Shape.TheVariants.{Void};
 ghost use Rattle.dm_typing.specs.Views.{IsNumberOf, Grows};
@@ -25,15 +25,17 @@ pub struct Within {
 
 impl Within {
     /// Within the body of a function of this result, and no loop and no switch.
-    pub fn function(known: &mut Known, result: TypeId) -> Result<Within, Memory>
-        requires { IsId known.old.types result }
+    pub fn function(known: &mut Known, answer: TypeId) -> Result<Within, Memory>
+        requires { IsId known.old.types answer }
         ensures fits { IfOk result (WithinFits known.new.types) }
-        ensures made { IfOk result (λ within. (within.result ≡ result)) }
+        ensures answer { IfOk result (λ within. within.result ≡ answer) }
+        ensures breaks { IfOk result (λ within. within.breaks ≡ false) }
+        ensures continues { IfOk result (λ within. within.continues ≡ false) }
         ensures grows { Grows known.old known.new }
     {
         let statement = known.intern(Shape::Void)?;
         Ok(Within {
-            result,
+            result: answer,
             statement,
             breaks: false,
             continues: false,

@@ -1,0 +1,5 @@
+pub mod LabelLemmas
+pub mod NodeLemmas
+pub mod StepLemmas
+pub mod FollowLemmas
+pub mod CallLemmas
