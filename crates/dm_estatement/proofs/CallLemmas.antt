@@ -1,6 +1,6 @@
 -- Calls in their order, and what is made of what they give.
-use Rattle.std.specs.Prelude.{◌≡◌, List, Result, Ok, Err, IsErrAnd, refl}
-use Rattle.std.proofs.Common.{sym, ap}
+use Rattle.std.specs.Prelude.{◌≡◌, ℕ, ℤ, true, List, Option, None, Result, Ok, Err, IsErrAnd, refl}
+use Rattle.std.proofs.Common.{sym, ap, subst}
 use Rattle.dm_token.specs.declared.stop.Stop.{Stop}
 use Rattle.dm_token.specs.declared.stop.Stop.TheVariants as stop
 use Rattle.dm_type.specs.declared.shape.Shape.{Shape}
@@ -8,12 +8,15 @@ use Rattle.dm_type.specs.Tables.{Table}
 use Rattle.dm_syn.specs.Sources.{Source}
 use Rattle.dm_typing.specs.Views.{Begins, known_over}
 use Rattle.dm_typing.specs.Known.{Known, Outcome}
+use Rattle.dm_typing.proofs.LaterLemmas.{begins-itself}
 use Rattle.dm_edeclarator.specs.Steps.{Follows}
 use Rattle.dm_eexpr.proofs.KeepLemmas.{KeepsIn, Leads, SameTrees}
-use Rattle.dm_edecl.specs.Standing.{Standing, Progress, goes_on, further, typing}
+use Rattle.dm_edecl.specs.Standing.{Standing, Progress, goes_on, stops, further, typing}
 use Rattle.dm_estanding.specs.declared.standing.Standing.{Standing as Held}
 use Rattle.dm_estanding.specs.Proceeding.{Proceeds}
-use Rattle.dm_estanding.proofs.ProceedingLemmas.{Arrives, starts, restated, passes, fails, done, relays, runs-out, types, type-fails}
+use Rattle.dm_estanding.proofs.ProceedingLemmas.{Arrives, starts, restated, passes, fails, done, stops-there, starves, relays, runs-out, types, type-fails}
+use Rattle.dm_edecl.specs.Statements.{is_label_among}
+use Rattle.dm_estatement.specs.Parts.{AddsDefault}
 
 -- ---- an expression
 
@@ -161,3 +164,19 @@ module _ {A B C D E F G H : Type 0} (FitsA : Table → A → Type 0) (viewA : Li
             done Fits seen source old new whole it
             (restated old new whole (λ later behind. goes_on behind (made later (viewA later first) (viewC later second) (viewE later third))) (λ later behind. goes_on behind (seen later it)) triple-left
             (λ later on behind stands lawful. ap (goes_on behind) (sym (is later on)))) fits
+
+-- ---- other ends
+
+-- the table is the same
+pub same-begins : (old new : Table) → new ≡ old → Begins old.shapes new.shapes
+same-begins old new is = subst (λ (table : Table). Begins old.shapes table.shapes) (sym is) (begins-itself old.shapes)
+
+-- `default` stood there before, or there is no memory
+module _ {C D : Type 0} (Fits : Table → C → Type 0) (seen : List Shape → C → D) (source : Source) (old : Held) (whole : List Shape → Standing → Progress D) (labels : List (Option ℤ)) (at : ℕ)
+    (again : (later : List Shape) (before : Standing) → is_label_among None labels ≡ true → whole later before ≡ stops 31 at) where
+  pub default-fails : (fault : Stop) → AddsDefault source labels at (Err fault) → Proceeds Fits seen source old old (Err fault) whole
+  default-fails stop.Memory adds = starves Fits seen source old old whole stop.Memory (begins-itself old.known.types.shapes) refl
+  default-fails (stop.Refused refusal) adds =
+      stops-there Fits seen source old old whole 31 at (stop.Refused refusal) (starts old whole (λ later behind. stops 31 at) (λ later before stands lawful. again later before adds.0)) (ap stop.Refused adds.1)
+  default-fails (stop.Limit limit) adds = absurd adds
+  default-fails (stop.ReadFault file) adds = absurd adds

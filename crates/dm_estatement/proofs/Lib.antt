@@ -3,3 +3,4 @@ pub mod NodeLemmas
 pub mod StepLemmas
 pub mod FollowLemmas
 pub mod CallLemmas
+pub mod ViewLemmas

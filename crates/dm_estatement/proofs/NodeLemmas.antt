@@ -23,7 +23,7 @@ use Rattle.dm_typing.specs.Views.{Begins, type_over, IsNumberOf}
 use Rattle.dm_typing.proofs.LaterLemmas.{begins-on, known-later, trees-known}
 use Rattle.dm_typing.proofs.ValueLemmas.{node-known}
 use Rattle.dm_edeclarator.proofs.FitLemmas.{id-later}
-use Rattle.dm_edecl.specs.Statements.{statement, full_statement}
+use Rattle.dm_edecl.specs.Statements.{statement, full_statement, is_there, for_statement}
 use Rattle.dm_edeclaration.specs.Steps.{LocalFits}
 use Rattle.dm_estatement.specs.declared.within.Within.{Within}
 use Rattle.dm_estatement.specs.Parts.{WithinFits, OptionalFits, full_label}
@@ -68,6 +68,25 @@ for-parts types source span kind first condition step one two three body other a
     built x y z last =
         made source (extent span span) (label.for_loop (is_some x) (is_some y) (is_some z)) kind
         (if_there (option_map (view types) x) ++ (if_there (option_map (view types) y) ++ (if_there (option_map (view types) z) ++ view types last ∷ [])))
+
+-- which clauses of a `for` are there
+clause-there : (types : Table) (value : Option Core) → is_some value ≡ is_there (if_there (option_map (view types) value))
+clause-there types None = refl
+clause-there types (Some value) = refl
+
+pub for-is-there : (types : Table) (setting : Setting) (span : Span) (first condition step : Option Core) (body : Tree)
+    → statement setting span (label.for_loop (is_some first) (is_some condition) (is_some step))
+    (if_there (option_map (view types) first) ++ (if_there (option_map (view types) condition) ++ (if_there (option_map (view types) step) ++ body ∷ [])))
+    ≡ for_statement setting span (if_there (option_map (view types) first)) (if_there (option_map (view types) condition)) (if_there (option_map (view types) step)) body
+for-is-there types setting span first condition step body =
+    ap (λ a. labelled a (is_some condition) (is_some step)) (clause-there types first)
+    ∙ ap (λ b. labelled (is_there (if_there (option_map (view types) first))) b (is_some step)) (clause-there types condition)
+    ∙ ap (λ d. labelled (is_there (if_there (option_map (view types) first))) (is_there (if_there (option_map (view types) condition))) d) (clause-there types step)
+  where
+    labelled : Bool → Bool → Bool → Tree
+    labelled a b d =
+        statement setting span (label.for_loop a b d)
+        (if_there (option_map (view types) first) ++ (if_there (option_map (view types) condition) ++ (if_there (option_map (view types) step) ++ body ∷ [])))
 
 -- ---- their types are numbered
 

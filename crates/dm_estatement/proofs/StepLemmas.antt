@@ -8,6 +8,7 @@ use Rattle.dm_type.specs.CTypes.{CType}
 use Rattle.dm_syn.specs.Spans.{declaration_span}
 use Rattle.dm_syn.specs.Trees.{Expr, ForStart, Stmt, BlockItems, BlockItem, SwitchItems, SwitchItem, Declaration}
 use Rattle.dm_syn.specs.Trees as tree
+use Rattle.dm_syn.specs.Views.{if_view}
 use Rattle.dm_tree.specs.Trees.{Tree}
 use Rattle.dm_tree.specs.Trees as label
 use Rattle.dm_tree.specs.Views.{if_there}
@@ -17,14 +18,10 @@ use Rattle.dm_edecl.specs.Declaring.{Declared, typed_declaration}
 use Rattle.dm_edecl.specs.Standing.{Standing, Progress, goes_on, stops, further, typing, keeps, in_scope, opened, closed}
 use Rattle.dm_edecl.specs.Statements.{Within, in_loop, statement, typed_condition, typed_optional_condition, typed_optional, CaseValue, typed_case, Labelled, AllLabelled, is_label_among, declaration_tree, declared_in, returned, typed_start, for_statement, typed_stmt, typed_items_in, typed_item_in, typed_switch_items, typed_switch_item}
 use Rattle.dm_edeclaration.specs.Steps.{summed}
-use Rattle.dm_estanding.proofs.ProceedingLemmas.{further-further}
-use Rattle.dm_estatement.specs.Parts.{may_be_returned, scoped_stmt, other_part, typed_label, labelled_value, joined, item_behind, Clauses, clauses, typed_clauses, stmt_inside, opens_scope}
+use Rattle.dm_estanding.proofs.ProceedingLemmas.{further-further, typing-further}
+use Rattle.dm_estatement.specs.Parts.{may_be_returned, scoped_stmt, other_part, choice_inside, typed_label, labelled_value, joined, item_behind, Clauses, clauses, typed_clauses, stmt_inside, opens_scope}
 
 -- ---- parts of statements
-
-pub is-allowed : (test : Bool) → not test ≡ false → test ≡ true
-is-allowed true h = refl
-is-allowed false h = absurd (cc)
 
 -- a declaration by what it declares
 pub declared-is : (setting : Setting) (standing : Standing) (declaration : Declaration) → declared_in setting standing declaration
@@ -167,6 +164,28 @@ module _ (setting : Setting) (within : Within) where
     plain-is (tree.do_while span body condition) is = absurd (cc)
     plain-is (tree.for_loop span start condition step body) is = absurd (cc)
 
+-- the form of an `if`, with `else` or without
+pub inside-if : (setting : Setting) (within : Within) (inside : Standing) (span : Span) (condition : Expr) (body : Stmt) (other : Option Stmt)
+    → stmt_inside setting within inside (if_view span condition body other) ≡ choice_inside setting within inside span condition body other
+inside-if setting within inside span condition body None = refl
+inside-if setting within inside span condition body (Some other) = refl
+
+-- the body of a `do` comes first
+pub do-is : (setting : Setting) (within : Within) (inside : Standing) (span : Span) (body : Stmt) (condition : Expr)
+    → stmt_inside setting within inside (tree.do_while span body condition)
+    ≡ further (scoped_stmt setting (in_loop within) inside body) (λ then_inside made.
+    further (typing then_inside (typed_condition setting then_inside.known condition) (λ behind it. goes_on behind it))
+    (λ behind value. goes_on behind (statement setting span label.do_loop (made ∷ value ∷ []))))
+do-is setting within inside span body condition = go (scoped_stmt setting (in_loop within) inside body)
+  where
+    go : (progress : Progress Tree) →
+        further progress (λ then_inside made. typing then_inside (typed_condition setting then_inside.known condition) (λ behind value. goes_on behind (statement setting span label.do_loop (made ∷ value ∷ []))))
+        ≡ further progress (λ then_inside made. further (typing then_inside (typed_condition setting then_inside.known condition) (λ behind it. goes_on behind it))
+        (λ behind value. goes_on behind (statement setting span label.do_loop (made ∷ value ∷ []))))
+    go (goes_on then_inside made) =
+        typing-further then_inside (typed_condition setting then_inside.known condition) (λ behind it. goes_on behind it) (λ behind value. goes_on behind (statement setting span label.do_loop (made ∷ value ∷ [])))
+    go (stops rule at) = refl
+
 -- ---- the items of a block
 
 -- trees behind others
@@ -207,6 +226,16 @@ module _ (setting : Setting) (within : Within) (standing : Standing) where
 
 -- ---- the items of a switch
 
+-- a statement and the labels so far
+abbrev pub unlabelled : Tree → List (Option ℤ) → Labelled
+unlabelled made labels = record { tree = made; labels = labels }
+
+abbrev pub cased : Setting → Span → Labelled → Labelled → Labelled
+cased setting span one made = unlabelled (statement setting span label.case (one.tree ∷ made.tree ∷ [])) made.labels
+
+abbrev pub defaulted : Setting → Span → Labelled → Labelled
+defaulted setting span made = unlabelled (statement setting span label.default (made.tree ∷ [])) made.labels
+
 -- items behind others
 abbrev pub behind_all : AllLabelled → Progress AllLabelled → Progress AllLabelled
 behind_all all progress = further progress (λ behind rest. goes_on behind (record { trees = all.trees ++ rest.trees; labels = rest.labels }))
@@ -237,8 +266,8 @@ module _ (setting : Setting) (within : Within) (kind : Kind) (standing : Standin
       all-more all (typed_switch_item setting within kind standing all.labels first) (λ then_standing labels. typed_switch_items setting within kind then_standing labels others)
 
   module _ (labels : List (Option ℤ)) where
-    abbrev cased : Span → SwitchItem → Standing → Labelled → Progress Labelled
-    cased span item then_standing one =
+    abbrev cased-behind : Span → SwitchItem → Standing → Labelled → Progress Labelled
+    cased-behind span item then_standing one =
         further (typed_switch_item setting within kind then_standing one.labels item)
         (λ behind made. goes_on behind (record { tree = statement setting span label.case (one.tree ∷ made.tree ∷ []); labels = made.labels }))
 
@@ -251,7 +280,7 @@ module _ (setting : Setting) (within : Within) (kind : Kind) (standing : Standin
         go : (outcome : Outcome CaseValue) →
             typing standing outcome (λ then_standing one. further (typed_switch_item setting within kind then_standing (Some one.value ∷ labels) item)
             (λ behind made. goes_on behind (record { tree = statement setting span label.case (one.tree ∷ made.tree ∷ []); labels = made.labels })))
-            ≡ further (typing standing outcome (λ behind one. goes_on behind (labelled_value one labels))) (cased span item)
+            ≡ further (typing standing outcome (λ behind one. goes_on behind (labelled_value one labels))) (cased-behind span item)
         go (given known one) = refl
         go (broken rule at) = refl
 

@@ -83,13 +83,13 @@ pub(crate) fn case_here(
 /// `return`.
 pub(crate) fn return_here(
     typer: &Typer<'_>,
-    within: Within,
+    within: &Within,
     standing: &mut Standing,
     span: Span,
     expr: &Option<Expr>,
 ) -> Result<Core, Stop>
-    requires { WithinFits standing.old.known.types within }
-    ensures { Proceeds IsNumbered view_over (source_of typer.now) standing.old standing.new result (λ later before. typing before (statements.typed_return (setting_of typer.now) before.known (type_over later within.result) span (option_map syntax.expr expr.now)) (λ behind it. goes_on behind it)) }
+    requires { WithinFits standing.old.known.types within.now }
+    ensures { Proceeds IsNumbered view_over (source_of typer.now) standing.old standing.new result (λ later before. typing before (statements.typed_return (setting_of typer.now) before.known (type_over later within.now.result) span (option_map syntax.expr expr.now)) (λ behind it. goes_on behind it)) }
 {
     typed_return(typer, within, &mut standing.known, span, expr)
 }

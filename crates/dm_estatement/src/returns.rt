@@ -25,13 +25,13 @@ use dm_typing::{Known, Typer};
 /// `return` with a value that is assignable to the result, or without one where that is void (C34).
 pub(crate) fn typed_return(
     typer: &Typer<'_>,
-    within: Within,
+    within: &Within,
     known: &mut Known,
     span: Span,
     expr: &Option<Expr>,
 ) -> Result<Core, Stop>
-    requires { WithinFits known.old.types within }
-    ensures { Follows IsNumbered view_over (source_of typer.now) known.old known.new result (λ later. statements.typed_return (setting_of typer.now) (known_over later known.old) (type_over later within.result) span (option_map syntax.expr expr.now)) }
+    requires { WithinFits known.old.types within.now }
+    ensures { Follows IsNumbered view_over (source_of typer.now) known.old known.new result (λ later. statements.typed_return (setting_of typer.now) (known_over later known.old) (type_over later within.now.result) span (option_map syntax.expr expr.now)) }
 {
     let value = typed_optional(typer, known, expr)?;
     returned(typer, within, known, span, value)
@@ -40,15 +40,15 @@ pub(crate) fn typed_return(
 /// The same of a value that is typed.
 fn returned(
     typer: &Typer<'_>,
-    within: Within,
+    within: &Within,
     known: &Known,
     span: Span,
     value: Option<Core>,
 ) -> Result<Core, Stop>
-    requires within { WithinFits known.now.types within }
+    requires within { WithinFits known.now.types within.now }
     requires value { OptionalFits known.now.types value }
     ensures gives { (later : Sequence OneShape) → Begins known.now.types.shapes later → Gives (view_over later) (source_of typer.now) (known_over later known.now) result
-        (statements.returned (setting_of typer.now) (known_over later known.now) (type_over later within.result) span (optional_over later value)) }
+        (statements.returned (setting_of typer.now) (known_over later known.now) (type_over later within.now.result) span (optional_over later value)) }
     ensures numbered { IfOk result (IsNumbered known.now.types) }
 {
     if !may_return(known, within.result, &value) {

@@ -25,12 +25,12 @@ use dm_typing::Typer;
 /// An expression statement, or the empty one.
 pub(crate) fn expression(
     typer: &Typer<'_>,
-    within: Within,
+    within: &Within,
     standing: &mut Standing,
     span: Span,
     expr: &Option<Expr>,
 ) -> Result<Core, Stop>
-    requires { WithinFits standing.old.known.types within }
+    requires { WithinFits standing.old.known.types within.now }
     ensures { Proceeds IsNumbered view_over (source_of typer.now) standing.old standing.new result (λ later before. typing before (statements.typed_optional (setting_of typer.now) before.known (option_map syntax.expr expr.now))
         (λ behind values. goes_on behind (statements.full_statement (setting_of typer.now) span values))) }
 {
@@ -42,12 +42,12 @@ pub(crate) fn expression(
 /// `break` (C33).
 pub(crate) fn break_here(
     typer: &Typer<'_>,
-    within: Within,
+    within: &Within,
     standing: &Standing,
     span: Span,
 ) -> Result<Core, Stop>
-    requires { WithinFits standing.now.known.types within }
-    ensures { Proceeds IsNumbered view_over (source_of typer.now) standing.now standing.now result (λ later before. keeps within.breaks 33 span.first (goes_on before (statements.statement (setting_of typer.now) span label.break []))) }
+    requires { WithinFits standing.now.known.types within.now }
+    ensures { Proceeds IsNumbered view_over (source_of typer.now) standing.now standing.now result (λ later before. keeps within.now.breaks 33 span.first (goes_on before (statements.statement (setting_of typer.now) span label.break []))) }
 {
     if !within.breaks {
         return Err(typer.broken(33, span.first));
@@ -58,12 +58,12 @@ pub(crate) fn break_here(
 /// `continue` (C33).
 pub(crate) fn continue_here(
     typer: &Typer<'_>,
-    within: Within,
+    within: &Within,
     standing: &Standing,
     span: Span,
 ) -> Result<Core, Stop>
-    requires { WithinFits standing.now.known.types within }
-    ensures { Proceeds IsNumbered view_over (source_of typer.now) standing.now standing.now result (λ later before. keeps within.continues 33 span.first (goes_on before (statements.statement (setting_of typer.now) span label.continue []))) }
+    requires { WithinFits standing.now.known.types within.now }
+    ensures { Proceeds IsNumbered view_over (source_of typer.now) standing.now standing.now result (λ later before. keeps within.now.continues 33 span.first (goes_on before (statements.statement (setting_of typer.now) span label.continue []))) }
 {
     if !within.continues {
         return Err(typer.broken(33, span.first));
@@ -74,11 +74,11 @@ pub(crate) fn continue_here(
 /// A declaration.
 pub(crate) fn declared_in(
     typer: &Typer<'_>,
-    within: Within,
+    within: &Within,
     standing: &mut Standing,
     declaration: &Declaration,
 ) -> Result<Core, Stop>
-    requires { WithinFits standing.old.known.types within }
+    requires { WithinFits standing.old.known.types within.now }
     ensures { Proceeds IsNumbered view_over (source_of typer.now) standing.old standing.new result (λ later before. statements.declared_in (setting_of typer.now) before (syntax.declaration declaration.now)) }
 {
     let declared = typed_declaration(typer, standing, declaration)?;
@@ -95,11 +95,11 @@ pub(crate) fn declared_in(
 /// The first clause of a `for`.
 pub(crate) fn start_here(
     typer: &Typer<'_>,
-    within: Within,
+    within: &Within,
     standing: &mut Standing,
     start: &ForStart,
 ) -> Result<Option<Core>, Stop>
-    requires { WithinFits standing.old.known.types within }
+    requires { WithinFits standing.old.known.types within.now }
     ensures { Proceeds OptionalFits optional_over (source_of typer.now) standing.old standing.new result (λ later before. statements.typed_start (setting_of typer.now) before (syntax.start start.now)) }
 {
     match start {
@@ -114,13 +114,13 @@ pub(crate) fn start_here(
 /// The clauses of a `for`.
 pub(crate) fn clauses_here(
     typer: &Typer<'_>,
-    within: Within,
+    within: &Within,
     standing: &mut Standing,
     start: &ForStart,
     condition: &Option<Expr>,
     step: &Option<Expr>,
 ) -> Result<Clauses, Stop>
-    requires { WithinFits standing.old.known.types within }
+    requires { WithinFits standing.old.known.types within.now }
     ensures { Proceeds ClausesFit clauses_over (source_of typer.now) standing.old standing.new result (λ later before. parts.typed_clauses (setting_of typer.now) before (syntax.start start.now) (option_map syntax.expr condition.now) (option_map syntax.expr step.now)) }
 {
     let first = start_here(typer, within, standing, start)?;

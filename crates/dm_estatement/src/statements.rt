@@ -34,12 +34,12 @@ use dm_typing::Typer;
 #[cycle(statements)]
 pub fn typed_stmt(
     typer: &Typer<'_>,
-    within: Within,
+    within: &Within,
     standing: &mut Standing,
     stmt: &Stmt,
 ) -> Result<Core, Stop>
-    requires { WithinFits standing.old.known.types within }
-    ensures { Proceeds IsNumbered view_over (source_of typer.now) standing.old standing.new result (λ later before. statements.typed_stmt (setting_of typer.now) (within_over later within) before (syntax.stmt stmt.now)) }
+    requires { WithinFits standing.old.known.types within.now }
+    ensures { Proceeds IsNumbered view_over (source_of typer.now) standing.old standing.new result (λ later before. statements.typed_stmt (setting_of typer.now) (within_over later within.now) before (syntax.stmt stmt.now)) }
 {
     if opens_scope(stmt) {
         own_scope(typer, within, standing, stmt)
@@ -64,12 +64,12 @@ fn opens_scope(stmt: &Stmt) -> bool
 #[cycle(statements)]
 fn own_scope(
     typer: &Typer<'_>,
-    within: Within,
+    within: &Within,
     standing: &mut Standing,
     stmt: &Stmt,
 ) -> Result<Core, Stop>
-    requires { WithinFits standing.old.known.types within }
-    ensures { Proceeds IsNumbered view_over (source_of typer.now) standing.old standing.new result (λ later before. standings.in_scope before (λ inside. parts.stmt_inside (setting_of typer.now) (within_over later within) inside (syntax.stmt stmt.now))) }
+    requires { WithinFits standing.old.known.types within.now }
+    ensures { Proceeds IsNumbered view_over (source_of typer.now) standing.old standing.new result (λ later before. standings.in_scope before (λ inside. parts.stmt_inside (setting_of typer.now) (within_over later within.now) inside (syntax.stmt stmt.now))) }
 {
     let mark = standing.open()?;
     let made = stmt_inside(typer, within, standing, stmt)?;
@@ -81,12 +81,12 @@ fn own_scope(
 #[cycle(statements)]
 fn part(
     typer: &Typer<'_>,
-    within: Within,
+    within: &Within,
     standing: &mut Standing,
     stmt: &Stmt,
 ) -> Result<Core, Stop>
-    requires { WithinFits standing.old.known.types within }
-    ensures { Proceeds IsNumbered view_over (source_of typer.now) standing.old standing.new result (λ later before. parts.scoped_stmt (setting_of typer.now) (within_over later within) before (syntax.stmt stmt.now)) }
+    requires { WithinFits standing.old.known.types within.now }
+    ensures { Proceeds IsNumbered view_over (source_of typer.now) standing.old standing.new result (λ later before. parts.scoped_stmt (setting_of typer.now) (within_over later within.now) before (syntax.stmt stmt.now)) }
 {
     let opened = standing.open()?;
     let made = typed_stmt(typer, within, standing, stmt)?;
@@ -98,12 +98,12 @@ fn part(
 #[cycle(statements)]
 fn stmt_inside(
     typer: &Typer<'_>,
-    within: Within,
+    within: &Within,
     standing: &mut Standing,
     stmt: &Stmt,
 ) -> Result<Core, Stop>
-    requires { WithinFits standing.old.known.types within }
-    ensures { Proceeds IsNumbered view_over (source_of typer.now) standing.old standing.new result (λ later before. parts.stmt_inside (setting_of typer.now) (within_over later within) before (syntax.stmt stmt.now)) }
+    requires { WithinFits standing.old.known.types within.now }
+    ensures { Proceeds IsNumbered view_over (source_of typer.now) standing.old standing.new result (λ later before. parts.stmt_inside (setting_of typer.now) (within_over later within.now) before (syntax.stmt stmt.now)) }
 {
     let span = stmt.span;
     match &stmt.form {
@@ -134,13 +134,13 @@ fn stmt_inside(
 #[cycle(statements)]
 fn block(
     typer: &Typer<'_>,
-    within: Within,
+    within: &Within,
     standing: &mut Standing,
     span: Span,
     items: &[Item],
 ) -> Result<Core, Stop>
-    requires { WithinFits standing.old.known.types within }
-    ensures { Proceeds IsNumbered view_over (source_of typer.now) standing.old standing.new result (λ later before. parts.stmt_inside (setting_of typer.now) (within_over later within) before (tree.block span (syntax.block_items (map syntax.block_item items.now)))) }
+    requires { WithinFits standing.old.known.types within.now }
+    ensures { Proceeds IsNumbered view_over (source_of typer.now) standing.old standing.new result (λ later before. parts.stmt_inside (setting_of typer.now) (within_over later within.now) before (tree.block span (syntax.block_items (map syntax.block_item items.now)))) }
 {
     let trees = typed_items_in(typer, within, standing, items)?;
     Ok(block_node(typer, within.statement, span, trees))
@@ -150,15 +150,15 @@ fn block(
 #[cycle(statements)]
 fn choice(
     typer: &Typer<'_>,
-    within: Within,
+    within: &Within,
     standing: &mut Standing,
     span: Span,
     condition: &Expr,
     body: &Stmt,
     other: &Option<Boxed<Stmt>>,
 ) -> Result<Core, Stop>
-    requires { WithinFits standing.old.known.types within }
-    ensures { Proceeds IsNumbered view_over (source_of typer.now) standing.old standing.new result (λ later before. parts.choice_inside (setting_of typer.now) (within_over later within) before span (syntax.expr condition.now) (syntax.stmt body.now) (option_map syntax.stmt other.now)) }
+    requires { WithinFits standing.old.known.types within.now }
+    ensures { Proceeds IsNumbered view_over (source_of typer.now) standing.old standing.new result (λ later before. parts.choice_inside (setting_of typer.now) (within_over later within.now) before span (syntax.expr condition.now) (syntax.stmt body.now) (option_map syntax.stmt other.now)) }
 {
     let value = condition_here(typer, standing, condition)?;
     let first = part(typer, within, standing, body)?;
@@ -171,12 +171,12 @@ fn choice(
 #[cycle(statements)]
 fn other_part(
     typer: &Typer<'_>,
-    within: Within,
+    within: &Within,
     standing: &mut Standing,
     other: &Option<Boxed<Stmt>>,
 ) -> Result<Option<Core>, Stop>
-    requires { WithinFits standing.old.known.types within }
-    ensures { Proceeds OptionalFits optional_over (source_of typer.now) standing.old standing.new result (λ later before. parts.other_part (setting_of typer.now) (within_over later within) before (option_map syntax.stmt other.now)) }
+    requires { WithinFits standing.old.known.types within.now }
+    ensures { Proceeds OptionalFits optional_over (source_of typer.now) standing.old standing.new result (λ later before. parts.other_part (setting_of typer.now) (within_over later within.now) before (option_map syntax.stmt other.now)) }
 {
     match other {
         None => Ok(None),
@@ -191,14 +191,14 @@ fn other_part(
 #[cycle(statements)]
 fn switch(
     typer: &Typer<'_>,
-    within: Within,
+    within: &Within,
     standing: &mut Standing,
     span: Span,
     operand: &Expr,
     items: &[SwitchItem],
 ) -> Result<Core, Stop>
-    requires { WithinFits standing.old.known.types within }
-    ensures { Proceeds IsNumbered view_over (source_of typer.now) standing.old standing.new result (λ later before. parts.stmt_inside (setting_of typer.now) (within_over later within) before (tree.switch span (syntax.expr operand.now) (syntax.switch_items (map syntax.switch_item items.now)))) }
+    requires { WithinFits standing.old.known.types within.now }
+    ensures { Proceeds IsNumbered view_over (source_of typer.now) standing.old standing.new result (λ later before. parts.stmt_inside (setting_of typer.now) (within_over later within.now) before (tree.switch span (syntax.expr operand.now) (syntax.switch_items (map syntax.switch_item items.now)))) }
 {
     let subject = subject_here(typer, standing, operand)?;
     let Subject { tree, kind } = subject;
@@ -211,16 +211,16 @@ fn switch(
 #[cycle(statements)]
 fn switch_part(
     typer: &Typer<'_>,
-    within: Within,
+    within: &Within,
     kind: Kind,
     standing: &mut Standing,
     items: &[SwitchItem],
 ) -> Result<AllLabelled, Stop>
-    requires { WithinFits standing.old.known.types within }
-    ensures { Proceeds AllFit all_over (source_of typer.now) standing.old standing.new result (λ later before. parts.switch_part (setting_of typer.now) (within_over later within) kind before (syntax.switch_items (map syntax.switch_item items.now))) }
+    requires { WithinFits standing.old.known.types within.now }
+    ensures { Proceeds AllFit all_over (source_of typer.now) standing.old standing.new result (λ later before. parts.switch_part (setting_of typer.now) (within_over later within.now) kind before (syntax.switch_items (map syntax.switch_item items.now))) }
 {
     let begun = standing.open()?;
-    let made = typed_switch_items(typer, within.in_switch(), kind, standing, items)?;
+    let made = typed_switch_items(typer, &within.in_switch(), kind, standing, items)?;
     standing.close(begun);
     Ok(made)
 }
@@ -229,17 +229,17 @@ fn switch_part(
 #[cycle(statements)]
 fn while_statement(
     typer: &Typer<'_>,
-    within: Within,
+    within: &Within,
     standing: &mut Standing,
     span: Span,
     condition: &Expr,
     body: &Stmt,
 ) -> Result<Core, Stop>
-    requires { WithinFits standing.old.known.types within }
-    ensures { Proceeds IsNumbered view_over (source_of typer.now) standing.old standing.new result (λ later before. parts.stmt_inside (setting_of typer.now) (within_over later within) before (tree.while span (syntax.expr condition.now) (syntax.stmt body.now))) }
+    requires { WithinFits standing.old.known.types within.now }
+    ensures { Proceeds IsNumbered view_over (source_of typer.now) standing.old standing.new result (λ later before. parts.stmt_inside (setting_of typer.now) (within_over later within.now) before (tree.while span (syntax.expr condition.now) (syntax.stmt body.now))) }
 {
     let value = condition_here(typer, standing, condition)?;
-    let body = part(typer, within.in_loop(), standing, body)?;
+    let body = part(typer, &within.in_loop(), standing, body)?;
     let made = while_loop(typer, within.statement, span, value, body)?;
     Ok(made)
 }
@@ -248,16 +248,16 @@ fn while_statement(
 #[cycle(statements)]
 fn do_statement(
     typer: &Typer<'_>,
-    within: Within,
+    within: &Within,
     standing: &mut Standing,
     span: Span,
     body: &Stmt,
     condition: &Expr,
 ) -> Result<Core, Stop>
-    requires { WithinFits standing.old.known.types within }
-    ensures { Proceeds IsNumbered view_over (source_of typer.now) standing.old standing.new result (λ later before. parts.stmt_inside (setting_of typer.now) (within_over later within) before (tree.do_while span (syntax.stmt body.now) (syntax.expr condition.now))) }
+    requires { WithinFits standing.old.known.types within.now }
+    ensures { Proceeds IsNumbered view_over (source_of typer.now) standing.old standing.new result (λ later before. parts.stmt_inside (setting_of typer.now) (within_over later within.now) before (tree.do_while span (syntax.stmt body.now) (syntax.expr condition.now))) }
 {
-    let body = part(typer, within.in_loop(), standing, body)?;
+    let body = part(typer, &within.in_loop(), standing, body)?;
     let value = condition_here(typer, standing, condition)?;
     let made = do_loop(typer, within.statement, span, body, value)?;
     Ok(made)
@@ -267,7 +267,7 @@ fn do_statement(
 #[cycle(statements)]
 fn for_statement(
     typer: &Typer<'_>,
-    within: Within,
+    within: &Within,
     standing: &mut Standing,
     span: Span,
     start: &ForStart,
@@ -275,11 +275,11 @@ fn for_statement(
     step: &Option<Expr>,
     body: &Stmt,
 ) -> Result<Core, Stop>
-    requires { WithinFits standing.old.known.types within }
-    ensures { Proceeds IsNumbered view_over (source_of typer.now) standing.old standing.new result (λ later before. parts.stmt_inside (setting_of typer.now) (within_over later within) before (tree.for_loop span (syntax.start start.now) (option_map syntax.expr condition.now) (option_map syntax.expr step.now) (syntax.stmt body.now))) }
+    requires { WithinFits standing.old.known.types within.now }
+    ensures { Proceeds IsNumbered view_over (source_of typer.now) standing.old standing.new result (λ later before. parts.stmt_inside (setting_of typer.now) (within_over later within.now) before (tree.for_loop span (syntax.start start.now) (option_map syntax.expr condition.now) (option_map syntax.expr step.now) (syntax.stmt body.now))) }
 {
     let clauses = clauses_here(typer, within, standing, start, condition, step)?;
-    let body = part(typer, within.in_loop(), standing, body)?;
+    let body = part(typer, &within.in_loop(), standing, body)?;
     let made = for_loop(typer, within.statement, span, clauses, body)?;
     Ok(made)
 }
@@ -288,12 +288,12 @@ fn for_statement(
 #[cycle(statements)]
 pub fn typed_items_in(
     typer: &Typer<'_>,
-    within: Within,
+    within: &Within,
     standing: &mut Standing,
     items: &[Item],
 ) -> Result<List<Core>, Stop>
-    requires { WithinFits standing.old.known.types within }
-    ensures { Proceeds AreNumbered trees_over (source_of typer.now) standing.old standing.new result (λ later before. statements.typed_items_in (setting_of typer.now) (within_over later within) before (syntax.block_items (map syntax.block_item items.now))) }
+    requires { WithinFits standing.old.known.types within.now }
+    ensures { Proceeds AreNumbered trees_over (source_of typer.now) standing.old standing.new result (λ later before. statements.typed_items_in (setting_of typer.now) (within_over later within.now) before (syntax.block_items (map syntax.block_item items.now))) }
 {
     let mut trees = List::new(typer.alloc);
     for item in items {
@@ -307,12 +307,12 @@ pub fn typed_items_in(
 #[cycle(statements)]
 fn typed_item_in(
     typer: &Typer<'_>,
-    within: Within,
+    within: &Within,
     standing: &mut Standing,
     item: &Item,
 ) -> Result<Core, Stop>
-    requires { WithinFits standing.old.known.types within }
-    ensures { Proceeds IsNumbered view_over (source_of typer.now) standing.old standing.new result (λ later before. statements.typed_item_in (setting_of typer.now) (within_over later within) before (syntax.block_item item.now)) }
+    requires { WithinFits standing.old.known.types within.now }
+    ensures { Proceeds IsNumbered view_over (source_of typer.now) standing.old standing.new result (λ later before. statements.typed_item_in (setting_of typer.now) (within_over later within.now) before (syntax.block_item item.now)) }
 {
     match item {
         Item::Declaration(declaration) => declared_in(typer, within, standing, declaration),
@@ -324,13 +324,13 @@ fn typed_item_in(
 #[cycle(statements)]
 fn typed_switch_items(
     typer: &Typer<'_>,
-    within: Within,
+    within: &Within,
     kind: Kind,
     standing: &mut Standing,
     items: &[SwitchItem],
 ) -> Result<AllLabelled, Stop>
-    requires { WithinFits standing.old.known.types within }
-    ensures { Proceeds AllFit all_over (source_of typer.now) standing.old standing.new result (λ later before. statements.typed_switch_items (setting_of typer.now) (within_over later within) kind before [] (syntax.switch_items (map syntax.switch_item items.now))) }
+    requires { WithinFits standing.old.known.types within.now }
+    ensures { Proceeds AllFit all_over (source_of typer.now) standing.old standing.new result (λ later before. statements.typed_switch_items (setting_of typer.now) (within_over later within.now) kind before [] (syntax.switch_items (map syntax.switch_item items.now))) }
 {
     let mut all = none_labelled(typer.alloc);
     for item in items {
@@ -344,15 +344,15 @@ fn typed_switch_items(
 #[cycle(statements)]
 fn item_behind(
     typer: &Typer<'_>,
-    within: Within,
+    within: &Within,
     kind: Kind,
     standing: &mut Standing,
     all: AllLabelled,
     item: &SwitchItem,
 ) -> Result<AllLabelled, Stop>
-    requires within { WithinFits standing.old.known.types within }
+    requires within { WithinFits standing.old.known.types within.now }
     requires all { AllFit standing.old.known.types all }
-    ensures { Proceeds AllFit all_over (source_of typer.now) standing.old standing.new result (λ later before. parts.item_behind (setting_of typer.now) (within_over later within) kind (all_over later all) before (syntax.switch_item item.now)) }
+    ensures { Proceeds AllFit all_over (source_of typer.now) standing.old standing.new result (λ later before. parts.item_behind (setting_of typer.now) (within_over later within.now) kind (all_over later all) before (syntax.switch_item item.now)) }
 {
     let AllLabelled { trees, labels } = all;
     let made = typed_switch_item(typer, within, kind, standing, labels, item)?;
@@ -364,14 +364,14 @@ fn item_behind(
 #[cycle(statements)]
 fn typed_switch_item(
     typer: &Typer<'_>,
-    within: Within,
+    within: &Within,
     kind: Kind,
     standing: &mut Standing,
     labels: Labels,
     item: &SwitchItem,
 ) -> Result<Labelled, Stop>
-    requires { WithinFits standing.old.known.types within }
-    ensures { Proceeds LabelledFits labelled_over (source_of typer.now) standing.old standing.new result (λ later before. statements.typed_switch_item (setting_of typer.now) (within_over later within) kind before (labels_of labels) (syntax.switch_item item.now)) }
+    requires { WithinFits standing.old.known.types within.now }
+    ensures { Proceeds LabelledFits labelled_over (source_of typer.now) standing.old standing.new result (λ later before. statements.typed_switch_item (setting_of typer.now) (within_over later within.now) kind before (labels_of labels) (syntax.switch_item item.now)) }
 {
     match &item.form {
         SwitchForm::Case(expr, inner) => {
@@ -391,7 +391,7 @@ fn typed_switch_item(
 #[cycle(statements)]
 fn case_item(
     typer: &Typer<'_>,
-    within: Within,
+    within: &Within,
     kind: Kind,
     standing: &mut Standing,
     labels: Labels,
@@ -399,8 +399,8 @@ fn case_item(
     expr: &Expr,
     inner: &SwitchItem,
 ) -> Result<Labelled, Stop>
-    requires { WithinFits standing.old.known.types within }
-    ensures { Proceeds LabelledFits labelled_over (source_of typer.now) standing.old standing.new result (λ later before. statements.typed_switch_item (setting_of typer.now) (within_over later within) kind before (labels_of labels) (tree.case span (syntax.expr expr.now) (syntax.switch_item inner.now))) }
+    requires { WithinFits standing.old.known.types within.now }
+    ensures { Proceeds LabelledFits labelled_over (source_of typer.now) standing.old standing.new result (λ later before. statements.typed_switch_item (setting_of typer.now) (within_over later within.now) kind before (labels_of labels) (tree.case span (syntax.expr expr.now) (syntax.switch_item inner.now))) }
 {
     let one = label_here(typer, standing, kind, labels, expr)?;
     let Labelled { tree: value, labels } = one;
@@ -414,15 +414,15 @@ fn case_item(
 #[cycle(statements)]
 fn default_item(
     typer: &Typer<'_>,
-    within: Within,
+    within: &Within,
     kind: Kind,
     standing: &mut Standing,
     labels: Labels,
     span: Span,
     inner: &SwitchItem,
 ) -> Result<Labelled, Stop>
-    requires { WithinFits standing.old.known.types within }
-    ensures { Proceeds LabelledFits labelled_over (source_of typer.now) standing.old standing.new result (λ later before. statements.typed_switch_item (setting_of typer.now) (within_over later within) kind before (labels_of labels) (tree.default span (syntax.switch_item inner.now))) }
+    requires { WithinFits standing.old.known.types within.now }
+    ensures { Proceeds LabelledFits labelled_over (source_of typer.now) standing.old standing.new result (λ later before. statements.typed_switch_item (setting_of typer.now) (within_over later within.now) kind before (labels_of labels) (tree.default span (syntax.switch_item inner.now))) }
 {
     let labels = with_default(typer, labels, span.first)?;
     let made = typed_switch_item(typer, within, kind, standing, labels, inner)?;

@@ -11,7 +11,7 @@ use dm_type::{Shape, TypeId};
 use dm_typing::Known;
 
 /// A function, and whether a loop or a switch is round a statement in it.
-#[derive(Clone, Copy)]
+#[derive(Drop)]
 pub struct Within {
     /// The type of the function's result.
     pub result: TypeId,
@@ -43,23 +43,26 @@ impl Within {
     }
 
     /// Within a loop.
-    pub(crate) fn in_loop(self) -> Within
-        ensures { result ≡ record self { breaks = true; continues = true } }
+    pub(crate) fn in_loop(&self) -> Within
+        ensures { result ≡ record self.now { breaks = true; continues = true } }
     {
         Within {
+            result: self.result,
+            statement: self.statement,
             breaks: true,
             continues: true,
-            ..self
         }
     }
 
     /// Within a switch.
-    pub(crate) fn in_switch(self) -> Within
-        ensures { result ≡ record self { breaks = true } }
+    pub(crate) fn in_switch(&self) -> Within
+        ensures { result ≡ record self.now { breaks = true } }
     {
         Within {
+            result: self.result,
+            statement: self.statement,
             breaks: true,
-            ..self
+            continues: self.continues,
         }
     }
 }

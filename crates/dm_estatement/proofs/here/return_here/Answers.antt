@@ -15,5 +15,5 @@ use Rattle.dm_estatement.proofs.here.return_here.Goals as goal
 pub returns : goal.returns
 returns c =
     let setting = setting_of c.args.typer.now in
-    typed-here IsNumbered view_over (source_of c.args.typer.now) c.args.standing.now _ (λ (later : List Shape) (known : Known). typed_return setting known (type_over later c.args.within.result) c.args.span (option_map syntax.expr c.args.expr.now)) refl refl
-    (λ later known. return-keeps setting known (type_over later c.args.within.result) c.args.span (option_map syntax.expr c.args.expr.now)) (λ later known. return-trees setting known (type_over later c.args.within.result) c.args.span (option_map syntax.expr c.args.expr.now)) c.typed_return.result c.typed_return.ensures
+    typed-here IsNumbered view_over (source_of c.args.typer.now) c.args.standing.now _ (λ (later : List Shape) (known : Known). typed_return setting known (type_over later c.args.within.now.result) c.args.span (option_map syntax.expr c.args.expr.now)) refl refl
+    (λ later known. return-keeps setting known (type_over later c.args.within.now.result) c.args.span (option_map syntax.expr c.args.expr.now)) (λ later known. return-trees setting known (type_over later c.args.within.now.result) c.args.span (option_map syntax.expr c.args.expr.now)) c.typed_return.result c.typed_return.ensures

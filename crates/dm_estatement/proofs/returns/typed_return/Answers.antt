@@ -17,9 +17,9 @@ returns-in_err-value c =
     let setting = setting_of c.args.typer.now in
     let old = c.args.known.now in
     let expr = option_map syntax.expr c.args.expr.now in
-    relays IsNumbered view_over (source_of c.args.typer.now) old c.typed_optional.new.known (λ later. typed_return setting (known_over later old) (type_over later c.args.within.result) c.args.span expr)
+    relays IsNumbered view_over (source_of c.args.typer.now) old c.typed_optional.new.known (λ later. typed_return setting (known_over later old) (type_over later c.args.within.now.result) c.args.span expr)
     c.from_residual.result c.in_err-value.field-0.0 c.from_residual.ensures.1
     (single-fails OptionalFits optional_over IsNumbered view_over (source_of c.args.typer.now) old old c.typed_optional.new.known
-    (λ later. typed_return setting (known_over later old) (type_over later c.args.within.result) c.args.span expr)
-    (λ (later : List Shape) (known : Known). typed_optional setting known expr) (λ (later : List Shape) (behind : Known) (values : List Tree). returned setting behind (type_over later c.args.within.result) c.args.span values)
+    (λ later. typed_return setting (known_over later old) (type_over later c.args.within.now.result) c.args.span expr)
+    (λ (later : List Shape) (known : Known). typed_optional setting known expr) (λ (later : List Shape) (behind : Known) (values : List Tree). returned setting behind (type_over later c.args.within.now.result) c.args.span values)
     (λ later. refl) c.in_err-value.field-0.0 c.in_err-value.ensures)

@@ -14,7 +14,6 @@ use Rattle.dm_edecl.specs.Standing.{Standing, Progress, goes_on, further, typing
 use Rattle.dm_edecl.specs.Statements.{statement}
 use Rattle.dm_estanding.proofs.ProceedingLemmas.{starts, restated, done}
 use Rattle.dm_estatement.proofs.NodeLemmas.{statement-is, bare-fits}
-use Rattle.dm_estatement.proofs.StepLemmas.{is-allowed}
 use Rattle.dm_estatement.proofs.simple.continue_here.Goals as goal
 
 pub returns : goal.returns
@@ -23,10 +22,10 @@ returns c =
     let old = c.args.standing.now in
     let types = old.known.types in
     let made = c.continuing.result in
-    let whole = λ (later : List Shape) (before : Standing). keeps c.args.within.continues 33 c.args.span.first (goes_on before (statement setting c.args.span label.continue [])) in
+    let whole = λ (later : List Shape) (before : Standing). keeps c.args.within.now.continues 33 c.args.span.first (goes_on before (statement setting c.args.span label.continue [])) in
     done IsNumbered view_over (source_of c.args.typer.now) old old whole made
     (restated old old whole whole (λ (later : List Shape) (behind : Standing). goes_on behind (view_over later made)) (starts old whole whole (λ later before stands lawful. refl))
     (λ later on behind stands lawful.
-    ap (λ test. keeps test 33 c.args.span.first (goes_on behind (statement setting c.args.span label.continue []))) (is-allowed c.args.within.continues c.if-not-within.false)
-    ∙ ap (goes_on behind) (sym (c.continuing.ensures.view (record { shapes = later; structs = [] }) ∙ statement-is setting types c.args.within later c.args.span label.continue [] c.requires on))))
-    (bare-fits types c.args.within c.requires made (c.continuing.ensures.known (length types.shapes)))
+    ap (λ test. keeps test 33 c.args.span.first (goes_on behind (statement setting c.args.span label.continue []))) c.if-not-within.false
+    ∙ ap (goes_on behind) (sym (c.continuing.ensures.view (record { shapes = later; structs = [] }) ∙ statement-is setting types c.args.within.now later c.args.span label.continue [] c.requires on))))
+    (bare-fits types c.args.within.now c.requires made (c.continuing.ensures.known (length types.shapes)))

@@ -38,7 +38,7 @@ returns c =
     let new = c.typed_declaration.new.standing in
     let types = new.known.types in
     let all = c.in_ok-declared.declared in
-    let fits = within-later c.args.standing.now.known.types types c.args.within c.requires c.in_ok-declared.ensures.shapes in
+    let fits = within-later c.args.standing.now.known.types types c.args.within.now c.requires c.in_ok-declared.ensures.shapes in
     single-made ItemsFit items_over IsNumbered view_over (source_of c.args.typer.now) c.args.standing.now (λ (later : List Shape) (before : Standing). declared_in setting before declaration)
     (λ (later : List Shape) (before : Standing). summed (typed_declaration setting before declaration))
     (λ (later : List Shape) (all : Together). statement setting span (label.declare (length all.constants) all.declarators) (all.constants ++ all.expressions))
@@ -46,7 +46,7 @@ returns c =
     new all c.in_ok-declared.ensures c.declaration.result
     (λ later on.
     c.declaration.ensures.view (record { shapes = later; structs = [] })
-    ∙ statement-is setting types c.args.within later span (label.declare (length (map (view_over later) all.constants)) (declarators_of (map (opened_over later) all.locals)))
+    ∙ statement-is setting types c.args.within.now later span (label.declare (length (map (view_over later) all.constants)) (declarators_of (map (opened_over later) all.locals)))
     (map (view_over later) all.constants ++ expressions_of_locals (map (opened_over later) all.locals)) fits on)
-    (two-fit types c.args.within fits c.declaration.result (all_pass (map (are_known (length types.shapes)) all.constants)) (all_pass (map (are_known_in_local (length types.shapes)) all.locals)) (c.declaration.ensures.known (length types.shapes))
+    (two-fit types c.args.within.now fits c.declaration.result (all_pass (map (are_known (length types.shapes)) all.constants)) (all_pass (map (are_known_in_local (length types.shapes)) all.locals)) (c.declaration.ensures.known (length types.shapes))
     (trees-known types all.constants c.in_ok-declared.ensures.numbered.0) (locals-pass types all.locals c.in_ok-declared.ensures.numbered.1))

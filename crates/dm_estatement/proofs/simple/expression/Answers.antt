@@ -36,7 +36,7 @@ returns c =
     let new = c.optional_here.new.standing in
     let types = new.known.types in
     let value = c.in_ok-value.value in
-    let fits = within-later c.args.standing.now.known.types types c.args.within c.requires c.in_ok-value.ensures.shapes in
+    let fits = within-later c.args.standing.now.known.types types c.args.within.now c.requires c.in_ok-value.ensures.shapes in
     single-made OptionalFits optional_over IsNumbered view_over (source_of c.args.typer.now) c.args.standing.now
     (λ (later : List Shape) (before : Standing). typing before (typed_optional setting before.known expr) (λ behind values. goes_on behind (full_statement setting c.args.span values)))
     (λ (later : List Shape) (before : Standing). typing before (typed_optional setting before.known expr) (λ behind it. goes_on behind it))
@@ -45,6 +45,6 @@ returns c =
     new value c.in_ok-value.ensures c.in_ok-made.made
     (λ later on.
     c.in_ok-made.ensures.view (record { shapes = later; structs = [] })
-    ∙ statement-is setting types c.args.within later c.args.span (full_label value) (optional_over later value) fits on
+    ∙ statement-is setting types c.args.within.now later c.args.span (full_label value) (optional_over later value) fits on
     ∙ full-is (record { shapes = later; structs = [] }) setting c.args.span value)
-    (one-fits types c.args.within fits c.in_ok-made.made (passes_if_there (option_map (are_known (length types.shapes)) value)) (c.in_ok-made.ensures.known (length types.shapes)) (optional-passes types value c.in_ok-value.ensures.numbered))
+    (one-fits types c.args.within.now fits c.in_ok-made.made (passes_if_there (option_map (are_known (length types.shapes)) value)) (c.in_ok-made.ensures.known (length types.shapes)) (optional-passes types value c.in_ok-value.ensures.numbered))
