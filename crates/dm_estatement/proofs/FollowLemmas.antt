@@ -1,5 +1,5 @@
 -- What the expressions of statements leave as it is.
-use Rattle.std.specs.Prelude.{◌≡◌, ℕ, ℤ, true, not, List, [], ◌∷◌, Option, Some, None, refl}
+use Rattle.std.specs.Prelude.{ℕ, ℤ, true, not, List, [], ◌∷◌, Option, Some, None, refl}
 use Rattle.std.proofs.Common.{◌∙◌}
 use Rattle.dm_token.specs.declared.place.Span.{Span}
 use Rattle.dm_int.specs.declared.Kind.{Kind}

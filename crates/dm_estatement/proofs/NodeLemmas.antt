@@ -1,12 +1,11 @@
 -- The nodes of statements, as the definition has them.
-use Rattle.std.specs.Prelude.{◌≡◌, ℕ, ◌<◌, Bool, true, ◌&&◌, nat_lt, IsTrue, List, [], ◌∷◌, ◌++◌, map, All, Option, Some, None, option_map, is_some, length, refl}
+use Rattle.std.specs.Prelude.{◌≡◌, Bool, true, ◌&&◌, nat_lt, IsTrue, List, [], ◌∷◌, ◌++◌, map, All, Option, Some, None, option_map, is_some, length, refl}
 use Rattle.std.proofs.Common.{sym, ap, ◌∙◌, subst}
 use Rattle.std.proofs.lemmas.Bool.{and_from}
 use Rattle.std.proofs.lemmas.List.Elements.{All-head, All-tail}
 use Rattle.dm_token.specs.declared.place.Span.{Span}
 use Rattle.dm_type.specs.declared.shape.Shape.{Shape}
-use Rattle.dm_type.specs.declared.shape.Shape.TheVariants.{Void}
-use Rattle.dm_type.specs.CTypes.{CType, void}
+use Rattle.dm_type.specs.CTypes.{CType}
 use Rattle.dm_type.specs.Tables.{Table}
 use Rattle.dm_syn.specs.Sources.{Source}
 use Rattle.dm_tree.specs.declared.tree.Core.{Core}
@@ -16,11 +15,11 @@ use Rattle.dm_tree.specs.Trees as label
 use Rattle.dm_tree.specs.TypeNumbers.{are_known, are_known_in_local, all_pass, passes_if_there}
 use Rattle.dm_tree.specs.Views.{view, if_there}
 use Rattle.dm_typing.specs.Conversions.{made}
-use Rattle.dm_typing.specs.Fitting.{IsNumbered, AreNumbered}
+use Rattle.dm_typing.specs.Fitting.{IsNumbered}
 use Rattle.dm_typing.specs.Known.{Setting}
 use Rattle.dm_typing.specs.Typing.{extent}
-use Rattle.dm_typing.specs.Views.{Begins, type_over, IsNumberOf}
-use Rattle.dm_typing.proofs.LaterLemmas.{begins-on, known-later, trees-known}
+use Rattle.dm_typing.specs.Views.{Begins, type_over}
+use Rattle.dm_typing.proofs.LaterLemmas.{begins-on, known-later}
 use Rattle.dm_typing.proofs.ValueLemmas.{node-known}
 use Rattle.dm_edeclarator.proofs.FitLemmas.{id-later}
 use Rattle.dm_edecl.specs.Statements.{statement, full_statement, is_there, for_statement}

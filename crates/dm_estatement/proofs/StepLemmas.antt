@@ -1,5 +1,5 @@
 -- The definition of statements by the steps that the code takes.
-use Rattle.std.specs.Prelude.{◌≡◌, ℕ, ℤ, Bool, true, false, not, List, [], ◌∷◌, ◌++◌, Option, Some, None, length, map as list_map, refl}
+use Rattle.std.specs.Prelude.{◌≡◌, ℤ, true, false, not, List, [], ◌∷◌, ◌++◌, Option, Some, None, length, map as list_map, refl}
 use Rattle.std.proofs.Common.{sym, ap, append_assoc, append-nil}
 use Rattle.std.specs.FinMap as map
 use Rattle.dm_token.specs.declared.place.Span.{Span}
@@ -19,7 +19,7 @@ use Rattle.dm_edecl.specs.Standing.{Standing, Progress, goes_on, stops, further,
 use Rattle.dm_edecl.specs.Statements.{Within, in_loop, statement, typed_condition, typed_optional_condition, typed_optional, CaseValue, typed_case, Labelled, AllLabelled, is_label_among, declaration_tree, declared_in, returned, typed_start, for_statement, typed_stmt, typed_items_in, typed_item_in, typed_switch_items, typed_switch_item}
 use Rattle.dm_edeclaration.specs.Steps.{summed}
 use Rattle.dm_estanding.proofs.ProceedingLemmas.{further-further, typing-further}
-use Rattle.dm_estatement.specs.Parts.{may_be_returned, scoped_stmt, other_part, choice_inside, typed_label, labelled_value, joined, item_behind, Clauses, clauses, typed_clauses, stmt_inside, opens_scope}
+use Rattle.dm_estatement.specs.Parts.{may_be_returned, scoped_stmt, choice_inside, typed_label, labelled_value, joined, item_behind, Clauses, clauses, typed_clauses, stmt_inside, opens_scope}
 
 -- ---- parts of statements
 

@@ -1,5 +1,5 @@
 -- What the statements of the code stand for, form by form.
-use Rattle.std.specs.Prelude.{◌≡◌, Bool, true, List, map, Option, Some, None, option_map, refl}
+use Rattle.std.specs.Prelude.{◌≡◌, List, map, Option, option_map}
 use Rattle.std.proofs.Common.{rules, ap, ◌∙◌}
 use Rattle.dm_token.specs.declared.place.Span.{Span}
 use Rattle.dm_syn.specs.declared.expression.Expr.{Expr}

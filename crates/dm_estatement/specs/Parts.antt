@@ -3,7 +3,7 @@
 --     optional_over, subject_over, case_over, clauses_over      expressions in statements
 --     labels_of labels      the labels of a switch so far
 --     stmt_inside setting within inside stmt      a statement in its own scope, if it is one
-use Rattle.std.specs.Prelude.{◌≡◌, ℕ, ℤ, Bool, true, false, not, List, [], ◌∷◌, ◌++◌, map, reverse, option_map, Option, Some, None, IfSome, Result, Ok, Err}
+use Rattle.std.specs.Prelude.{◌≡◌, ℕ, ℤ, Bool, true, false, List, [], ◌∷◌, ◌++◌, map, reverse, option_map, Option, Some, None, IfSome, Result, Ok, Err}
 use Rattle.dm_token.specs.declared.place.Span.{Span}
 use Rattle.dm_token.specs.declared.stop.Stop.{Stop}
 use Rattle.dm_token.specs.declared.stop.Stop.TheVariants as stop

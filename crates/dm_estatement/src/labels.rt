@@ -1,11 +1,10 @@
 //! The labels of a switch (6.8.1, 6.8.4.2).
 
-ghost use Rattle.std.specs.Prelude.{◌≡◌, false, [], ◌∷◌, List as Sequence, IfOk, not, Some};
+ghost use Rattle.std.specs.Prelude.{◌≡◌, false, [], ◌∷◌, List as Sequence, IfOk, Some};
 ghost use Rattle.dm_type.specs.declared.shape.Shape.{Shape as OneShape};
 ghost use Rattle.dm_syn.specs.Views as syntax;
 ghost use Rattle.dm_typing.specs.Conversions as conversions;
 ghost use Rattle.dm_typing.specs.Fitting.{IsNumbered};
-ghost use Rattle.dm_typing.specs.Known.{given, obeys, if_given};
 ghost use Rattle.dm_typing.specs.Views.{Begins, view_over, known_over, source_of, setting_of, Gives, Grows};
 ghost use Rattle.dm_edeclarator.specs.Steps.{Follows};
 ghost use Rattle.dm_edecl.specs.Statements as statements;

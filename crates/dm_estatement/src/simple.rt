@@ -4,7 +4,7 @@ ghost use Rattle.std.specs.Prelude.{[], option_map};
 ghost use Rattle.dm_syn.specs.Views as syntax;
 ghost use Rattle.dm_tree.specs.Trees as label;
 ghost use Rattle.dm_typing.specs.Fitting.{IsNumbered};
-ghost use Rattle.dm_typing.specs.Views.{type_over, view_over, source_of, setting_of};
+ghost use Rattle.dm_typing.specs.Views.{view_over, source_of, setting_of};
 ghost use Rattle.dm_edecl.specs.Standing.{goes_on, typing, keeps};
 ghost use Rattle.dm_edecl.specs.Statements as statements;
 ghost use Rattle.dm_estanding.specs.Proceeding.{Proceeds};
@@ -83,13 +83,7 @@ pub(crate) fn declared_in(
 {
     let declared = typed_declaration(typer, standing, declaration)?;
     let TypedLocals { constants, locals } = declared;
-    Ok(declaration_node(
-        typer,
-        within.statement,
-        declaration.span,
-        constants,
-        locals,
-    ))
+    Ok(declaration_node(typer, within.statement, declaration.span, constants, locals))
 }
 
 /// The first clause of a `for`.

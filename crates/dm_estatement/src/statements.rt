@@ -122,7 +122,16 @@ fn stmt_inside(
             do_statement(typer, within, standing, span, body.get(), condition)
         }
         StmtForm::For(start, condition, step, body) => {
-            for_statement(typer, within, standing, span, start, condition, step, body.get())
+            for_statement(
+                typer,
+                within,
+                standing,
+                span,
+                start,
+                condition,
+                step,
+                body.get(),
+            )
         }
         StmtForm::Break => break_here(typer, within, standing, span),
         StmtForm::Continue => continue_here(typer, within, standing, span),
@@ -375,10 +384,27 @@ fn typed_switch_item(
 {
     match &item.form {
         SwitchForm::Case(expr, inner) => {
-            case_item(typer, within, kind, standing, labels, item.span, expr, inner.get())
+            case_item(
+                typer,
+                within,
+                kind,
+                standing,
+                labels,
+                item.span,
+                expr,
+                inner.get(),
+            )
         }
         SwitchForm::Default(inner) => {
-            default_item(typer, within, kind, standing, labels, item.span, inner.get())
+            default_item(
+                typer,
+                within,
+                kind,
+                standing,
+                labels,
+                item.span,
+                inner.get(),
+            )
         }
         SwitchForm::Statement(stmt) => {
             let tree = typed_stmt(typer, within, standing, stmt)?;
@@ -403,7 +429,10 @@ fn case_item(
     ensures { Proceeds LabelledFits labelled_over (source_of typer.now) standing.old standing.new result (λ later before. statements.typed_switch_item (setting_of typer.now) (within_over later within.now) kind before (labels_of labels) (tree.case span (syntax.expr expr.now) (syntax.switch_item inner.now))) }
 {
     let one = label_here(typer, standing, kind, labels, expr)?;
-    let Labelled { tree: value, labels } = one;
+    let Labelled {
+        tree: value,
+        labels,
+    } = one;
     let made = typed_switch_item(typer, within, kind, standing, labels, inner)?;
     let Labelled { tree, labels } = made;
     let tree = case_node(typer, within.statement, span, value, tree)?;

@@ -3,7 +3,7 @@
 ghost use Rattle.std.specs.Prelude.{◌≡◌, true, false, IfOk};
 ghost use Rattle.dm_type.specs.Tables.{IsId};
 ghost use Rattle.dm_type.specs.declared.shape.Shape.TheVariants.{Void};
-ghost use Rattle.dm_typing.specs.Views.{IsNumberOf, Grows};
+ghost use Rattle.dm_typing.specs.Views.{Grows};
 ghost use Rattle.dm_estatement.specs.Parts.{WithinFits};
 
 use dm_token::Memory;

@@ -3,7 +3,6 @@ use Rattle.std.specs.Prelude.{◌≡◌}
 use Rattle.std.proofs.Common.{sym, ap, ap₂, ◌∙◌}
 use Rattle.dm_tree.specs.Constants.{integer_kind}
 use Rattle.dm_tree.specs.Trees.{kind_of}
-use Rattle.dm_typing.specs.Known.{given}
 use Rattle.dm_typing.specs.Views.{view_over, known_over, source_of}
 use Rattle.dm_typing.proofs.GivesLemmas.{found-it, found-none, refused, grown, given-so}
 use Rattle.dm_typing.proofs.LaterLemmas.{begins-on}

@@ -1,13 +1,11 @@
 -- What is typed is typed where the statement stands.
 use Rattle.std.specs.Prelude.{List, refl}
-use Rattle.std.specs.Option.{option_map}
 use Rattle.dm_type.specs.declared.shape.Shape.{Shape}
 use Rattle.dm_syn.specs.Views as syntax
-use Rattle.dm_typing.specs.Fitting.{IsNumbered}
 use Rattle.dm_typing.specs.Known.{Known}
-use Rattle.dm_typing.specs.Views.{type_over, view_over, source_of, setting_of}
+use Rattle.dm_typing.specs.Views.{source_of, setting_of}
 use Rattle.dm_edecl.specs.Statements.{typed_case}
-use Rattle.dm_estatement.specs.Parts.{optional_over, OptionalFits, subject_over, SubjectFits, case_over, CaseFits, labels_of}
+use Rattle.dm_estatement.specs.Parts.{case_over, CaseFits, labels_of}
 use Rattle.dm_estatement.proofs.CallLemmas.{typed-here}
 use Rattle.dm_estatement.proofs.FollowLemmas.{case-keeps, case-trees}
 use Rattle.dm_estatement.proofs.here.case_here.Goals as goal

@@ -7,7 +7,6 @@ use Rattle.dm_typing.specs.Fitting.{IsNumbered}
 use Rattle.dm_typing.specs.Known.{Known}
 use Rattle.dm_typing.specs.Views.{type_over, view_over, source_of, setting_of}
 use Rattle.dm_edecl.specs.Statements.{typed_return}
-use Rattle.dm_estatement.specs.Parts.{optional_over, OptionalFits, subject_over, SubjectFits, case_over, CaseFits, labels_of}
 use Rattle.dm_estatement.proofs.CallLemmas.{typed-here}
 use Rattle.dm_estatement.proofs.FollowLemmas.{return-keeps, return-trees}
 use Rattle.dm_estatement.proofs.here.return_here.Goals as goal

@@ -1,5 +1,5 @@
 -- By the value of the constant expression, and whether a label has it.
-use Rattle.std.specs.Prelude.{◌≡◌, ℤ, Option, Some, None, not}
+use Rattle.std.specs.Prelude.{◌≡◌, Some, not}
 use Rattle.std.proofs.Common.{rules, ap, sym, ◌∙◌, to_z, of_z}
 use mir.Syntax.{w128}
 use Rattle.dm_typing.specs.Conversions.{constant_of}

@@ -3,9 +3,8 @@ use Rattle.std.specs.Prelude.{[], length, option_map}
 use Rattle.std.proofs.Common.{sym, ap, ◌∙◌}
 use Rattle.dm_tree.specs.Trees as label
 use Rattle.dm_tree.specs.TypeNumbers.{are_known, passes_if_there}
-use Rattle.dm_typing.specs.Conversions.{as_type}
 use Rattle.dm_typing.specs.Known.{given}
-use Rattle.dm_typing.specs.Views.{type_over, view_over, known_over, source_of, setting_of}
+use Rattle.dm_typing.specs.Views.{type_over, view_over, known_over, setting_of}
 use Rattle.dm_typing.proofs.GivesLemmas.{obeyed}
 use Rattle.dm_edecl.specs.Statements.{statement}
 use Rattle.dm_estatement.specs.Parts.{optional_over, may_be_returned}

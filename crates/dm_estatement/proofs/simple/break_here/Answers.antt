@@ -1,16 +1,12 @@
 -- It stands in a loop or a switch.
-use Rattle.std.specs.Prelude.{List, [], ◌∷◌, ◌++◌, map, length, option_map, refl}
+use Rattle.std.specs.Prelude.{List, [], length, refl}
 use Rattle.std.proofs.Common.{sym, ap, ◌∙◌}
 use Rattle.dm_type.specs.declared.shape.Shape.{Shape}
-use Rattle.dm_syn.specs.Views as syntax
 use Rattle.dm_tree.specs.Trees.{Tree}
 use Rattle.dm_tree.specs.Trees as label
-use Rattle.dm_tree.specs.TypeNumbers.{are_known, are_known_in_local, all_pass, passes_if_there}
-use Rattle.dm_tree.specs.Views.{if_there, declarators_of, expressions_of_locals}
 use Rattle.dm_typing.specs.Fitting.{IsNumbered}
 use Rattle.dm_typing.specs.Views.{view_over, source_of, setting_of}
-use Rattle.dm_typing.proofs.LaterLemmas.{trees-known}
-use Rattle.dm_edecl.specs.Standing.{Standing, Progress, goes_on, further, typing, keeps}
+use Rattle.dm_edecl.specs.Standing.{Standing, goes_on, keeps}
 use Rattle.dm_edecl.specs.Statements.{statement}
 use Rattle.dm_estanding.proofs.ProceedingLemmas.{starts, restated, done}
 use Rattle.dm_estatement.proofs.NodeLemmas.{statement-is, bare-fits}

@@ -1,16 +1,10 @@
 -- One clause behind another.
-use Rattle.std.specs.Prelude.{List, [], ◌∷◌, ◌++◌, map, length, option_map, refl}
-use Rattle.std.proofs.Common.{sym, ap, ◌∙◌}
+use Rattle.std.specs.Prelude.{List, option_map, refl}
 use Rattle.dm_type.specs.declared.shape.Shape.{Shape}
 use Rattle.dm_syn.specs.Views as syntax
 use Rattle.dm_tree.specs.Trees.{Tree}
-use Rattle.dm_tree.specs.Trees as label
-use Rattle.dm_tree.specs.TypeNumbers.{are_known, are_known_in_local, all_pass, passes_if_there}
-use Rattle.dm_tree.specs.Views.{if_there, declarators_of, expressions_of_locals}
-use Rattle.dm_typing.specs.Fitting.{IsNumbered}
-use Rattle.dm_typing.specs.Views.{view_over, source_of, setting_of}
-use Rattle.dm_typing.proofs.LaterLemmas.{trees-known}
-use Rattle.dm_edecl.specs.Standing.{Standing, Progress, goes_on, further, typing, keeps}
+use Rattle.dm_typing.specs.Views.{source_of, setting_of}
+use Rattle.dm_edecl.specs.Standing.{Standing, goes_on, typing}
 use Rattle.dm_edecl.specs.Statements.{typed_start, typed_optional_condition, typed_optional}
 use Rattle.dm_estatement.specs.Parts.{optional_over, OptionalFits, clauses_over, ClausesFit, typed_clauses}
 use Rattle.dm_estatement.proofs.CallLemmas.{triple-fails, triple-fails-then, triple-fails-last, triple-made}

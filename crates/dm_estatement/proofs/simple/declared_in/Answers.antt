@@ -1,16 +1,16 @@
 -- By what the declaration declares.
-use Rattle.std.specs.Prelude.{List, [], ◌∷◌, ◌++◌, map, length, option_map, refl}
-use Rattle.std.proofs.Common.{sym, ap, ◌∙◌}
+use Rattle.std.specs.Prelude.{List, [], ◌++◌, map, length}
+use Rattle.std.proofs.Common.{◌∙◌}
 use Rattle.dm_type.specs.declared.shape.Shape.{Shape}
 use Rattle.dm_syn.specs.Views as syntax
 use Rattle.dm_tree.specs.Trees.{Tree}
 use Rattle.dm_tree.specs.Trees as label
-use Rattle.dm_tree.specs.TypeNumbers.{are_known, are_known_in_local, all_pass, passes_if_there}
-use Rattle.dm_tree.specs.Views.{if_there, declarators_of, expressions_of_locals}
+use Rattle.dm_tree.specs.TypeNumbers.{are_known, are_known_in_local, all_pass}
+use Rattle.dm_tree.specs.Views.{declarators_of, expressions_of_locals}
 use Rattle.dm_typing.specs.Fitting.{IsNumbered}
 use Rattle.dm_typing.specs.Views.{view_over, source_of, setting_of}
 use Rattle.dm_typing.proofs.LaterLemmas.{trees-known}
-use Rattle.dm_edecl.specs.Standing.{Standing, Progress, goes_on, further, typing, keeps}
+use Rattle.dm_edecl.specs.Standing.{Standing}
 use Rattle.dm_edecl.specs.Declaring.{typed_declaration}
 use Rattle.dm_edecl.specs.Statements.{statement, declared_in}
 use Rattle.dm_edeclaration.specs.Steps.{Together, items_over, ItemsFit, opened_over, summed}

@@ -1,13 +1,12 @@
 -- The value is a label from there on.
-use Rattle.std.specs.Prelude.{◌≡◌, List, ◌∷◌, Some, refl}
-use Rattle.std.proofs.Common.{rules, sym, ap, ◌∙◌, to_z, of_z}
+use Rattle.std.specs.Prelude.{◌≡◌, List, ◌∷◌, Some}
+use Rattle.std.proofs.Common.{rules, ap, ◌∙◌, to_z, of_z}
 use mir.Syntax.{w128}
 use Rattle.dm_type.specs.declared.shape.Shape.{Shape}
 use Rattle.dm_syn.specs.Views as syntax
-use Rattle.dm_tree.specs.Trees.{Tree}
 use Rattle.dm_typing.specs.Views.{view_over, source_of, setting_of}
 use Rattle.dm_edecl.specs.Standing.{Standing, goes_on, typing}
-use Rattle.dm_edecl.specs.Statements.{CaseValue, Labelled, typed_case}
+use Rattle.dm_edecl.specs.Statements.{CaseValue, typed_case}
 use Rattle.dm_estanding.proofs.ProceedingLemmas.{typing-further}
 use Rattle.dm_estatement.specs.Parts.{case_over, CaseFits, labels_of, labelled_over, LabelledFits, labelled_value, typed_label}
 use Rattle.dm_estatement.proofs.CallLemmas.{single-fails, single-made}
