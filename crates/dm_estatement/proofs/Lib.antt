@@ -1,0 +1,6 @@
+pub mod LabelLemmas
+pub mod NodeLemmas
+pub mod StepLemmas
+pub mod FollowLemmas
+pub mod CallLemmas
+pub mod ViewLemmas
