@@ -1,2 +1,3 @@
 pub mod ListLemmas
 pub mod MoveLemmas
+pub mod ReductionLemmas
