@@ -1,3 +1,4 @@
 pub mod ListLemmas
 pub mod MoveLemmas
 pub mod ReductionLemmas
+pub mod HoleLemmas

@@ -125,7 +125,7 @@ fewer-behind opens (more_runs first rest) n is =
 
 -- ---- each ready node stands where it was found
 
-pub run_of : Ready → Run
+abbrev pub run_of : Ready → Run
 run_of node = to_do node.doing node.kind node.place node.parts
 
 -- the part that is left out may be evaluated, with the node in it the tree is the whole, and the node's operands are evaluated
@@ -142,7 +142,6 @@ pub record StandsIn (opens : Open) (parts : Runs) (one : Holes × Ready) : Type 
 own-stands : (doing : Doing) (kind : CType) (place : Place) (parts : Runs) (found : Option (List Evaluated)) (inner : List (Holes × Ready))
     → evaluated_in (open_parts doing) parts ≡ found → Each (StandsIn (open_parts doing) parts) inner
     → Each (Stands (to_do doing kind place parts)) (ready_or_inner doing kind place parts found inner)
-unfolding run_of
 own-stands doing kind place parts (Some all) inner is below = (record { opened = tt; fills = refl; operands = is }, tt)
 own-stands doing kind place parts None inner is below =
     each-map (StandsIn (open_parts doing) parts) (Stands (to_do doing kind place parts)) (λ one. (within doing kind place one.0, one.1))

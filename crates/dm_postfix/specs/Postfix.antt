@@ -3,7 +3,7 @@
 --     items run      the items of a tree
 --     before_of hole, after_of hole      the items in front of a part that is left out, and those behind it
 --     tree_of items, hole_of before after      the tree that items stand for, and the one with a part left out
-use Rattle.std.specs.Prelude.{ℕ, zero, suc, Bool, true, false, List, [], ◌∷◌, ◌++◌, Option, Some, None, option_map}
+use Rattle.std.specs.Prelude.{◌≡◌, ℕ, zero, suc, Bool, true, false, List, [], ◌∷◌, ◌++◌, Option, Some, None, option_map}
 use Rattle.dm_token.specs.declared.place.Place.{Place}
 use Rattle.dm_type.specs.CTypes.{CType, void}
 use Rattle.dm_meaning.specs.Values.{At, unset}
@@ -75,6 +75,12 @@ abbrev pub locks_of : List Item → List At
 locks_of [] = []
 locks_of (evaluated one ∷ rest) = one.locks ++ locks_of rest
 locks_of (waiting node ∷ rest) = locks_of rest
+
+-- the parts that aren't evaluated have none
+abbrev pub AreUnlocked : List Item → Type 0
+AreUnlocked [] = Unit {0}
+AreUnlocked (evaluated one ∷ rest) = AreUnlocked rest
+AreUnlocked (waiting node ∷ rest) = (closed_locks node.slots ≡ []) × AreUnlocked rest
 
 -- ---- trees with a part left out
 
