@@ -2,3 +2,4 @@ pub mod ListLemmas
 pub mod MoveLemmas
 pub mod ReductionLemmas
 pub mod HoleLemmas
+pub mod StepLemmas

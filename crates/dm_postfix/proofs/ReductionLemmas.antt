@@ -12,7 +12,7 @@ use Rattle.dm_postfix.proofs.ListLemmas.{Each, each-append, each-map, map-square
 
 -- ---- lists that are joined
 
-abbrev followed : List Item → Reduction → Reduction
+abbrev pub followed : List Item → Reduction → Reduction
 followed more one = record { before = one.before; node = one.node; after = one.after ++ more }
 
 abbrev pub prefixed : List Item → Reduction → Reduction

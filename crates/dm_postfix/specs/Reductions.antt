@@ -94,3 +94,8 @@ filled no_slots operands = no_runs
 filled (operand slots) [] = filled slots []
 filled (operand slots) (one ∷ operands) = more_runs (done one.kind one.result one.locks) (filled slots operands)
 filled (closed run slots) operands = more_runs run (filled slots operands)
+
+-- the step of a node with these operands
+abbrev pub step_at : Scene → World → List At → Waiting → List Evaluated → Move Run Hole
+step_at scene world locks node operands =
+    node_step scene world locks node.doing node.kind node.place (filled node.slots operands) (map as_operand operands)
