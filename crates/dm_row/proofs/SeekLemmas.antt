@@ -35,11 +35,11 @@ some-behind both number few there = from both.1 there
     from (item ∷ rest) less = omega arith
 
 own-ready : {R N : Type 0} (item : Item R N) (results : ℕ) (rest : List (Item R N)) → is_next_ready results (item ∷ rest) ≡ false → ready_in results (item ∷ []) ≡ 0
-own-ready (Done result) results rest is = refl
+own-ready (Done result weight) results rest is = refl
 own-ready (Waits node operands) results rest is = ap (λ b. one_if b + 0) is ∙ omega arith
 
 own-few : {R N : Type 0} (item : Item R N) (results : ℕ) → ready_in results (item ∷ []) ≤ 1
-own-few (Done result) results = omega arith
+own-few (Done result weight) results = omega arith
 own-few (Waits node operands) results = few (nat_le operands results)
   where
     few : (b : Bool) → one_if b + 0 ≤ 1
@@ -80,7 +80,7 @@ sought {R} {N} before after number same is =
   where
     from : (rest : List (Item R N)) → after.1 ≡ rest → is_next_ready (results_after 0 after.0) rest ≡ true → ready_in 0 after.0 ≡ number → IsSought number before after
     from [] e next counted = absurd (cc)
-    from (Done result ∷ rest) e next counted = absurd (cc)
+    from (Done result weight ∷ rest) e next counted = absurd (cc)
     from (Waits node operands ∷ rest) e next counted =
         record { same = same; node = node; operands = operands; rest = rest; there = e; enough = leb-true operands (results_after 0 after.0) next; counted = counted }
 

@@ -7,7 +7,7 @@ use Rattle.dm_row.specs.declared.item.Passed.{Passed}
 use Rattle.dm_row.specs.declared.item.Ahead.{Ahead}
 use Rattle.dm_row.specs.declared.row.Left.{Left}
 use Rattle.dm_row.specs.declared.row.Right.{Right}
-use Rattle.dm_row.specs.Counts.{one_if, ready_in, results_after, passed, count_by, count_ahead, led, is_next_ready}
+use Rattle.dm_row.specs.Counts.{one_if, ready_in, results_after, passed, count_by, count_ahead, led, is_next_ready, weight_by, weight_in}
 use Rattle.dm_row.specs.Sides.{items_left, items_right_before, items_right, none_passed, none_ahead, all_passed, all_led, AreKeptLeft, AreKeptRight, IsCounted}
 
 at_most_one : (b : Bool) → one_if b ≤ 1
@@ -17,11 +17,11 @@ at_most_one false = omega arith
 -- ---- in front of the place
 
 results-by : {R N : Type 0} (counts : Passed) (item : Item R N) → (passed counts item).results ≤ counts.results + 1
-results-by counts (Done result) = omega arith
+results-by counts (Done result weight) = omega arith
 results-by counts (Waits node operands) = omega arith
 
 ready-by : {R N : Type 0} (counts : Passed) (item : Item R N) → (passed counts item).ready ≤ counts.ready + 1
-ready-by counts (Done result) = omega arith
+ready-by counts (Done result weight) = omega arith
 ready-by counts (Waits node operands) = let h = at_most_one (nat_le operands counts.results) in omega (arith, h)
 
 pub results-few : {R N : Type 0} (counts : Passed) (left : List (Left R N)) → (all_passed counts left).results ≤ counts.results + length left
@@ -33,7 +33,7 @@ ready-few counts [] = omega arith
 ready-few counts (one ∷ left) = let h = ready-few (passed counts one.item) left in let k = ready-by counts one.item in omega (arith, h, k)
 
 results-step : {R N : Type 0} (counts : Passed) (item : Item R N) (rest : List (Item R N)) → results_after (passed counts item).results rest ≡ results_after counts.results (item ∷ rest)
-results-step counts (Done result) rest = ap (λ n. results_after n rest) (one-more counts.results)
+results-step counts (Done result weight) rest = ap (λ n. results_after n rest) (one-more counts.results)
   where
     one-more : (n : ℕ) → n + 1 ≡ suc n
     one-more n = omega arith
@@ -45,7 +45,7 @@ results-passed counts (one ∷ left) = results-passed (passed counts one.item) l
 
 ready-step : {R N : Type 0} (counts : Passed) (item : Item R N) (rest : List (Item R N))
     → (passed counts item).ready + ready_in (passed counts item).results rest ≡ counts.ready + ready_in counts.results (item ∷ rest)
-ready-step counts (Done result) rest = ap (λ n. counts.ready + ready_in n rest) (one-more counts.results)
+ready-step counts (Done result weight) rest = ap (λ n. counts.ready + ready_in n rest) (one-more counts.results)
   where
     one-more : (n : ℕ) → n + 1 ≡ suc n
     one-more n = omega arith
@@ -57,6 +57,16 @@ ready-passed counts [] = none-more counts.ready
     none-more : (n : ℕ) → n ≡ n + 0
     none-more n = omega arith
 ready-passed counts (one ∷ left) = ready-passed (passed counts one.item) left ∙ ready-step counts one.item (items_left left)
+
+weight-step : {R N : Type 0} (counts : Passed) (item : Item R N) → (passed counts item).weight ≡ counts.weight + weight_by item
+weight-step counts (Done result weight) = refl
+weight-step counts (Waits node operands) = omega arith
+
+pub weight-passed : {R N : Type 0} (counts : Passed) (left : List (Left R N)) → (all_passed counts left).weight ≡ counts.weight + weight_in (items_left left)
+weight-passed counts [] = omega arith
+weight-passed counts (one ∷ left) =
+    weight-passed (passed counts one.item) left
+    ∙ (ap (λ n. n + weight_in (items_left left)) (weight-step counts one.item) ∙ add_assoc counts.weight (weight_by one.item) (weight_in (items_left left)))
 
 pub passed-push : {R N : Type 0} (counts : Passed) (left : List (Left R N)) (one : Left R N) → all_passed counts (left ++ one ∷ []) ≡ passed (all_passed counts left) one.item
 passed-push counts [] one = refl
@@ -77,7 +87,7 @@ left-push (first ∷ left) one = ap (λ rest. first.item ∷ rest) (left-push le
 -- ---- behind the place
 
 ahead_results-by : {R N : Type 0} (counts : Ahead) (item : Item R N) → (led counts item).results ≤ counts.results + 1
-ahead_results-by counts (Done result) = omega arith
+ahead_results-by counts (Done result weight) = omega arith
 ahead_results-by counts (Waits node operands) = omega arith
 
 pub count-few : (operands : Option ℕ) (results ready : ℕ) → count_by operands results ready ≤ ready + 1
@@ -85,7 +95,7 @@ count-few None results ready = omega arith
 count-few (Some operands) results ready = let h = at_most_one (nat_le operands results) in omega (arith, h)
 
 ahead_ready-by : {R N : Type 0} (counts : Ahead) (item : Item R N) → (led counts item).ready ≤ counts.ready + 1
-ahead_ready-by counts (Done result) = omega arith
+ahead_ready-by counts (Done result weight) = omega arith
 ahead_ready-by counts (Waits node operands) = count-few counts.operands (0 + counts.results) counts.ready
 
 pub ahead_results-few : {R N : Type 0} (counts : Ahead) (right : List (Right R N)) → (all_led counts right).results ≤ counts.results + length right
@@ -98,7 +108,7 @@ ahead_ready-few counts (one ∷ right) = let h = ahead_ready-few (led counts one
 
 count-step : {R N : Type 0} (counts : Ahead) (item : Item R N) (more : List (Item R N)) → ((results : ℕ) → ready_in results more ≡ count_ahead counts results)
     → (results : ℕ) → ready_in results (item ∷ more) ≡ count_ahead (led counts item) results
-count-step counts (Done result) more counted results = counted (suc results) ∙ ap (λ n. count_by counts.operands n counts.ready) (moved results counts.results)
+count-step counts (Done result weight) more counted results = counted (suc results) ∙ ap (λ n. count_by counts.operands n counts.ready) (moved results counts.results)
   where
     moved : (m n : ℕ) → suc m + n ≡ m + (n + 1)
     moved m n = omega arith
@@ -138,14 +148,14 @@ ready-append results [] ys = none-before (ready_in results ys)
   where
     none-before : (n : ℕ) → n ≡ 0 + n
     none-before n = omega arith
-ready-append results (Done result ∷ xs) ys = ready-append (suc results) xs ys
+ready-append results (Done result weight ∷ xs) ys = ready-append (suc results) xs ys
 ready-append results (Waits node operands ∷ xs) ys =
     ap (λ n. one_if (nat_le operands results) + n) (ready-append 0 xs ys)
     ∙ sym (add_assoc (one_if (nat_le operands results)) (ready_in 0 xs) (ready_in (results_after 0 xs) ys))
 
 pub results-append : {R N : Type 0} (results : ℕ) (xs ys : List (Item R N)) → results_after results (xs ++ ys) ≡ results_after (results_after results xs) ys
 results-append results [] ys = refl
-results-append results (Done result ∷ xs) ys = results-append (suc results) xs ys
+results-append results (Done result weight ∷ xs) ys = results-append (suc results) xs ys
 results-append results (Waits node operands ∷ xs) ys = results-append 0 xs ys
 
 -- ---- what is right of a row
@@ -168,6 +178,12 @@ module _ {R N : Type 0} (left : List (Left R N)) (counts : Passed) (right : List
 
   pub ready-right : counts.ready ≡ ready_in 0 (items_left left)
   ready-right = ap (λ (c : Passed). c.ready) all.left_counted ∙ (ready-passed none_passed left ∙ none-before (ready_in 0 (items_left left)))
+    where
+      none-before : (n : ℕ) → 0 + n ≡ n
+      none-before n = omega arith
+
+  pub weight-right : counts.weight ≡ weight_in (items_left left)
+  weight-right = ap (λ (c : Passed). c.weight) all.left_counted ∙ (weight-passed none_passed left ∙ none-before (weight_in (items_left left)))
     where
       none-before : (n : ℕ) → 0 + n ≡ n
       none-before n = omega arith
@@ -255,6 +271,6 @@ module _ {R N : Type 0} (left : List (Left R N)) (right : List (Right R N)) (bot
       → nat_le operands results ≡ is_next_ready results both.1
   nearest-waits rest one node operands results kept item = ap (is_next_ready results) (sym (sym second-side ∙ (ap items_right kept ∙ (right-push rest one [] ∙ ap (λ i. i ∷ items_right rest) item))))
 
-  pub nearest-done : (rest : List (Right R N)) (one : Right R N) (result : R) (results : ℕ) → right ≡ rest ++ one ∷ [] → one.item ≡ Done result
+  pub nearest-done : (rest : List (Right R N)) (one : Right R N) (result : R) (weight results : ℕ) → right ≡ rest ++ one ∷ [] → one.item ≡ Done result weight
       → false ≡ is_next_ready results both.1
-  nearest-done rest one result results kept item = ap (is_next_ready results) (sym (sym second-side ∙ (ap items_right kept ∙ (right-push rest one [] ∙ ap (λ i. i ∷ items_right rest) item))))
+  nearest-done rest one result weight results kept item = ap (is_next_ready results) (sym (sym second-side ∙ (ap items_right kept ∙ (right-push rest one [] ∙ ap (λ i. i ∷ items_right rest) item))))

@@ -20,7 +20,7 @@ abbrev pub items_right : {R N : Type 0} → List (Right R N) → List (Item R N)
 items_right all = items_right_before all []
 
 abbrev pub none_passed : Passed
-none_passed = record { results = 0; ready = 0 }
+none_passed = record { results = 0; ready = 0; weight = 0 }
 
 abbrev pub none_ahead : Ahead
 none_ahead = record { results = 0; operands = None; ready = 0 }

@@ -1,12 +1,12 @@
 //! What stands in a row, and what the row counts of it.
 
 ghost use Rattle.std.specs.Prelude.{◌≡◌, ◌<◌, ◌≤◌, ◌+◌, ◌^◌};
-ghost use Rattle.dm_row.specs.Counts.{passed, led, count_ahead};
+ghost use Rattle.dm_row.specs.Counts.{passed, led, count_ahead, weight_by};
 
-/// What stands in a row: a result, or a node that waits for so many results in front of it.
+/// What stands in a row: a result, with its weight, or a node that waits for so many results in front of it.
 #[derive(Debug, Drop)]
 pub enum Item<R, N> {
-    Done(R),
+    Done(R, usize),
     Waits(N, usize),
 }
 
@@ -17,6 +17,8 @@ pub(crate) struct Passed {
     pub(crate) results: usize,
     /// How many nodes in front of it have all their operands.
     pub(crate) ready: usize,
+    /// The weights of all results in front of it.
+    pub(crate) weight: usize,
 }
 
 /// What a row counts of the items behind a place.
@@ -30,21 +32,36 @@ pub(crate) struct Ahead {
     pub(crate) ready: usize,
 }
 
+impl<R, N> Item<R, N> {
+    /// Its weight; a node has none.
+    pub(crate) fn weight(&self) -> usize
+        ensures { result ≡ weight_by self.now }
+    {
+        match self {
+            Item::Done(_, weight) => *weight,
+            Item::Waits(_, _) => 0,
+        }
+    }
+}
+
 impl Passed {
     /// The counts behind one item more.
     pub(crate) fn with<R, N>(self, item: &Item<R, N>) -> Passed
         requires results { self.results < 2 ^ 63 }
         requires ready { self.ready < 2 ^ 63 }
+        requires weight { self.weight + weight_by item.now < 2 ^ 64 }
         ensures { result ≡ passed self item.now }
     {
         match item {
-            Item::Done(_) => Passed {
+            Item::Done(_, weight) => Passed {
                 results: self.results + 1,
                 ready: self.ready,
+                weight: self.weight + *weight,
             },
             Item::Waits(_, operands) => Passed {
                 results: 0,
                 ready: self.ready + (*operands <= self.results) as usize,
+                weight: self.weight,
             },
         }
     }
@@ -71,7 +88,7 @@ impl Ahead {
         ensures { result ≡ led self item.now }
     {
         match item {
-            Item::Done(_) => Ahead {
+            Item::Done(_, _) => Ahead {
                 results: self.results + 1,
                 operands: self.operands,
                 ready: self.ready,

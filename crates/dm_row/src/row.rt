@@ -1,7 +1,7 @@
 //! Rows, and the place in them.
 
 ghost use Rattle.std.specs.Prelude.{◌≡◌, ◌<◌, ◌≤◌, ◌+◌, ◌^◌, ◌∷◌, ◌++◌, ◌&&◌, [], length, nat_eq, OnOk, MatchOption};
-ghost use Rattle.dm_row.specs.Counts.{ready_in, results_after, is_next_ready};
+ghost use Rattle.dm_row.specs.Counts.{ready_in, results_after, is_next_ready, weight_in};
 ghost use Rattle.dm_row.specs.Sought.{IsBehind, IsSought};
 
 use crate::item::{Ahead, Item, Passed};
@@ -59,6 +59,7 @@ impl<R: Drop, N: Drop> Row<R, N> {
             passed: Passed {
                 results: 0,
                 ready: 0,
+                weight: 0,
             },
             right: Vec::new(alloc),
             ahead: Ahead {
@@ -73,10 +74,10 @@ impl<R: Drop, N: Drop> Row<R, N> {
     pub fn put_in_front(&mut self, item: Item<R, N>) -> Result<(), Memory>
         ensures { OnOk result (self.new ≡ (self.old.0 ++ item ∷ [], self.old.1)) }
     {
-        if self.left.len() >= MOST {
+        let counts = self.passed;
+        if self.left.len() >= MOST || item.weight() > usize::MAX - counts.weight {
             return Err(Memory);
         }
-        let counts = self.passed;
         let next = counts.with(&item);
         self.left.push(Left { item, counts })?;
         self.passed = next;
@@ -126,6 +127,13 @@ impl<R: Drop, N: Drop> Row<R, N> {
         self.passed.ready
     }
 
+    /// The weights of all results in front of the place.
+    pub fn weight_in_front(&self) -> usize
+        ensures { result ≡ weight_in self.now.0 }
+    {
+        self.passed.weight
+    }
+
     /// How many nodes have all their operands.
     pub fn ready(&self) -> usize
         ensures { result ≡ ready_in 0 (self.now.0 ++ self.now.1) }
@@ -142,7 +150,7 @@ impl<R: Drop, N: Drop> Row<R, N> {
         };
         match &nearest.item {
             Item::Waits(_, operands) => *operands <= self.passed.results,
-            Item::Done(_) => false,
+            Item::Done(_, _) => false,
         }
     }
 

@@ -13,5 +13,5 @@ returns-in-Waits g c =
 
 pub returns-in-Done : goal.returns-in-Done
 returns-in-Done g c =
-    nearest-done c.self.inside.left.items c.self.inside.right.items c.args.self.now c.self.view_is c.in-Some.field-0-1.now c.in-Some.nearest.now c.in-Done.field-0
+    nearest-done c.self.inside.left.items c.self.inside.right.items c.args.self.now c.self.view_is c.in-Some.field-0-1.now c.in-Some.nearest.now c.in-Done.field-0 c.in-Done.field-1
     (results_after 0 c.args.self.now.0) (sym c.as_slice.ensures.value ∙ c.in-Some.ensures.cases.0) c.in-Done.is
