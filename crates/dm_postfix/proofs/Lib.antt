@@ -3,3 +3,4 @@ pub mod MoveLemmas
 pub mod ReductionLemmas
 pub mod HoleLemmas
 pub mod StepLemmas
+pub mod BegunLemmas
