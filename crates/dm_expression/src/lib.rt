@@ -1,0 +1,6 @@
+//! Full expressions under evaluation (ISO/IEC 9899:2011, 6.8p4): results, and nodes that wait for their operands, in postfix order.
+#![tactic(auto)]
+
+mod waiting;
+
+pub use waiting::{Doing, Operands, Waiting, open_operands};
