@@ -1,6 +1,8 @@
 //! Full expressions under evaluation (ISO/IEC 9899:2011, 6.8p4): results, and nodes that wait for their operands, in postfix order.
 #![tactic(auto)]
 
+mod trees;
 mod waiting;
 
+pub use trees::put;
 pub use waiting::{Doing, Operands, Waiting, open_operands};

@@ -1,11 +1,11 @@
 //! Nodes that aren't evaluated, and their operands.
 
-ghost use Rattle.std.specs.Prelude.{◌≡◌, ℕ, false, IsTrue};
+ghost use Rattle.std.specs.Prelude.{◌≡◌, ℕ, false, map, IsTrue};
 ghost use Rattle.dm_type.specs.Tables.{Table};
 ghost use Rattle.dm_tree.specs.Trees.{is_statement};
 ghost use Rattle.dm_tree.specs.TypeNumbers.{are_known_in_form};
-ghost use Rattle.dm_tree.specs.Views.{opened_form};
-ghost use Rattle.dm_expression.specs.Operands.{open_trees, trees_in, AreKnownIn};
+ghost use Rattle.dm_tree.specs.Views.{opened_form, view};
+ghost use Rattle.dm_expression.specs.Operands.{open_trees, cores_in, AreAllKnown};
 ghost use Rattle.dm_meaning.specs.Running.{open_of};
 
 use dm_tree::{Core, Form};
@@ -41,8 +41,8 @@ pub enum Operands<'a> {
 /// 6.5.17p2), of `sizeof` none (6.5.3.4p2), of a call the arguments, of other expressions all.
 pub fn open_operands(form: &Form) -> Operands<'_>
     ensures trees { (types : Table) → is_statement (opened_form types form.now).label ≡ false
-        → trees_in types result ≡ open_trees (open_of (opened_form types form.now).label) (opened_form types form.now).parts }
-    ensures known { (n : ℕ) → IsTrue (are_known_in_form n form.now) → AreKnownIn n result }
+        → map (view types) (cores_in result) ≡ open_trees (open_of (opened_form types form.now).label) (opened_form types form.now).parts }
+    ensures known { (n : ℕ) → IsTrue (are_known_in_form n form.now) → AreAllKnown n (cores_in result) }
 {
     match form {
         Form::Read(a)
