@@ -5,7 +5,7 @@ use Rattle.dm_row.specs.declared.item.Item.{Item}
 use Rattle.dm_row.specs.declared.item.Item.TheVariants.{Done, Waits}
 use Rattle.dm_row.specs.Counts.{one_if, ready_in, results_after, is_next_ready}
 use Rattle.dm_row.specs.Sought.{IsBehind, IsSought}
-use Rattle.dm_row.proofs.SideLemmas.{ready-append}
+use Rattle.dm_row.proofs.SideLemmas.{ready-append, results-append}
 
 abbrev pub Sides : Type 0 → Type 0 → Type 0
 Sides R N = List (Item R N) × List (Item R N)
@@ -87,3 +87,12 @@ sought {R} {N} before after number same is =
 pub sought-through : {R N : Type 0} (before middle after : Sides R N) (number : ℕ) → before.0 ++ before.1 ≡ middle.0 ++ middle.1 → IsSought number middle after → IsSought number before after
 sought-through before middle after number same h =
     record { same = same ∙ h.same; node = h.node; operands = h.operands; rest = h.rest; there = h.there; enough = h.enough; counted = h.counted }
+
+-- ---- the last item
+
+-- behind a node stands no result
+pub behind-node : {R N : Type 0} (xs : List (Item R N)) (node : N) (operands : ℕ) → results_after 0 (xs ++ Waits node operands ∷ []) ≡ 0
+behind-node xs node operands = results-append 0 xs (Waits node operands ∷ [])
+
+pub behind-result : {R N : Type 0} (xs : List (Item R N)) (result : R) (weight : ℕ) → results_after 0 (xs ++ Done result weight ∷ []) ≡ suc (results_after 0 xs)
+behind-result xs result weight = results-append 0 xs (Done result weight ∷ [])

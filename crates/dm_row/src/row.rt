@@ -2,6 +2,7 @@
 
 ghost use Rattle.std.specs.Prelude.{◌≡◌, ◌<◌, ◌≤◌, ◌+◌, ◌^◌, ◌∷◌, ◌++◌, ◌&&◌, [], length, nat_eq, OnOk, MatchOption};
 ghost use Rattle.dm_row.specs.Counts.{ready_in, results_after, is_next_ready, weight_in};
+ghost use Rattle.dm_row.specs.declared.item.Item.TheVariants.{Done};
 ghost use Rattle.dm_row.specs.Sought.{IsBehind, IsSought};
 
 use crate::item::{Ahead, Item, Passed};
@@ -118,6 +119,27 @@ impl<R: Drop, N: Drop> Row<R, N> {
         };
         self.ahead = counts;
         Some(item)
+    }
+
+    /// Takes the result out that stands directly in front of the place, with its weight.
+    pub fn take_result(&mut self) -> Option<(R, usize)>
+        ensures { MatchOption result (results_after 0 self.old.0 ≡ 0) (λ one. (self.old.0 ≡ self.new.0 ++ Done one.0 one.1 ∷ []) × (self.new.1 ≡ self.old.1)) }
+    {
+        if self.results_in_front() == 0 {
+            return None;
+        }
+        match self.take_in_front() {
+            Some(Item::Done(result, weight)) => Some((result, weight)),
+            Some(Item::Waits(_, _)) => None,
+            None => None,
+        }
+    }
+
+    /// How many results stand directly in front of the place.
+    pub fn results_in_front(&self) -> usize
+        ensures { result ≡ results_after 0 self.now.0 }
+    {
+        self.passed.results
     }
 
     /// How many nodes in front of the place have all their operands.
