@@ -1,12 +1,13 @@
 //! Full expressions under evaluation, and the node whose step is taken.
 
-ghost use Rattle.std.specs.Prelude.{◌≡◌, ℕ, ◌<◌, ◌==◌, [], IfOk, IsTrue, OnOk, ◌++◌};
+ghost use Rattle.std.specs.Prelude.{◌≡◌, ◌<◌, ◌==◌, ◌++◌, [], IfOk, IsTrue};
 ghost use Rattle.dm_type.specs.Tables.{Table};
 ghost use Rattle.dm_tree.specs.Views.{view};
 ghost use Rattle.dm_row.specs.Counts.{ready_in};
-ghost use Rattle.dm_expression.specs.Taken.{IsOperands, IsTaken};
+ghost use Rattle.dm_expression.specs.Taken.{number_of, IsTaken};
 ghost use Rattle.dm_expression.specs.Waiting.{is_expression, IsPut};
 
+use crate::results::{Taken, take_results};
 use crate::trees::put;
 use crate::waiting::Waiting;
 use dm_row::{Item, Row};
@@ -20,24 +21,6 @@ use std::alloc::Global;
 pub struct Expression<'a, R, L> {
     pub row: Row<R, Waiting<'a>>,
     pub locks: Vec<L>,
-}
-
-/// The results of operands, from the left.
-#[derive(Drop)]
-pub enum Results<R> {
-    None,
-    One(R),
-    Two(R, R),
-    Many(Vec<R>),
-}
-
-/// A node whose operands are evaluated, taken out of its expression.
-#[derive(Drop)]
-pub struct Taken<'a, R> {
-    pub node: Waiting<'a>,
-    pub operands: Results<R>,
-    /// How many locks its operands have.
-    pub locks: usize,
 }
 
 impl<'a, R: Drop, L: Drop> Expression<'a, R, L> {
@@ -65,17 +48,40 @@ impl<'a, R: Drop, L: Drop> Expression<'a, R, L> {
         ensures taken { IfOk result (λ taken. IsTaken choice self.old.row self.new.row taken) }
         ensures locks { self.new.locks ≡ self.old.locks }
     {
-        let last = self.row.ready() - 1;
-        let number = if choice < last { choice } else { last };
-        self.row.seek(number)?;
-        let Some(Item::Waits(node, count)) = self.row.take_behind() else {
-            return Err(Memory);
-        };
-        let (operands, locks) = take_operands(alloc, &mut self.row, count)?;
-        Ok(Taken {
-            node,
-            operands,
-            locks,
-        })
+        let taken = take_node(alloc, &mut self.row, choice)?;
+        Ok(taken)
     }
+}
+
+/// The same of a row.
+fn take_node<'a, R: Drop>(
+    alloc: Global,
+    row: &mut Row<R, Waiting<'a>>,
+    choice: usize,
+) -> Result<Taken<'a, R>, Memory>
+    requires { 0 < ready_in 0 (row.old.0 ++ row.old.1) }
+    ensures { IfOk result (λ taken. IsTaken choice row.old row.new taken) }
+{
+    let number = chosen(choice, row.ready());
+    row.seek(number)?;
+    let Some(Item::Waits(node, count)) = row.take_behind() else {
+        return Err(Memory);
+    };
+    let weight = row.weight_in_front();
+    let operands = take_results(alloc, row, count)?;
+    let locks = weight - row.weight_in_front();
+    Ok(Taken {
+        node,
+        operands,
+        locks,
+    })
+}
+
+/// The number of a choice among so many: the last where there are fewer.
+fn chosen(choice: usize, count: usize) -> usize
+    requires { 0 < count }
+    ensures { result ≡ number_of choice count }
+{
+    let last = count - 1;
+    if choice < last { choice } else { last }
 }
