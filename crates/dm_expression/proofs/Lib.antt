@@ -1,3 +1,4 @@
 pub mod KnownLemmas
 pub mod PutLemmas
 pub mod TakenLemmas
+pub mod StandLemmas

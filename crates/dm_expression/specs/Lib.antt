@@ -1,3 +1,4 @@
 pub mod Operands
 pub mod Waiting
 pub mod Taken
+pub mod Standing
