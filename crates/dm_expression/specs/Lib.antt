@@ -2,3 +2,4 @@ pub mod Operands
 pub mod Waiting
 pub mod Taken
 pub mod Standing
+pub mod Given

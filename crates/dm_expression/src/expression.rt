@@ -1,12 +1,15 @@
 //! Full expressions under evaluation, and the node whose step is taken.
 
-ghost use Rattle.std.specs.Prelude.{◌≡◌, ◌<◌, ◌==◌, ◌++◌, [], IfOk, IsTrue};
+ghost use Rattle.std.specs.Prelude.{◌≡◌, ◌+◌, ◌<◌, ◌≤◌, ◌==◌, ◌++◌, ◌∷◌, [], length, IfOk, IsTrue, OnOk};
 ghost use Rattle.dm_type.specs.Tables.{Table};
 ghost use Rattle.dm_tree.specs.Views.{view};
-ghost use Rattle.dm_row.specs.Counts.{ready_in};
+ghost use Rattle.dm_row.specs.Counts.{ready_in, weight_in};
+ghost use Rattle.dm_row.specs.declared.item.Item.TheVariants.{Done, Waits};
+ghost use Rattle.dm_expression.specs.Given.{lock_list, with_lock, without};
 ghost use Rattle.dm_expression.specs.Taken.{number_of, IsTaken};
 ghost use Rattle.dm_expression.specs.Waiting.{is_expression, IsPut};
 
+use crate::locks::{insert, remove};
 use crate::results::{Taken, take_results};
 use crate::trees::put;
 use crate::waiting::Waiting;
@@ -50,6 +53,45 @@ impl<'a, R: Drop, L: Drop> Expression<'a, R, L> {
     {
         let taken = take_node(alloc, &mut self.row, choice)?;
         Ok(taken)
+    }
+
+    /// Puts a result where the node was taken out, with so many locks of the operands, and one in front of them, if there is one.
+    pub fn give(&mut self, value: R, locks: usize, lock: Option<L>) -> Result<(), Memory>
+        requires { weight_in self.old.row.0 + locks ≤ length self.old.locks.items }
+        ensures row { OnOk result (self.new.row ≡ (self.old.row.0 ++ Done value (locks + length (lock_list lock)) ∷ [], self.old.row.1)) }
+        ensures locks { OnOk result (self.new.locks.items ≡ with_lock (weight_in self.old.row.0) lock self.old.locks.items) }
+    {
+        let at = self.row.weight_in_front();
+        let more = insert(&mut self.locks, at, lock)?;
+        self.row.put_in_front(Item::Done(value, locks + more))?;
+        Ok(())
+    }
+
+    /// Lets the locks of the operands go, of which there are so many.
+    pub fn release(&mut self, locks: usize) -> Result<(), Memory>
+        requires { weight_in self.old.row.0 + locks ≤ length self.old.locks.items }
+        ensures row { self.new.row ≡ self.old.row }
+        ensures locks { OnOk result (self.new.locks.items ≡ without (weight_in self.old.row.0) locks self.old.locks.items) }
+    {
+        let at = self.row.weight_in_front();
+        remove(&mut self.locks, at, locks)?;
+        Ok(())
+    }
+
+    /// Goes on, where a node was taken out, with one of its operands that wasn't evaluated, for whose value the node waits.
+    pub fn pick(
+        &mut self,
+        alloc: Global,
+        waiting: Waiting<'a>,
+        operand: &'a Core,
+    ) -> Result<(), Memory>
+        requires { (types : Table) → IsTrue (is_expression (view types operand.now)) }
+        ensures row { OnOk result (IsPut operand.now (self.old.row.0, Waits waiting.entry 1 ∷ self.old.row.1) self.new.row) }
+        ensures locks { self.new.locks ≡ self.old.locks }
+    {
+        self.row.put_behind(Item::Waits(waiting, 1))?;
+        put(alloc, &mut self.row, operand)?;
+        Ok(())
     }
 }
 

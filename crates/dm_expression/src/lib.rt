@@ -2,6 +2,7 @@
 #![tactic(auto)]
 
 mod expression;
+mod locks;
 mod results;
 mod trees;
 mod waiting;
