@@ -5,21 +5,23 @@ use Rattle.dm_token.specs.declared.place.Place.{Place}
 use Rattle.dm_type.specs.CTypes.{CType}
 use Rattle.dm_type.specs.Tables.{Table}
 use Rattle.dm_tree.specs.declared.tree.Core.{Core}
+use Rattle.dm_tree.specs.Trees.{Tree, node, kind_of, spans_of}
 use Rattle.dm_tree.specs.Views.{view}
 use Rattle.dm_meaning.specs.Values.{At}
 use Rattle.dm_meaning.specs.Operations.{Result, World, Scene}
-use Rattle.dm_meaning.specs.Running.{Doing, evaluates, gives_truth, gives_value, Run, done, begun, Hole, filled_in, hole_in}
+use Rattle.dm_meaning.specs.Running.{Doing, gives_truth, gives_value, Run, done, no_runs, more_runs, begun, every, open_parts, Hole, filled_in, hole_in}
 use Rattle.dm_meaning.specs.Expressions.{Move, lifted, going_on, moves}
 use Rattle.dm_row.specs.declared.item.Item.{Item}
 use Rattle.dm_row.specs.declared.item.Item.TheVariants.{Done, Waits}
 use Rattle.dm_row.specs.Counts.{one_if, ready_in, weight_by, weight_in}
 use Rattle.dm_postfix.specs.Postfix as postfix
-use Rattle.dm_postfix.specs.Postfix.{arity, operand, no_slots, items, hole_of}
+use Rattle.dm_postfix.specs.Postfix.{arity, operand, no_slots, slots_of, node_of, items, items_in, hole_of}
 use Rattle.dm_postfix.specs.Reductions.{ready_count, step_at}
 use Rattle.dm_postfix.proofs.StepLemmas.{moves-counted, move-at, items-replaced}
 use Rattle.dm_expression.specs.declared.waiting.Waiting.{Waiting}
 use Rattle.dm_expression.specs.declared.results.Taken.{Taken}
-use Rattle.dm_expression.specs.Waiting.{view_of_waiting, AreWaiting, IsUnfolding, IsPut}
+use Rattle.dm_expression.specs.Waiting.{waiting_of, view_of_waiting, AreWaiting, IsPut}
+use Rattle.dm_expression.specs.declared.waiting.Doing.TheVariants.{GivesTruth, GivesValue}
 use Rattle.dm_expression.specs.Taken.{dones, results_of, number_of, IsTaken}
 use Rattle.dm_expression.specs.Standing.{viewed, AreSized, Stands, Lacks}
 use Rattle.dm_expression.proofs.TakenLemmas.{weight-append}
@@ -209,3 +211,90 @@ given see types row first own last hole result weight h size = record {
     take-whole : {X : Type 0} (xs : List X) → take (length xs) xs ≡ xs
     take-whole [] = refl
     take-whole (x ∷ xs) = ap (λ rest. x ∷ rest) (take-whole xs)
+
+-- ---- trees of which nothing is evaluated
+
+pub viewed-waiting : {R L : Type 0} (see : R → List L → postfix.Evaluated) (types : Table) (locks : List L) (put : List (Item R Waiting)) (others : List postfix.Item) (rest : List (Item R Waiting)) → AreWaiting types put others
+    → viewed see types locks (put ++ rest) ≡ others ++ viewed see types locks rest
+viewed-waiting see types locks [] [] rest h = refl
+viewed-waiting see types locks [] (other ∷ others) rest h = absurd h
+viewed-waiting see types locks (Done result weight ∷ put) others rest h = absurd h
+viewed-waiting see types locks (Waits one operands ∷ put) [] rest h = absurd h
+viewed-waiting see types locks (Waits one operands ∷ put) (postfix.evaluated other ∷ others) rest h = absurd h
+viewed-waiting see types locks (Waits one operands ∷ put) (postfix.waiting other ∷ others) rest h =
+    ap₂ (λ w xs. postfix.waiting w ∷ xs) h.0 (viewed-waiting see types locks put others rest h.2)
+
+sized-waiting : {R : Type 0} (types : Table) (put : List (Item R Waiting)) (others : List postfix.Item) → AreWaiting types put others → AreSized types put
+sized-waiting types [] others h = tt
+sized-waiting types (Done result weight ∷ put) others h = absurd h
+sized-waiting types (Waits one operands ∷ put) [] h = absurd h
+sized-waiting types (Waits one operands ∷ put) (postfix.evaluated other ∷ others) h = absurd h
+sized-waiting types (Waits one operands ∷ put) (postfix.waiting other ∷ others) h =
+    (h.1 ∙ ap (λ (w : postfix.Waiting). arity w.slots) (sym h.0), sized-waiting types put others h.2)
+
+weight-waiting : {R : Type 0} (types : Table) (put : List (Item R Waiting)) (others : List postfix.Item) → AreWaiting types put others → weight_in put ≡ 0
+weight-waiting types [] others h = refl
+weight-waiting types (Done result weight ∷ put) others h = absurd h
+weight-waiting types (Waits one operands ∷ put) [] h = absurd h
+weight-waiting types (Waits one operands ∷ put) (postfix.evaluated other ∷ others) h = absurd h
+weight-waiting types (Waits one operands ∷ put) (postfix.waiting other ∷ others) h = let none = weight-waiting types put others h.2 in omega (arith, none)
+
+-- an expression that begins
+pub begins : {R L : Type 0} (see : R → List L → postfix.Evaluated) (types : Table) (tree : Core) (row : List (Item R Waiting) × List (Item R Waiting)) → IsPut tree ([], []) row
+    → Stands see types row [] (begun (view types tree))
+begins {R} {L} see types tree row h =
+    let waits = h.waits types in
+    let whole : row.0 ++ row.1 ≡ h.put = ap₂ (λ xs ys. xs ++ ys) h.in_front h.behind ∙ append-nil h.put in
+    record {
+      same = ap (viewed see types []) (whole ∙ sym (append-nil h.put)) ∙ (viewed-waiting see types [] h.put waits.0 [] waits.2 ∙ (append-nil waits.0 ∙ waits.1));
+      sized = subst (AreSized types) (sym whole) (sized-waiting types h.put waits.0 waits.2);
+      weighed = ap weight_in whole ∙ weight-waiting types h.put waits.0 waits.2;
+    }
+
+-- a node that waits for the value of one operand
+going : (doing : Doing) → open_parts doing ≡ every → (kind : CType) (place : Place) (run : Run)
+    → items (going_on doing kind place run) ≡ items run ++ postfix.waiting (node_of doing kind place (operand no_slots)) ∷ []
+going doing is kind place run =
+    ap (λ opens. items_in opens (more_runs run no_runs) ++ postfix.waiting (node_of doing kind place (slots_of opens (more_runs run no_runs))) ∷ []) is
+    ∙ ap (λ xs. xs ++ postfix.waiting (node_of doing kind place (operand no_slots)) ∷ []) (append-nil (items run))
+
+-- an operand that was chosen, with its node behind it
+pub picked : {R L : Type 0} (see : R → List L → postfix.Evaluated) (types : Table) (row new : List (Item R Waiting) × List (Item R Waiting)) (first last : List L) (hole : Hole) (outer : Waiting) (inner : Core)
+    (doing : Doing) (kind : CType) (place : Place) → open_parts doing ≡ every → view_of_waiting types outer ≡ node_of doing kind place (operand no_slots)
+    → Lacks see types row first last hole → IsPut inner (row.0, Waits outer 1 ∷ row.1) new
+    → Stands see types new (first ++ last) (filled_in hole (going_on doing kind place (begun (view types inner))))
+picked {R} see types row new first last hole outer inner doing kind place every_open outer_is h put =
+    let waits = put.waits types in
+    let rest : List (Item R Waiting) = Waits outer 1 ∷ row.1 in
+    let whole : new.0 ++ new.1 ≡ row.0 ++ (put.put ++ rest) = ap₂ (λ xs ys. xs ++ ys) put.in_front put.behind in
+    let waiter = postfix.waiting (node_of doing kind place (operand no_slots)) in
+    let last_view = viewed see types last row.1 in
+    record {
+      same =
+          ap (viewed see types (first ++ last)) whole
+          ∙ (viewed-append see types first last row.0 (put.put ++ rest) (sym h.first_weighed)
+          ∙ (ap (λ xs. viewed see types first row.0 ++ xs)
+          (viewed-waiting see types last put.put waits.0 rest waits.2
+          ∙ (ap₂ (λ xs w. xs ++ postfix.waiting w ∷ last_view) waits.1 outer_is
+          ∙ (sym (append_assoc (items (begun (view types inner))) (waiter ∷ []) last_view)
+          ∙ ap (λ xs. xs ++ last_view) (sym (going doing every_open kind place (begun (view types inner)))))))
+          ∙ sym (h.fills (going_on doing kind place (begun (view types inner))))));
+      sized = subst (AreSized types) (sym whole)
+          (sized-both types row.0 (put.put ++ rest) h.sized_first
+          (sized-both types put.put rest (sized-waiting types put.put waits.0 waits.2) (sym (ap (λ (w : postfix.Waiting). arity w.slots) outer_is), h.sized_last)));
+      weighed =
+          let a = ap weight_in whole ∙ weight-append row.0 (put.put ++ rest) in
+          let b = weight-append put.put rest in
+          let c = weight-waiting types put.put waits.0 waits.2 in
+          let d = length-append first last in
+          let e = h.first_weighed in
+          let f = h.last_weighed in
+          omega (arith, a, b, c, d, e, f);
+    }
+
+-- the nodes that wait so
+pub waiting-truth : (tree : Tree) → waiting_of GivesTruth tree ≡ node_of gives_truth (kind_of tree) (spans_of tree).place (operand no_slots)
+waiting-truth (node label kind spans parts) = refl
+
+pub waiting-value : (tree : Tree) → waiting_of GivesValue tree ≡ node_of gives_value (kind_of tree) (spans_of tree).place (operand no_slots)
+waiting-value (node label kind spans parts) = refl
