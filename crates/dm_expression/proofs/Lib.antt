@@ -2,3 +2,4 @@ pub mod KnownLemmas
 pub mod PutLemmas
 pub mod TakenLemmas
 pub mod StandLemmas
+pub mod ChoiceLemmas
