@@ -1,16 +1,15 @@
 -- Trees of which nothing is evaluated, and trees that are evaluated.
-use Rattle.std.proofs.Common.{◌≡◌, ℕ, zero, suc, ◌+◌, ◌≤◌, Bool, true, false, List, [], ◌∷◌, ◌++◌, map, length, Option, Some, None, option_map, refl, sym, ap, ap₂, ◌∙◌, arith, append-nil}
+use Rattle.std.proofs.Common.{◌≡◌, ℕ, ◌≤◌, Bool, true, false, List, [], ◌++◌, map, length, Option, Some, None, refl, sym, ap, ap₂, ◌∙◌, arith}
 use Rattle.std.proofs.lemmas.List.{length-append, length-map}
 use Rattle.std.proofs.lemmas.Option.{none-some}
 use Rattle.dm_token.specs.declared.place.Place.{Place}
 use Rattle.dm_type.specs.CTypes.{CType}
 use Rattle.dm_tree.specs.Trees.{Tree, Trees, node, no_trees, more_trees}
-use Rattle.dm_meaning.specs.Running.{Doing, evaluates, Run, done, to_do, Runs, no_runs, more_runs, begun, all_begun, locks_in, locks_in_all, Open, first_open, others_open, open_parts, open_of, Hole, within, Holes, in_first, in_others}
+use Rattle.dm_meaning.specs.Running.{Doing, Run, done, to_do, Runs, no_runs, more_runs, begun, all_begun, locks_in, locks_in_all, Open, first_open, others_open, open_parts, Hole, within, Holes, in_first, in_others}
 use Rattle.dm_meaning.specs.Expressions.{where_open}
-use Rattle.dm_postfix.specs.Postfix.{Evaluated, Slots, closed_locks, with_slot, slots_of, Item, evaluated, waiting, items, items_in, AreUnlocked}
-use Rattle.dm_postfix.specs.Reductions.{Ready, first_evaluated, evaluated_in, ready_or_inner, ready, ready_in, reductions, ready_count}
+use Rattle.dm_postfix.specs.Postfix.{Evaluated, Slots, closed_locks, with_slot, slots_of, items}
+use Rattle.dm_postfix.specs.Reductions.{Ready, first_evaluated, evaluated_in, ready_or_inner, ready, ready_in, ready_count}
 use Rattle.dm_postfix.proofs.ReductionLemmas.{prefixed, reduction_of, reductions-ready, reductions-counted}
-use Rattle.dm_postfix.proofs.HoleLemmas.{unlocked-both}
 
 -- ---- trees of which nothing is evaluated have no locks
 

@@ -1,11 +1,9 @@
 -- The items of a tree with a part put in, and the trees that items stand for.
 use Rattle.std.proofs.Common.{◌≡◌, Bool, true, false, List, [], ◌∷◌, ◌++◌, IsTrue, refl, sym, ap, ap₂, ◌∙◌, append_assoc, append-nil}
-use Rattle.dm_token.specs.declared.place.Place.{Place}
-use Rattle.dm_type.specs.CTypes.{CType}
 use Rattle.dm_meaning.specs.Values.{At}
-use Rattle.dm_meaning.specs.Running.{Doing, Run, done, to_do, Runs, no_runs, more_runs, locks_in, locks_in_all, Open, first_open, others_open, open_parts, Hole, here, within, Holes, in_first, in_others, filled_in, all_filled_in, IsOpen, AreOpen, hole_in, holes_in}
+use Rattle.dm_meaning.specs.Running.{Run, done, to_do, Runs, no_runs, more_runs, locks_in, locks_in_all, Open, first_open, others_open, open_parts, Hole, here, within, Holes, in_first, in_others, filled_in, all_filled_in, IsOpen, AreOpen, hole_in, holes_in}
 use Rattle.dm_meaning.specs.Expressions.{where_open}
-use Rattle.dm_postfix.specs.Postfix.{Slots, no_slots, operand, closed, closed_locks, with_slot, slots_of, Waiting, node_of, Item, evaluated, waiting, items, items_in, locks_of, AreUnlocked, slots_in_holes, before_of, before_in, after_of, after_in, Part, whole, holed, all_whole, one_holed, Taken, taking_part, taking_run, taken, put_together, built, tree_in, hole_among, tree_of, hole_of}
+use Rattle.dm_postfix.specs.Postfix.{Slots, closed_locks, with_slot, slots_of, node_of, Item, evaluated, waiting, items, items_in, locks_of, AreUnlocked, slots_in_holes, before_of, before_in, after_of, after_in, Part, whole, holed, all_whole, one_holed, taking_part, taking_run, taken, put_together, built, tree_in, hole_among, tree_of, hole_of}
 use Rattle.dm_postfix.proofs.ReductionLemmas.{slots-filled}
 
 -- ---- a part put in

@@ -1,10 +1,10 @@
 -- The moves of a tree are those of its ready nodes, from the left.
-use Rattle.std.proofs.Common.{◌≡◌, ℕ, Bool, true, false, List, [], ◌∷◌, ◌++◌, map, Option, Some, None, option_map, refl, sym, ap, ◌∙◌}
+use Rattle.std.proofs.Common.{◌≡◌, Bool, true, false, List, [], ◌∷◌, ◌++◌, map, Option, Some, None, option_map, refl, sym, ap, ◌∙◌}
 use Rattle.dm_token.specs.declared.place.Place.{Place}
 use Rattle.dm_type.specs.CTypes.{CType}
 use Rattle.dm_meaning.specs.Values.{At}
 use Rattle.dm_meaning.specs.Operations.{Operand, World, Scene}
-use Rattle.dm_meaning.specs.Running.{Doing, Run, done, to_do, Runs, no_runs, more_runs, Open, first_open, others_open, open_parts, operands_in, first_result, Hole, here, within, Holes, in_first, in_others, filled_in, all_filled_in, hole_in, holes_in}
+use Rattle.dm_meaning.specs.Running.{Doing, Run, done, to_do, Runs, no_runs, more_runs, Open, first_open, others_open, open_parts, operands_in, first_result, Hole, within, Holes, in_first, in_others, filled_in, all_filled_in, hole_in, holes_in}
 use Rattle.dm_meaning.specs.Expressions.{Move, goes, calls, fails, exits, lifted, where_open, own_or_inner, node_step, moves, moves_in}
 use Rattle.dm_postfix.specs.Postfix.{Evaluated}
 use Rattle.dm_postfix.specs.Reductions.{Ready, as_operand, first_evaluated, evaluated_in, ready_or_inner, ready, ready_in, step_of, move_of}

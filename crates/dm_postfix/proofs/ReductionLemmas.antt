@@ -1,12 +1,12 @@
 -- The ready nodes of a tree are the reductions of its items, from the left.
-use Rattle.std.proofs.Common.{◌≡◌, ℕ, zero, suc, ◌+◌, ◌<◌, ◌≤◌, Bool, true, false, nat_le, List, [], ◌∷◌, ◌++◌, map, length, Option, Some, None, option_map, IsTrue, if◌then◌else◌, slice_get, refl, sym, ap, ap₂, subst, ◌∙◌, arith, append_assoc, append-nil, le-leb}
+use Rattle.std.proofs.Common.{◌≡◌, ℕ, suc, ◌+◌, ◌<◌, ◌≤◌, Bool, true, false, nat_le, List, [], ◌∷◌, ◌++◌, map, length, Option, Some, None, IsTrue, if◌then◌else◌, refl, sym, ap, ap₂, ◌∙◌, arith, append_assoc, append-nil, le-leb}
 use Rattle.std.proofs.lemmas.Bool.{lt-leb}
 use Rattle.std.proofs.lemmas.Option.{none-some, same_Some}
 use Rattle.dm_token.specs.declared.place.Place.{Place}
 use Rattle.dm_type.specs.CTypes.{CType}
-use Rattle.dm_meaning.specs.Running.{Doing, Run, done, to_do, Runs, no_runs, more_runs, Open, first_open, others_open, open_parts, Hole, here, within, Holes, in_first, in_others, filled_in, all_filled_in, IsOpen, AreOpen}
+use Rattle.dm_meaning.specs.Running.{Doing, Run, done, to_do, Runs, no_runs, more_runs, Open, first_open, others_open, open_parts, Hole, within, Holes, in_first, in_others, filled_in, all_filled_in, IsOpen, AreOpen}
 use Rattle.dm_meaning.specs.Expressions.{where_open}
-use Rattle.dm_postfix.specs.Postfix.{Evaluated, Slots, no_slots, operand, closed, arity, with_slot, slots_of, Waiting, node_of, Item, evaluated, waiting, items, items_in, slots_in_holes, before_of, before_in, after_of, after_in}
+use Rattle.dm_postfix.specs.Postfix.{Evaluated, Slots, operand, arity, with_slot, slots_of, Waiting, node_of, Item, evaluated, waiting, items, items_in, slots_in_holes, before_of, before_in, after_of, after_in}
 use Rattle.dm_postfix.specs.Reductions.{Ready, first_evaluated, evaluated_in, ready_or_inner, ready, ready_in, Reduction, reduction_if, reductions, ready_count, results_behind, filled}
 use Rattle.dm_postfix.proofs.ListLemmas.{Each, each-append, each-map, map-square, map-square_each, map-through, append-map}
 

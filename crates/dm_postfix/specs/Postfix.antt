@@ -3,11 +3,11 @@
 --     items run      the items of a tree
 --     before_of hole, after_of hole      the items in front of a part that is left out, and those behind it
 --     tree_of items, hole_of before after      the tree that items stand for, and the one with a part left out
-use Rattle.std.specs.Prelude.{◌≡◌, ℕ, zero, suc, Bool, true, false, List, [], ◌∷◌, ◌++◌, Option, Some, None, option_map}
+use Rattle.std.specs.Prelude.{◌≡◌, ℕ, suc, Bool, true, false, List, [], ◌∷◌, ◌++◌}
 use Rattle.dm_token.specs.declared.place.Place.{Place}
 use Rattle.dm_type.specs.CTypes.{CType, void}
 use Rattle.dm_meaning.specs.Values.{At, unset}
-use Rattle.dm_meaning.specs.Operations.{Result, of_value, Operand}
+use Rattle.dm_meaning.specs.Operations.{Result}
 use Rattle.dm_meaning.specs.Running.{Doing, Run, done, to_do, Runs, no_runs, more_runs, locks_in, Open, first_open, others_open, open_parts, Hole, here, within, Holes, in_first, in_others}
 use Rattle.dm_meaning.specs.Expressions.{where_open, unlocked}
 

@@ -2,14 +2,14 @@
 --     ready run      these nodes, each in the tree with it left out
 --     reductions before results items      these nodes in a list of items
 --     ready_count results items      how many there are
-use Rattle.std.specs.Prelude.{ℕ, zero, suc, ◌+◌, Bool, true, false, nat_le, List, [], ◌∷◌, ◌++◌, map, Option, Some, None, option_map, if◌then◌else◌}
+use Rattle.std.specs.Prelude.{ℕ, suc, ◌+◌, Bool, true, false, nat_le, List, [], ◌∷◌, ◌++◌, map, Option, Some, None, option_map, if◌then◌else◌}
 use Rattle.dm_token.specs.declared.place.Place.{Place}
 use Rattle.dm_type.specs.CTypes.{CType}
 use Rattle.dm_meaning.specs.Values.{At}
 use Rattle.dm_meaning.specs.Operations.{Operand, World, Scene}
 use Rattle.dm_meaning.specs.Running.{Doing, Run, done, to_do, Runs, no_runs, more_runs, Open, first_open, others_open, open_parts, Hole, here, within, Holes, in_first, in_others, filled_in, hole_in}
 use Rattle.dm_meaning.specs.Expressions.{Move, lifted, where_open, node_step}
-use Rattle.dm_postfix.specs.Postfix.{Evaluated, Slots, no_slots, operand, closed, arity, slots_of, Waiting, node_of, Item, evaluated, waiting, items, before_of, before_in, after_of, after_in}
+use Rattle.dm_postfix.specs.Postfix.{Evaluated, Slots, no_slots, operand, closed, arity, Waiting, Item, evaluated, waiting}
 
 -- ---- in a tree
 
