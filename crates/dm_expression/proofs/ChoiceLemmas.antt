@@ -1,10 +1,10 @@
 -- The state to which a choice leads, where an expression is under evaluation.
-use Rattle.std.proofs.Common.{◌≡◌, ℕ, zero, suc, ◌-◌, ◌<◌, Bool, true, false, nat_lt, List, [], ◌∷◌, ◌++◌, map, length, Option, Some, None, option_map, slice_get, if◌then◌else◌, refl, sym, ap, subst, ◌∙◌, arith, ltb-true, ltb-false, ◌≤◌, lt-ltb, le-ltb}
+use Rattle.std.proofs.Common.{◌≡◌, ℕ, zero, suc, ◌-◌, Bool, true, false, nat_lt, List, [], ◌∷◌, map, length, Some, option_map, slice_get, if◌then◌else◌, refl, sym, ap, ◌∙◌, arith, ltb-true, ltb-false, lt-ltb, le-ltb}
 use Rattle.std.proofs.lemmas.List.{length-map}
 use Rattle.std.proofs.lemmas.Option.{none-some, same_Some, slice_get-map}
 use Rattle.dm_token.specs.declared.place.Place.{Place}
 use Rattle.dm_meaning.specs.Choices.{chosen, in_order, stepped}
-use Rattle.dm_meaning.specs.Machines.{Standing, going}
+use Rattle.dm_meaning.specs.Machines.{going}
 use Rattle.dm_meaning.specs.Programs.{Program}
 use Rattle.dm_meaning.specs.Running.{Run, done, to_do, Hole, locks_in}
 use Rattle.dm_meaning.specs.Expressions.{Move, moves}

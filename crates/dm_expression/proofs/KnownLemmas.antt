@@ -1,6 +1,6 @@
 -- The numbers of types in the operands of a node are those of the node's.
-use Rattle.std.specs.Prelude.{◌≡◌, ℕ, Bool, true, ◌&&◌, nat_lt, IsTrue, List, [], ◌∷◌, map}
-use Rattle.std.proofs.Common.{rules, sym, ap, ◌∙◌, ◌⊎◌, ⊎_elim}
+use Rattle.std.specs.Prelude.{◌≡◌, ℕ, Bool, ◌&&◌, nat_lt, IsTrue, List, [], ◌∷◌, map}
+use Rattle.std.proofs.Common.{rules, sym, ap, ◌∙◌}
 use Rattle.std.proofs.lemmas.Bool.{and_parts}
 use Rattle.dm_int.specs.declared.Op.{Op}
 use Rattle.dm_tree.specs.declared.tree.Core.{Core}

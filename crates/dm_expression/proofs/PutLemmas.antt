@@ -1,24 +1,22 @@
 -- Trees put into rows, node by node.
-use Rattle.std.proofs.Common.{◌≡◌, ℕ, zero, suc, ◌+◌, ◌<◌, Bool, true, false, not, ◌&&◌, List, [], ◌∷◌, ◌++◌, map, length, IsTrue, refl, sym, ap, ap₂, subst, ◌∙◌, arith, append_assoc, append-nil}
+use Rattle.std.proofs.Common.{◌≡◌, ℕ, suc, ◌<◌, Bool, true, false, not, ◌&&◌, List, [], ◌∷◌, ◌++◌, map, length, IsTrue, refl, sym, ap, ap₂, subst, ◌∙◌, arith, append_assoc, append-nil}
 use Rattle.std.proofs.lemmas.Bool.{and_parts}
 use Rattle.std.proofs.lemmas.List.{length-append}
-use Rattle.dm_token.specs.declared.place.Place.{Place}
-use Rattle.dm_type.specs.CTypes.{CType}
-use Rattle.dm_type.specs.Tables.{Table, type_of}
+use Rattle.dm_type.specs.Tables.{Table}
 use Rattle.dm_tree.specs.declared.tree.Core.{Core, out-Core}
-use Rattle.dm_tree.specs.Trees.{Label, Tree, Trees, node, no_trees, more_trees, trees, is_statement}
+use Rattle.dm_tree.specs.Trees.{Tree, trees, is_statement}
 use Rattle.dm_tree.specs.TypeNumbers.{are_known, are_known_in_form}
 use Rattle.dm_tree.specs.Views.{Opened, view, opened_form}
 use Rattle.dm_tree.proofs.ViewLemmas.{view-core, known-form}
-use Rattle.dm_meaning.specs.Running.{evaluates, Run, begun, all_begun, Open, every, only_first, but_first, nothing, open_of}
+use Rattle.dm_meaning.specs.Running.{begun, all_begun, Open, every, only_first, but_first, nothing, open_of}
 use Rattle.dm_row.specs.declared.item.Item.{Item}
-use Rattle.dm_row.specs.declared.item.Item.TheVariants.{Done, Waits}
+use Rattle.dm_row.specs.declared.item.Item.TheVariants.{Waits}
 use Rattle.dm_postfix.specs.Postfix as postfix
 use Rattle.dm_postfix.specs.Postfix.{arity, slots_of, node_of, items, items_in}
 use Rattle.dm_expression.specs.declared.waiting.Doing.TheVariants.{Evaluates}
 use Rattle.dm_expression.specs.declared.waiting.Waiting.{Waiting}
 use Rattle.dm_expression.specs.Operands.{open_trees, AreAllKnown}
-use Rattle.dm_expression.specs.Waiting.{waiting_of, is_expression, are_expressions, AreWaiting, AreWaitingKnown, items_all, AreAllExpressions, IsUnfolding}
+use Rattle.dm_expression.specs.Waiting.{waiting_of, is_expression, are_expressions, items_all, AreAllExpressions, IsUnfolding}
 
 -- a table without types
 abbrev pub no_types : Table

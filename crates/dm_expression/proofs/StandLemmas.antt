@@ -1,5 +1,5 @@
 -- What is taken out of an expression, and what is put into it, in terms of the tree for which it stands.
-use Rattle.std.proofs.Common.{◌≡◌, ℕ, zero, suc, ◌+◌, ◌-◌, ◌≤◌, Bool, true, false, nat_le, List, [], ◌∷◌, ◌++◌, map, length, take, drop, Option, Some, slice_get, if◌then◌else◌, refl, sym, ap, ap₂, subst, ◌∙◌, arith, append_assoc, append-nil}
+use Rattle.std.proofs.Common.{◌≡◌, ℕ, suc, ◌+◌, ◌-◌, ◌≤◌, Bool, true, false, nat_le, List, [], ◌∷◌, ◌++◌, map, length, take, drop, Some, slice_get, if◌then◌else◌, refl, sym, ap, ap₂, subst, ◌∙◌, arith, append_assoc, append-nil}
 use Rattle.std.proofs.lemmas.List.{length-append, length-drop, take-append-le, drop-append-le}
 use Rattle.dm_token.specs.declared.place.Place.{Place}
 use Rattle.dm_type.specs.CTypes.{CType}
@@ -8,12 +8,12 @@ use Rattle.dm_tree.specs.declared.tree.Core.{Core}
 use Rattle.dm_tree.specs.Trees.{Tree, node, kind_of, spans_of}
 use Rattle.dm_tree.specs.Views.{view}
 use Rattle.dm_meaning.specs.Values.{At}
-use Rattle.dm_meaning.specs.Operations.{Result, World, Scene}
+use Rattle.dm_meaning.specs.Operations.{World, Scene}
 use Rattle.dm_meaning.specs.Running.{Doing, gives_truth, gives_value, Run, done, no_runs, more_runs, begun, every, open_parts, Hole, filled_in, hole_in}
-use Rattle.dm_meaning.specs.Expressions.{Move, lifted, going_on, moves}
+use Rattle.dm_meaning.specs.Expressions.{lifted, going_on, moves}
 use Rattle.dm_row.specs.declared.item.Item.{Item}
 use Rattle.dm_row.specs.declared.item.Item.TheVariants.{Done, Waits}
-use Rattle.dm_row.specs.Counts.{one_if, ready_in, weight_by, weight_in}
+use Rattle.dm_row.specs.Counts.{one_if, ready_in, weight_in}
 use Rattle.dm_postfix.specs.Postfix as postfix
 use Rattle.dm_postfix.specs.Postfix.{arity, operand, no_slots, slots_of, node_of, items, items_in, hole_of}
 use Rattle.dm_postfix.specs.Reductions.{ready_count, step_at}
@@ -22,7 +22,7 @@ use Rattle.dm_expression.specs.declared.waiting.Waiting.{Waiting}
 use Rattle.dm_expression.specs.declared.results.Taken.{Taken}
 use Rattle.dm_expression.specs.Waiting.{waiting_of, view_of_waiting, AreWaiting, IsPut}
 use Rattle.dm_expression.specs.declared.waiting.Doing.TheVariants.{GivesTruth, GivesValue}
-use Rattle.dm_expression.specs.Taken.{dones, results_of, number_of, IsTaken}
+use Rattle.dm_expression.specs.Taken.{dones, number_of, IsTaken}
 use Rattle.dm_expression.specs.Standing.{viewed, AreSized, Stands, Lacks}
 use Rattle.dm_expression.proofs.TakenLemmas.{weight-append}
 

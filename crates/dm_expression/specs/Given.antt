@@ -1,5 +1,5 @@
 -- What is put into an expression.
-use Rattle.std.specs.Prelude.{◌≡◌, ℕ, ◌+◌, List, [], ◌∷◌, ◌++◌, take, drop, length, Option, Some, None}
+use Rattle.std.specs.Prelude.{ℕ, ◌+◌, List, [], ◌∷◌, ◌++◌, take, drop, Option, Some, None}
 
 -- a lock that a step has made, if it has
 abbrev pub lock_list : {L : Type 0} → Option L → List L

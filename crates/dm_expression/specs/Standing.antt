@@ -2,7 +2,7 @@
 --     viewed see types locks items      items of a row, as those of a postfix list
 --     Stands see types row locks run      a row with these locks stands for a tree
 --     Lacks see types row locks hole      a row stands for a tree with a part left out at the place
-use Rattle.std.specs.Prelude.{◌≡◌, ℕ, List, [], ◌∷◌, ◌++◌, take, drop, length}
+use Rattle.std.specs.Prelude.{◌≡◌, List, [], ◌∷◌, ◌++◌, take, drop, length}
 use Rattle.dm_type.specs.Tables.{Table}
 use Rattle.dm_meaning.specs.Running.{Run, Hole, filled_in}
 use Rattle.dm_row.specs.declared.item.Item.{Item}

@@ -2,7 +2,7 @@
 --     ready_in results items      how many nodes have all their operands directly in front of them
 --     results_after results items      how many results stand directly behind the items
 --     weight_in items      the sum of the results' weights
-use Rattle.std.specs.Prelude.{ℕ, zero, suc, ◌+◌, Bool, true, false, nat_le, List, [], ◌∷◌, Option, Some, None, if◌then◌else◌}
+use Rattle.std.specs.Prelude.{ℕ, suc, ◌+◌, Bool, true, false, nat_le, List, [], ◌∷◌, Option, Some, None}
 use Rattle.dm_row.specs.declared.item.Item.{Item}
 use Rattle.dm_row.specs.declared.item.Item.TheVariants.{Done, Waits}
 use Rattle.dm_row.specs.declared.item.Passed.{Passed}

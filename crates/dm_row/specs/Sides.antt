@@ -1,5 +1,5 @@
 -- The two sides of a row, and the counts that are kept with their items.
-use Rattle.std.specs.Prelude.{◌≡◌, ℕ, ◌≤◌, List, [], ◌∷◌, ◌++◌, map, reverse, length, None}
+use Rattle.std.specs.Prelude.{◌≡◌, ◌≤◌, List, [], ◌∷◌, length, None}
 use Rattle.dm_row.specs.declared.item.Item.{Item}
 use Rattle.dm_row.specs.declared.item.Passed.{Passed}
 use Rattle.dm_row.specs.declared.item.Ahead.{Ahead}

@@ -9,3 +9,6 @@ mod row;
 pub use item::Item;
 pub use row::Row;
 
+
+#[cfg(test)]
+mod tests;

@@ -1,8 +1,7 @@
 -- The node that was looked for stands behind the place, and its operands in front of it.
-use Rattle.std.proofs.Common.{◌≡◌, ℕ, ◌+◌, ◌-◌, ◌<◌, ◌≤◌, ◌++◌, ◌∷◌, sym, ap, ap₂, ◌∙◌, arith}
-use Rattle.dm_row.specs.Counts.{ready_in}
+use Rattle.std.proofs.Common.{◌≡◌, ℕ, ◌-◌, ◌≤◌, ◌∷◌, sym, ap, ap₂, ◌∙◌, arith}
 use Rattle.dm_expression.specs.Taken.{number_of}
-use Rattle.dm_expression.proofs.TakenLemmas.{enough, taken, number-below, weight-less}
+use Rattle.dm_expression.proofs.TakenLemmas.{enough, taken, weight-less}
 use Rattle.dm_expression.proofs.expression.take_node.Goals as goal
 
 pub take_results-requires : goal.take_results-requires

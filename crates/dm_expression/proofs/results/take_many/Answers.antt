@@ -1,5 +1,5 @@
 -- The results were taken from the last one on, and are turned round at the end.
-use Rattle.std.proofs.Common.{◌≡◌, ℕ, ◌+◌, ◌≤◌, ◌++◌, ◌∷◌, [], reverse, suc, subst, sym, ap, ◌∙◌, arith}
+use Rattle.std.proofs.Common.{◌≡◌, ℕ, ◌+◌, ◌≤◌, ◌∷◌, [], reverse, suc, subst, sym, arith}
 use Rattle.std.proofs.lemmas.List.{reverse-append}
 use Rattle.dm_expression.specs.Taken.{IsOperands}
 use Rattle.dm_expression.proofs.TakenLemmas.{no-operand, one-operand}

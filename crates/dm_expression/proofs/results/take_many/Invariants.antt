@@ -1,6 +1,5 @@
 -- So many results were taken, the last one first.
-use Rattle.std.proofs.Common.{◌≤◌, ◌-◌, reverse}
-use Rattle.dm_row.specs.Counts.{results_after}
+use Rattle.std.proofs.Common.{reverse}
 use Rattle.dm_expression.specs.Taken.{IsOperands}
 use Rattle.dm_expression.proofs.results.take_many.Given as goal
 

@@ -1,5 +1,5 @@
 -- A node is put behind the place, and its operands are left to be put.
-use Rattle.std.proofs.Common.{rules, ◌≡◌, ◌∷◌, [], ◌++◌, map, length, List, refl, sym, ap, subst, ◌∙◌, arith, Bor}
+use Rattle.std.proofs.Common.{rules, ◌≡◌, ◌∷◌, [], ◌++◌, map, length, refl, sym, ap, subst, ◌∙◌, arith, Bor}
 use Rattle.dm_tree.specs.declared.tree.Core.{Core}
 use Rattle.dm_tree.specs.Views.{view}
 use Rattle.dm_expression.specs.Operands.{cores_in}

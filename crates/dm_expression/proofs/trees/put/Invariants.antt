@@ -1,6 +1,5 @@
 -- What is left to be put, and what was put, is the tree.
-use Rattle.std.proofs.Common.{length, map, []}
-use Rattle.dm_type.specs.Tables.{Table}
+use Rattle.std.proofs.Common.{length, map}
 use Rattle.dm_tree.specs.Views.{view}
 use Rattle.dm_expression.specs.Waiting.{items_all, IsUnfolding}
 use Rattle.dm_expression.proofs.PutLemmas.{no_types}

@@ -1,8 +1,8 @@
 -- The numbers of types in the operands are among those of the form.
-use Rattle.std.proofs.Common.{rules, ◌≡◌, ℕ, IsTrue, sym, ap, subst, ◌∙◌, ⊎_elim}
+use Rattle.std.proofs.Common.{IsTrue, sym, subst, ⊎_elim}
 use Rattle.dm_tree.specs.TypeNumbers.{are_known}
 use Rattle.dm_expression.specs.Operands.{AreAllKnown}
-use Rattle.dm_expression.proofs.KnownLemmas.{first-Read, first-Decay, first-Address, first-Follow, first-Member, first-Unary, first-Convert, first-Both, first-Either, first-Choose, first-Comma, first-Count, both-Binary, both-Store, both-Update, arguments-Call}
+use Rattle.dm_expression.proofs.KnownLemmas.{first-Read, first-Decay, first-Address, first-Follow, first-Member, first-Unary, first-Convert, first-Both, first-Either, first-Choose, first-Comma, both-Binary, both-Store, both-Update, arguments-Call}
 use Rattle.dm_expression.proofs.waiting.open_operands.Goals as goal
 
 pub returns-in-Call-clause-known : goal.returns-in-Call-clause-known

@@ -1,5 +1,5 @@
 -- One item further on there are still no more ready nodes in front of the place than the number.
-use Rattle.std.proofs.Common.{◌≡◌, ◌++◌, ◌∙◌, ◌&&◌, false, nat_eq, rules}
+use Rattle.std.proofs.Common.{◌≡◌, ◌∙◌, ◌&&◌, false, nat_eq, rules}
 use Rattle.dm_row.specs.Counts.{ready_in, results_after, is_next_ready}
 use Rattle.dm_row.proofs.SeekLemmas.{behind-same, on-few}
 use Rattle.dm_row.proofs.row.Row.go_on_to.Goals as goal

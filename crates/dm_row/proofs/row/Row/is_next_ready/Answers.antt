@@ -1,6 +1,5 @@
-use Rattle.std.proofs.Common.{◌≡◌, ◌<◌, ◌≤◌, ◌+◌, ◌∷◌, ◌++◌, [], length, nat_le, sym, ap, ◌∙◌, rules, arith}
-use Rattle.dm_row.specs.Counts.{ready_in, results_after, is_next_ready, count_ahead}
-use Rattle.dm_row.specs.Sides.{items_left, items_right, IsCounted}
+use Rattle.std.proofs.Common.{nat_le, sym, ap, ◌∙◌}
+use Rattle.dm_row.specs.Counts.{results_after}
 use Rattle.dm_row.proofs.SideLemmas.{nearest-waits, nearest-done, results-right}
 use Rattle.dm_row.proofs.row.Row.is_next_ready.Goals as goal
 

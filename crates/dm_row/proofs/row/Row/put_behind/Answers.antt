@@ -1,6 +1,4 @@
-use Rattle.std.proofs.Common.{◌≡◌, ◌<◌, ◌≤◌, ◌+◌, ◌∷◌, ◌++◌, [], length, sym, ap, ◌∙◌, rules, arith}
-use Rattle.dm_row.specs.Counts.{ready_in, results_after, is_next_ready}
-use Rattle.dm_row.specs.Sides.{items_left, items_right, IsCounted}
+use Rattle.std.proofs.Common.{arith}
 use Rattle.dm_row.proofs.SideLemmas.{few_ahead-results, few_ahead-ready, pushed-right, sides-right}
 use Rattle.dm_row.proofs.row.Row.put_behind.Goals as goal
 

@@ -1,6 +1,4 @@
-use Rattle.std.proofs.Common.{◌≡◌, ◌<◌, ◌≤◌, ◌+◌, ◌∷◌, ◌++◌, [], length, sym, ap, ◌∙◌, rules, arith}
-use Rattle.dm_row.specs.Counts.{ready_in, results_after, is_next_ready}
-use Rattle.dm_row.specs.Sides.{items_left, items_right, IsCounted}
+use Rattle.std.proofs.Common.{arith}
 use Rattle.dm_row.proofs.SideLemmas.{few-results, few-ready, pushed-left, sides-left}
 use Rattle.dm_row.proofs.row.Row.put_in_front.Goals as goal
 

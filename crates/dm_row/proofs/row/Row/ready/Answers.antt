@@ -1,6 +1,5 @@
-use Rattle.std.proofs.Common.{◌≡◌, ◌<◌, ◌≤◌, ◌+◌, ◌∷◌, ◌++◌, [], length, sym, ap, ◌∙◌, rules, arith}
-use Rattle.dm_row.specs.Counts.{ready_in, results_after, is_next_ready, count_ahead}
-use Rattle.dm_row.specs.Sides.{items_left, items_right, IsCounted}
+use Rattle.std.proofs.Common.{◌+◌, ◌++◌, ap, ◌∙◌, arith}
+use Rattle.dm_row.specs.Counts.{ready_in}
 use Rattle.dm_row.proofs.SideLemmas.{few-results, few-ready, few_ahead-results, few_ahead-ready, ready-both, count-few}
 use Rattle.dm_row.proofs.row.Row.ready.Goals as goal
 

@@ -1,6 +1,5 @@
-use Rattle.std.proofs.Common.{◌≡◌, ◌<◌, ◌≤◌, ◌+◌, ◌∷◌, ◌++◌, [], length, sym, ap, ◌∙◌, rules, arith}
-use Rattle.dm_row.specs.Counts.{ready_in, results_after, is_next_ready}
-use Rattle.dm_row.specs.Sides.{items_left, items_right, IsCounted}
+use Rattle.std.proofs.Common.{ap, ◌∙◌}
+use Rattle.dm_row.specs.Counts.{ready_in}
 use Rattle.dm_row.proofs.SideLemmas.{ready-right}
 use Rattle.dm_row.proofs.row.Row.ready_in_front.Goals as goal
 

@@ -1,6 +1,3 @@
-use Rattle.std.proofs.Common.{◌≡◌, ◌<◌, ◌≤◌, ◌+◌, ◌∷◌, ◌++◌, [], length, sym, ap, ◌∙◌, rules, arith}
-use Rattle.dm_row.specs.Counts.{ready_in, results_after, is_next_ready, count_ahead}
-use Rattle.dm_row.specs.Sides.{items_left, items_right, IsCounted}
 use Rattle.dm_row.proofs.SideLemmas.{popped-left, sides-left_popped}
 use Rattle.dm_row.proofs.row.Row.take_in_front.Goals as goal
 

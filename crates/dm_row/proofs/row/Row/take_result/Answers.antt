@@ -1,5 +1,5 @@
 -- Behind a node stands no result.
-use Rattle.std.proofs.Common.{◌≡◌, ◌++◌, ◌∷◌, [], ap, ◌∙◌}
+use Rattle.std.proofs.Common.{◌++◌, ◌∷◌, [], ap, ◌∙◌}
 use Rattle.dm_row.specs.Counts.{results_after}
 use Rattle.dm_row.proofs.SeekLemmas.{behind-node}
 use Rattle.dm_row.proofs.row.Row.take_result.Goals as goal
