@@ -3,3 +3,4 @@ pub mod PutLemmas
 pub mod TakenLemmas
 pub mod StandLemmas
 pub mod ChoiceLemmas
+pub mod NodeLemmas
