@@ -6,8 +6,12 @@ use Rattle.dm_int.specs.declared.Fault.{Fault}
 use Rattle.dm_int.specs.declared.Kind.{Kind}
 use Rattle.dm_int.specs.declared.Kind.TheVariants.{Int}
 use Rattle.dm_type.specs.CTypes.{CType, void, integer, pointer, array, struct, function, const, bare}
+use Rattle.dm_tree.specs.declared.tree.Sign.{Sign}
+use Rattle.dm_tree.specs.declared.tree.Sign.TheVariants.{Plus, Minus, Complement}
 use Rattle.dm_tree.specs.Constants.{kind_if_integer, integer_kind}
+use Rattle.dm_tree.specs.Evaluation.{unary_value}
 use Rattle.dm_meaning.specs.declared.cause.Cause.{Cause}
+use Rattle.dm_meaning.specs.Values as values
 use Rattle.dm_meaning.specs.Values.{integer_value}
 use Rattle.dm_meaning.specs.Operations as operations
 use Rattle.dm_meaning.specs.Operations.{World, breaks, typed_bare, typed, faulted, number_alone}
@@ -43,3 +47,28 @@ number_or world kind (Err cause) = breaks cause
 pub number_or-faulted : (world : World) (kind : CType) (r : Result ℤ Fault) → number_or world kind (or_cause r) ≡ faulted r (number_alone world kind)
 number_or-faulted world kind (Ok z) = refl
 number_or-faulted world kind (Err fault) = refl
+
+-- what an arithmetic unary operator does with a value
+abbrev pub signed_number : World → CType → Sign → values.Value → operations.Did
+signed_number world kind sign (integer_value k z) = faulted (unary_value sign k z) (number_alone world kind)
+signed_number world kind sign (values.pointer_value p) = operations.ill
+signed_number world kind sign (values.parts all) = operations.ill
+signed_number world kind sign values.unset = operations.ill
+
+pub signed-Plus : (world : World) (kind : CType) (value : values.Value) → signed_number world kind Plus value ≡ operations.signed world kind Plus value
+signed-Plus world kind (integer_value k z) = refl
+signed-Plus world kind (values.pointer_value p) = refl
+signed-Plus world kind (values.parts all) = refl
+signed-Plus world kind values.unset = refl
+
+pub signed-Minus : (world : World) (kind : CType) (value : values.Value) → signed_number world kind Minus value ≡ operations.signed world kind Minus value
+signed-Minus world kind (integer_value k z) = refl
+signed-Minus world kind (values.pointer_value p) = refl
+signed-Minus world kind (values.parts all) = refl
+signed-Minus world kind values.unset = refl
+
+pub signed-Complement : (world : World) (kind : CType) (value : values.Value) → signed_number world kind Complement value ≡ operations.signed world kind Complement value
+signed-Complement world kind (integer_value k z) = refl
+signed-Complement world kind (values.pointer_value p) = refl
+signed-Complement world kind (values.parts all) = refl
+signed-Complement world kind values.unset = refl

@@ -5,10 +5,10 @@ ghost use Rattle.dm_type.specs.CTypes as ctypes;
 ghost use Rattle.dm_type.specs.CTypes.{CType};
 ghost use Rattle.dm_type.specs.Tables.{IsId, Table, type_of};
 ghost use Rattle.dm_meaning.specs.Operations as operations;
-ghost use Rattle.dm_meaning.specs.Operations.{World};
 ghost use Rattle.dm_meaning.specs.Values.{pointer_value};
-ghost use Rattle.dm_value.specs.Views.{view_of_pointer};
-ghost use Rattle.dm_operate.specs.Evaluations.{view_of_did, view_of_evaluation, Does};
+ghost use Rattle.dm_value.specs.Views.{view_of_pointer, view_of_value};
+ghost use Rattle.dm_operate.specs.Evaluations.{view_of_evaluation, Does};
+ghost use Rattle.dm_operate.specs.Targets.{IsTarget};
 
 use crate::evaluation::{Did, Evaluation};
 use crate::numbers::truth_of_kind;
@@ -28,26 +28,62 @@ pub(crate) fn convert(
     requires { IsId layout.now kind }
     ensures { Does layout.now blocks.now blocks.now result (λ scene world. operations.convert_to world (type_of layout.now kind) (view_of_evaluation operand)) }
 {
-    let types = layout.types();
-    match types.shape(bare(types, kind)) {
-        Shape::Void => Did::plain(Value::Unset),
-        Shape::Integer(kind) => to_integer(blocks, *kind, operand),
-        Shape::Pointer(_) => to_pointer(blocks, operand),
-        _ => as_it_is(operand),
+    let target = target_of(layout, kind);
+    if let Target::Void = target {
+        return Did::plain(Value::Unset);
+    }
+    match operand.into_set() {
+        Some(value) => convert_value(blocks, target, value),
+        None => Did::ill(),
     }
 }
 
-/// An operand converted to an integer type (6.3.1.2, 6.3.1.3).
-fn to_integer(blocks: &Blocks, kind: Kind, operand: Evaluation) -> Did
-    ensures { (types : Table) → Does types blocks.now blocks.now result (λ scene world. operations.convert_bare world (ctypes.integer kind) (view_of_evaluation operand)) }
+/// What is converted to.
+#[derive(Clone, Copy)]
+enum Target {
+    Void,
+    Integer(Kind),
+    Pointer,
+    /// What isn't scalar.
+    Whole,
+}
+
+/// What a type is for conversions.
+fn target_of(layout: &Layout, kind: TypeId) -> Target
+    requires { IsId layout.now kind }
+    ensures { IsTarget result (ctypes.bare (type_of layout.now kind)) }
 {
-    match operand {
-        Evaluation::Value(Value::Integer(integer)) => Did::plain(Value::Integer(converted(
-            kind,
-            integer,
-        ))),
-        Evaluation::Value(Value::Pointer(pointer)) => truth_of_pointer(blocks, kind, &pointer),
-        other => as_it_is(other),
+    let types = layout.types();
+    match types.shape(bare(types, kind)) {
+        Shape::Void => Target::Void,
+        Shape::Integer(kind) => Target::Integer(*kind),
+        Shape::Pointer(_) => Target::Pointer,
+        Shape::Array(_, _) | Shape::Struct(_) | Shape::Function(_, _) | Shape::Const(_) => {
+            Target::Whole
+        }
+    }
+}
+
+/// A value that was set, converted.
+fn convert_value(blocks: &Blocks, target: Target, value: Value) -> Did
+    ensures { (types : Table) (type : CType) → IsTarget target type
+        → Does types blocks.now blocks.now result (λ scene world. operations.converted world type (view_of_value value)) }
+{
+    match target {
+        Target::Integer(kind) => to_integer(blocks, kind, value),
+        Target::Pointer => to_pointer(blocks, value),
+        Target::Void | Target::Whole => Did::plain(value),
+    }
+}
+
+/// A value converted to an integer type (6.3.1.2, 6.3.1.3).
+fn to_integer(blocks: &Blocks, kind: Kind, value: Value) -> Did
+    ensures { (types : Table) → Does types blocks.now blocks.now result (λ scene world. operations.converted world (ctypes.integer kind) (view_of_value value)) }
+{
+    match &value {
+        Value::Integer(integer) => Did::plain(Value::Integer(converted(kind, *integer))),
+        Value::Pointer(pointer) => truth_of_pointer(blocks, kind, pointer),
+        Value::Parts(_) | Value::Unset => Did::plain(value),
     }
 }
 
@@ -60,14 +96,14 @@ fn truth_of_pointer(blocks: &Blocks, kind: Kind, pointer: &Pointer) -> Did
     Did::unless(cause, Did::plain(truth))
 }
 
-/// An operand converted to a pointer type (6.3.2.3).
-fn to_pointer(blocks: &Blocks, operand: Evaluation) -> Did
-    ensures { (types : Table) (target : CType) → Does types blocks.now blocks.now result (λ scene world. operations.convert_bare world (ctypes.pointer target) (view_of_evaluation operand)) }
+/// A value converted to a pointer type (6.3.2.3).
+fn to_pointer(blocks: &Blocks, value: Value) -> Did
+    ensures { (types : Table) (target : CType) → Does types blocks.now blocks.now result (λ scene world. operations.converted world (ctypes.pointer target) (view_of_value value)) }
 {
-    match operand {
-        Evaluation::Value(Value::Integer(_)) => Did::plain(Value::Pointer(Pointer::Null)),
-        Evaluation::Value(Value::Pointer(pointer)) => used(blocks, pointer),
-        other => as_it_is(other),
+    match value {
+        Value::Integer(_) => Did::plain(Value::Pointer(Pointer::Null)),
+        Value::Pointer(pointer) => used(blocks, pointer),
+        Value::Parts(_) | Value::Unset => Did::plain(value),
     }
 }
 
@@ -77,14 +113,4 @@ fn used(blocks: &Blocks, pointer: Pointer) -> Did
 {
     let cause = to_use(blocks, &pointer);
     Did::unless(cause, Did::plain(Value::Pointer(pointer)))
-}
-
-/// An operand whose value stays, where it was set.
-fn as_it_is(operand: Evaluation) -> Did
-    ensures { (world : World) → view_of_did world result ≡ operations.on_set (view_of_evaluation operand) (operations.plain world) }
-{
-    match operand.into_set() {
-        Some(value) => Did::plain(value),
-        None => Did::ill(),
-    }
 }

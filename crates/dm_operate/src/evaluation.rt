@@ -1,12 +1,13 @@
 //! What evaluating an expression gives (6.5p1), and what the step of a node does.
 
-ghost use Rattle.std.specs.Prelude.{◌≡◌, [], None, Some, MatchOption};
+ghost use Rattle.std.specs.Prelude.{◌≡◌, [], None, Some, IfSome, MatchOption};
+ghost use Rattle.dm_type.specs.Tables.{IsId, Table};
 ghost use Rattle.dm_meaning.specs.Operations as operations;
 ghost use Rattle.dm_meaning.specs.Operations.{World};
 ghost use Rattle.dm_meaning.specs.Values as values;
 ghost use Rattle.dm_value.specs.Places.{view_of_at};
 ghost use Rattle.dm_value.specs.Views.{view_of_value};
-ghost use Rattle.dm_operate.specs.Evaluations.{view_of_did, view_of_evaluation};
+ghost use Rattle.dm_operate.specs.Evaluations.{view_of_did, view_of_evaluation, view_of_operand, view_of_operands, AreKnownOperands};
 
 use dm_meaning::Cause;
 use dm_type::TypeId;
@@ -86,6 +87,62 @@ impl Evaluation {
         match self {
             Evaluation::Value(Value::Unset) | Evaluation::Object(_) => None,
             Evaluation::Value(value) => Some(value),
+        }
+    }
+}
+
+impl Operands {
+    /// The operand, where there is one.
+    pub(crate) fn into_one(self) -> Option<Operand>
+        ensures { (table : Table) (next : operations.Operand → operations.Did) → MatchOption result (operations.on_one (view_of_operands table self) next ≡ operations.ill)
+            (λ a. operations.on_one (view_of_operands table self) next ≡ next (view_of_operand table a)) }
+    {
+        match self {
+            Operands::One(a) => Some(a),
+            Operands::None | Operands::Two(_, _) => None,
+        }
+    }
+
+    /// The value of the operand, where there is one and it is a value.
+    pub(crate) fn into_value(self) -> Option<Value>
+        ensures { (table : Table) (next : values.Value → operations.Did)
+            → MatchOption result (operations.on_one (view_of_operands table self) (λ a. operations.on_value a.result next) ≡ operations.ill)
+            (λ value. operations.on_one (view_of_operands table self) (λ a. operations.on_value a.result next) ≡ next (view_of_value value)) }
+    {
+        match self {
+            Operands::One(Operand {
+                kind: _,
+                result: Evaluation::Value(value),
+            }) => Some(value),
+            _ => None,
+        }
+    }
+
+    /// What the operand designates, where there is one and it is an lvalue.
+    pub(crate) fn into_place(self) -> Option<At>
+        ensures { (table : Table) (next : values.At → operations.Did)
+            → MatchOption result (operations.on_one (view_of_operands table self) (λ a. operations.on_place a.result next) ≡ operations.ill)
+            (λ at. operations.on_one (view_of_operands table self) (λ a. operations.on_place a.result next) ≡ next (view_of_at at)) }
+    {
+        match self {
+            Operands::One(Operand {
+                kind: _,
+                result: Evaluation::Object(at),
+            }) => Some(at),
+            _ => None,
+        }
+    }
+
+    /// The operands, where there are two.
+    pub(crate) fn into_two(self) -> Option<(Operand, Operand)>
+        ensures given { (table : Table) (next : operations.Operand → operations.Operand → operations.Did)
+            → MatchOption result (operations.on_two (view_of_operands table self) next ≡ operations.ill)
+            (λ both. operations.on_two (view_of_operands table self) next ≡ next (view_of_operand table both.0) (view_of_operand table both.1)) }
+        ensures known { (table : Table) → AreKnownOperands table self → IfSome result (λ both. IsId table both.0.kind × IsId table both.1.kind) }
+    {
+        match self {
+            Operands::Two(a, b) => Some((a, b)),
+            Operands::None | Operands::One(_) => None,
         }
     }
 }

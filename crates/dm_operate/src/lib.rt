@@ -2,8 +2,19 @@
 //! operands apart.
 #![tactic(auto)]
 
+mod conversions;
 mod evaluation;
-mod operate;
+mod numbers;
+mod operator;
+mod pairs;
+mod perform;
+mod places;
+mod replacement;
+mod signs;
+mod stores;
+mod sums;
 
 pub use evaluation::{Did, Evaluation, Operand, Operands};
-pub use operate::operate;
+pub use numbers::{number, truth_value};
+pub use perform::operate;
+pub use places::designated;

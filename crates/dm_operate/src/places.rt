@@ -31,12 +31,11 @@ pub fn designated(number: Option<u64>) -> Did
 }
 
 /// The object of a string literal (6.4.5p6).
-pub(crate) fn literal(bytes: &Text, unit: u32) -> Result<Did, Memory>
-    ensures { (world : World) → IfOk result (λ did. view_of_did world did
-        ≡ operations.gives world (operations.designates (operations.whole (values.literal_of bytes.now unit))) []) }
+pub(crate) fn literal(bytes: Text, unit: u32) -> Did
+    ensures { (world : World) → view_of_did world result
+        ≡ operations.gives world (operations.designates (operations.whole (values.literal_of bytes unit))) [] }
 {
-    let bytes = bytes.copy()?;
-    Ok(Did::object(At::whole(Name::Literal(bytes, unit))))
+    Did::object(At::whole(Name::Literal(bytes, unit)))
 }
 
 /// The value of a place (6.3.2.1p2).

@@ -12,7 +12,7 @@ ghost use Rattle.dm_memory.specs.Blocks.{view_of_blocks, AreKnown};
 ghost use Rattle.dm_memory.specs.Scenes.{scene_in, world_in, Beside};
 ghost use Rattle.dm_operate.specs.Replacements.{cause_of, value_of, Is};
 
-use crate::sums::or_null;
+use crate::sums::{negative, or_null};
 use dm_int::{Kind, Op, binary};
 use dm_layout::Layout;
 use dm_meaning::Cause;
@@ -211,7 +211,10 @@ fn count_of(op: Op, count: i128) -> i128
     ensures count { result ≡ operations.move_of op count }
     ensures within { IsCount result }
 {
-    if op == Op::Sub { -count } else { count }
+    match op {
+        Op::Sub => negative(count),
+        _ => count,
+    }
 }
 
 /// Why a compound assignment is undefined whatever the object's value is, if it is.

@@ -7,7 +7,7 @@ ghost use Rattle.dm_meaning.specs.Operations as operations;
 ghost use Rattle.dm_meaning.specs.Operations.{World};
 ghost use Rattle.dm_value.specs.Views.{view_of_value};
 ghost use Rattle.dm_operate.specs.Evaluations.{view_of_did, Does};
-ghost use Rattle.dm_operate.specs.Numbers.{number_or};
+ghost use Rattle.dm_operate.specs.Numbers.{number_or, signed_number};
 
 use crate::evaluation::Did;
 use crate::numbers::{number, truth_value};
@@ -23,12 +23,20 @@ pub(crate) fn sign(layout: &Layout, blocks: &Blocks, kind: TypeId, sign: Sign, v
     requires { IsId layout.now kind }
     ensures { Does layout.now blocks.now blocks.now result (λ scene world. operations.signed world (type_of layout.now kind) sign (view_of_value value.now)) }
 {
-    if sign == Sign::Not {
-        return not(layout, blocks, kind, value);
+    match sign {
+        Sign::Not => not(layout, blocks, kind, value),
+        Sign::Plus | Sign::Minus | Sign::Complement => arithmetic(layout, kind, sign, value),
     }
+}
+
+/// What another operator does.
+fn arithmetic(layout: &Layout, kind: TypeId, sign: Sign, value: &Value) -> Did
+    requires { IsId layout.now kind }
+    ensures { (world : World) → view_of_did world result ≡ signed_number world (type_of layout.now kind) sign (view_of_value value.now) }
+{
     match value {
         Value::Integer(integer) => number_or_cause(layout, kind, signed(sign, *integer)),
-        _ => Did::ill(),
+        Value::Pointer(_) | Value::Parts(_) | Value::Unset => Did::ill(),
     }
 }
 

@@ -1,18 +1,22 @@
 //! Assignments (6.5.2.4, 6.5.3.1, 6.5.16).
 
-ghost use Rattle.std.specs.Prelude.{◌∷◌, [], IfOk, map};
+ghost use Rattle.std.specs.Prelude.{◌≡◌, ◌∷◌, [], ◌++◌, if◌then◌else◌, List, IfOk, map};
 ghost use Rattle.dm_type.specs.Tables.{IsId, Table, type_of};
+ghost use Rattle.dm_meaning.specs.declared.cause.Cause.{Cause};
+ghost use Rattle.dm_meaning.specs.Causes as table;
 ghost use Rattle.dm_meaning.specs.Memory as memory;
 ghost use Rattle.dm_meaning.specs.Operations as operations;
 ghost use Rattle.dm_value.specs.Places.{view_of_at};
 ghost use Rattle.dm_value.specs.Views.{view_of_value};
-ghost use Rattle.dm_memory.specs.Blocks.{AreKnown};
+ghost use Rattle.dm_layout.specs.LaidOut.{laid_out};
+ghost use Rattle.dm_memory.specs.Blocks.{view_of_blocks, AreKnown};
 ghost use Rattle.dm_operate.specs.Evaluations.{view_of_evaluation, Does};
 
 use crate::evaluation::{Did, Evaluation};
 use crate::replacement::{self, Made};
 use dm_int::Op;
 use dm_layout::Layout;
+use dm_meaning::Cause;
 use dm_memory::{Blocks, to_store, to_update};
 use dm_token::Memory;
 use dm_type::TypeId;
@@ -94,12 +98,31 @@ pub(crate) fn update(
     let object = blocks.contents(alloc, &at)?;
     let made = replacement::update(alloc, layout, blocks, kind, op, works, &object, right)?;
     let Made { cause, value } = made;
-    let accessed = to_update(layout, blocks, locks, kind, &at);
-    if let Some(cause) = sooner(cause, accessed) {
-        return Ok(Did::Breaks(cause));
+    match why_not(layout, blocks, locks, kind, &at, cause) {
+        Some(cause) => Ok(Did::Breaks(cause)),
+        None => {
+            let did = written(alloc, blocks, at, value)?;
+            Ok(did)
+        }
     }
-    let did = written(alloc, blocks, at, value)?;
-    Ok(did)
+}
+
+/// Why replacing the value of a place is undefined, if it is, where this is the cause that what is made of it has.
+fn why_not(
+    layout: &Layout,
+    blocks: &Blocks,
+    locks: &[At],
+    kind: TypeId,
+    at: &At,
+    cause: Option<Cause>,
+) -> Option<Cause>
+    requires kind { IsId layout.now kind }
+    requires known { AreKnown layout.now blocks.now }
+    ensures { (causes : List Cause) → cause ≡ table.earliest causes → result ≡ table.earliest (causes ++ table.update_causes (laid_out layout.now)
+        (view_of_blocks layout.now blocks.now) (map view_of_at locks.now) (type_of layout.now kind) (view_of_at at.now)) }
+{
+    let accessed = to_update(layout, blocks, locks, kind, at);
+    sooner(cause, accessed)
 }
 
 /// `++` or `--`, which stands before its operand or behind it.
@@ -122,10 +145,29 @@ pub(crate) fn count(
     let object = blocks.contents(alloc, &at)?;
     let made = replacement::count(alloc, layout, blocks, kind, plus, &object)?;
     let Made { cause, value } = made;
-    let accessed = to_update(layout, blocks, locks, kind, &at);
-    if let Some(cause) = sooner(cause, accessed) {
-        return Ok(Did::Breaks(cause));
+    match why_not(layout, blocks, locks, kind, &at, cause) {
+        Some(cause) => Ok(Did::Breaks(cause)),
+        None => {
+            let did = counted(alloc, blocks, at, value, object, before)?;
+            Ok(did)
+        }
     }
+}
+
+/// A value in an object, where it is given itself, or the one before it.
+fn counted(
+    alloc: Global,
+    blocks: &mut Blocks,
+    at: At,
+    value: Value,
+    object: Value,
+    before: bool,
+) -> Result<Did, Memory>
+    ensures did { (types : Table) → IfOk result (λ did. Does types blocks.old blocks.new did (λ scene world. operations.gives
+        (record world { memory = memory.written world.memory (view_of_at at) (view_of_value value) })
+        (operations.of_value (if before then view_of_value value else view_of_value object)) (view_of_at at ∷ []))) }
+    ensures known { (types : Table) → AreKnown types blocks.old → AreKnown types blocks.new }
+{
     if before {
         let did = written(alloc, blocks, at, value)?;
         Ok(did)

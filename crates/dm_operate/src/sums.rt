@@ -1,6 +1,6 @@
 //! Binary operators (6.5.5 to 6.5.12).
 
-ghost use Rattle.std.specs.Prelude.{◌≡◌, IfOk, option_map};
+ghost use Rattle.std.specs.Prelude.{◌≡◌, neg_ℤ, IfOk, option_map};
 ghost use Rattle.dm_int.specs.Operators as operators;
 ghost use Rattle.dm_type.specs.Tables.{IsId, type_of};
 ghost use Rattle.dm_tree.specs.Evaluation.{is_right};
@@ -93,11 +93,20 @@ fn shifted(
             Ok(did)
         }
         Op::Sub => {
-            let did = further(alloc, layout, blocks, kind, pointer, -count)?;
+            let did = further(alloc, layout, blocks, kind, pointer, negative(count))?;
             Ok(did)
         }
         _ => Ok(Did::ill()),
     }
+}
+
+/// As many elements the other way.
+pub(crate) fn negative(count: i128) -> i128
+    requires { IsCount count }
+    ensures value { result ≡ neg_ℤ count }
+    ensures within { IsCount result }
+{
+    -count
 }
 
 /// A number of elements plus a pointer.
