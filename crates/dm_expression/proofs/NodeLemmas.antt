@@ -65,7 +65,7 @@ module _ (types : Table) (core : Core) (scene : Scene) (world : World) (held : L
   pub step-choose : (a b c : Core) (one : Evaluated) → (out-Core core).form ≡ form.Choose a b c
       → step_at scene world held (waiting_of Evaluates (view types core)) (one ∷ [])
       ≡ by_truth world place-of-core (truth_of world.memory (value_of one.result))
-        (operand_chosen kind-of-core place-of-core (more_runs (run_done one) (more_runs (begun (view types b)) (more_runs (begun (view types c)) no_runs))))
+      (operand_chosen kind-of-core place-of-core (more_runs (run_done one) (more_runs (begun (view types b)) (more_runs (begun (view types c)) no_runs))))
   step-choose a b c one is = by-form (opened label.choose (view types a ∷ view types b ∷ view types c ∷ [])) (one ∷ []) (ap (opened_form types) is ∙ opened-Choose types a b c)
 
   pub step-comma : (a b : Core) (one : Evaluated) → (out-Core core).form ≡ form.Comma a b

@@ -169,11 +169,12 @@ one-node {R} tree core xs cores one count old before after h opened known counte
       let expression = (expressions-last types xs core (h.expressions types)).1 in
       let trees = opened types (label-expression types core expression).0 in
       let before = h.waits types in
-      let node = waiting_of Evaluates (view types core) in
-      (postfix.waiting node ∷ before.0,
-      sym (append_assoc (items_all (map (view types) (xs ++ cores))) (postfix.waiting node ∷ []) before.0)
-      ∙ (ap (λ front. front ++ before.0) (sym (items-last types xs core cores trees)) ∙ before.1),
-      (ap₂ (λ d c. waiting_of d (view types c)) doing at, counted ∙ (sym (length-mapped (view types) cores) ∙ (ap length trees ∙ arity-node types core)), before.2));
+      let node = waiting_of Evaluates (view types core) in (
+        postfix.waiting node ∷ before.0,
+        sym (append_assoc (items_all (map (view types) (xs ++ cores))) (postfix.waiting node ∷ []) before.0)
+            ∙ (ap (λ front. front ++ before.0) (sym (items-last types xs core cores trees)) ∙ before.1),
+        (ap₂ (λ d c. waiting_of d (view types c)) doing at, counted ∙ (sym (length-mapped (view types) cores) ∙ (ap length trees ∙ arity-node types core)), before.2),
+      );
   known = λ n tree_known.
       let before = h.known n tree_known in
       let last = known-last n xs core before.0 in

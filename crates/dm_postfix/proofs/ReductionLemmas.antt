@@ -228,10 +228,12 @@ own-reductions before results doing kind place parts None is same =
     ∙ (ap (map (followed (waiting node ∷ []))) same
     ∙ map-square_each (StandsIn (open_parts doing) parts) (λ one. prefixed before (reduction_in_of (open_parts doing) one)) (followed (waiting node ∷ []))
     (λ one. (within doing kind place one.0, one.1)) (λ one. prefixed before (reduction_of one))
-    (λ one h. ap (λ slots. record { before = before ++ (before_in (open_parts doing) one.0 ++ map evaluated one.1.operands);
-        node = node_of one.1.doing one.1.kind one.1.place (slots_of (open_parts one.1.doing) one.1.parts);
-        after = after_in (open_parts doing) one.0 ++ waiting (node_of doing kind place slots) ∷ [] })
-      (ap (slots_of (open_parts doing)) (sym h.fills) ∙ slots-filled (open_parts doing) one.0 (run_of one.1) h.opened))
+    (λ one h. ap (λ slots. record {
+      before = before ++ (before_in (open_parts doing) one.0 ++ map evaluated one.1.operands);
+      node = node_of one.1.doing one.1.kind one.1.place (slots_of (open_parts one.1.doing) one.1.parts);
+      after = after_in (open_parts doing) one.0 ++ waiting (node_of doing kind place slots) ∷ [];
+    })
+    (ap (slots_of (open_parts doing)) (sym h.fills) ∙ slots-filled (open_parts doing) one.0 (run_of one.1) h.opened))
     all (ready_in-stand (open_parts doing) parts))))
 
 open-reductions : (before : List Item) (results : ℕ) (opened : Bool) (first : Run) → reductions before results (items first) ≡ map (λ one. prefixed before (reduction_of one)) (ready first)
@@ -254,8 +256,8 @@ other-reductions before opens first found =
     let own = where_open (first_open opens) (items first) in
     map-through (λ one. prefixed (before ++ own) (reduction_in_of (others_open opens) one)) (λ one. (in_others first one.0, one.1)) (λ one. prefixed before (reduction_in_of opens one))
     (λ one. ap (λ front. record { before = front; node = node_of one.1.doing one.1.kind one.1.place (slots_of (open_parts one.1.doing) one.1.parts); after = after_in (others_open opens) one.0 })
-      (append_assoc before own (before_in (others_open opens) one.0 ++ map evaluated one.1.operands)
-      ∙ ap (λ xs. before ++ xs) (sym (append_assoc own (before_in (others_open opens) one.0) (map evaluated one.1.operands))))) found
+    (append_assoc before own (before_in (others_open opens) one.0 ++ map evaluated one.1.operands)
+    ∙ ap (λ xs. before ++ xs) (sym (append_assoc own (before_in (others_open opens) one.0) (map evaluated one.1.operands))))) found
 
 mutual
   -- the reductions of a tree's items are its ready nodes, whatever stands in front of it

@@ -49,7 +49,7 @@ found : (run : Run) (front : List Item) (node : Waiting) (after : List Item) →
 found run front node after is enough =
     let there = ap (λ all. slice_get all (ready_count 0 front)) (sym (reductions-ready [] 0 run) ∙ ap (reductions [] 0) is) ∙ reduction-there front node after enough in
     let one = from-option (λ one. prefixed [] (reduction_of one)) (slice_get (ready run) (ready_count 0 front)) _
-        (sym (slice_get-map (λ one. prefixed [] (reduction_of one)) (ready run) (ready_count 0 front)) ∙ there) in
+    (sym (slice_get-map (λ one. prefixed [] (reduction_of one)) (ready run) (ready_count 0 front)) ∙ there) in
     record { one = one.0; taken = one.1; stands = each-get (Stands run) (ready run) (ready_count 0 front) one.0 (ready-stand run) one.1; same = one.2 }
 
 -- ---- its operands
@@ -127,7 +127,7 @@ move-at scene world locks run before operands node after is size =
     let one = placed run before operands node after is size in
     let number = ready_count 0 (before ++ map evaluated operands) in
     let at : Hole → Waiting → Runs → List Evaluated → Option (Move Run Hole) = λ hole waits parts results.
-        Some (lifted (filled_in hole) (hole_in hole) (node_step scene world locks waits.doing waits.kind waits.place parts (map as_operand results))) in
+    Some (lifted (filled_in hole) (hole_in hole) (node_step scene world locks waits.doing waits.kind waits.place parts (map as_operand results))) in
     let r = one.one.1 in
     let waits = node_of r.doing r.kind r.place (slots_of (open_parts r.doing) r.parts) in
     ap (λ all. slice_get all number) (moves-ready scene world locks run)

@@ -64,7 +64,7 @@ on-few first second number h few is =
     let whole = ap (ready_in 0) h.in_front ∙ ready-append 0 first.0 (h.item ∷ []) in
     let next = ap (is_next_ready (results_after 0 first.0)) h.behind in
     let less = still (is_next_ready (results_after 0 first.0) first.1) (ready_in 0 first.0) (ready_in (results_after 0 first.0) (h.item ∷ [])) number few
-        (own-few h.item (results_after 0 first.0)) (λ e. own-ready h.item (results_after 0 first.0) second.1 (sym next ∙ e)) is in
+    (own-few h.item (results_after 0 first.0)) (λ e. own-ready h.item (results_after 0 first.0) second.1 (sym next ∙ e)) is in
     omega (arith, whole, less)
 
 both-true : (a b : Bool) → (a && b) ≡ true → (a ≡ true) × (b ≡ true)

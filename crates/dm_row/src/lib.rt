@@ -5,10 +5,8 @@
 mod item;
 mod row;
 
-
 pub use item::Item;
 pub use row::Row;
-
 
 #[cfg(test)]
 mod tests;

@@ -6,6 +6,7 @@ use Rattle.dm_row.proofs.row.Row.go_on_to.Goals as goal
 
 pub loop-self-preserved : goal.loop-self-preserved
 loop-self-preserved g c =
-    let not_there : (is_next_ready (results_after 0 c.loop-self.self.0) c.loop-self.self.1 && nat_eq (ready_in 0 c.loop-self.self.0) c.args.number) ≡ false = search rules in
-    (c.loop-self.invariant.0 ∙ behind-same c.loop-self.self c.go_on.new.self c.in_ok-go_on.ensures,
-    on-few c.loop-self.self c.go_on.new.self c.args.number c.in_ok-go_on.ensures c.loop-self.invariant.1 not_there)
+    let not_there : (is_next_ready (results_after 0 c.loop-self.self.0) c.loop-self.self.1 && nat_eq (ready_in 0 c.loop-self.self.0) c.args.number) ≡ false = search rules in (
+      c.loop-self.invariant.0 ∙ behind-same c.loop-self.self c.go_on.new.self c.in_ok-go_on.ensures,
+      on-few c.loop-self.self c.go_on.new.self c.args.number c.in_ok-go_on.ensures c.loop-self.invariant.1 not_there,
+    )
