@@ -1,5 +1,5 @@
 -- The step of a node, by its form in the code, and the locks that it sees.
-use Rattle.std.proofs.Common.{rules, ◌≡◌, ℕ, zero, suc, ◌+◌, ◌-◌, Bool, true, false, List, [], ◌∷◌, ◌++◌, map, length, take, drop, refl, sym, ap, ap₂, subst, ◌∙◌, arith}
+use Rattle.std.proofs.Common.{rules, ◌≡◌, ℕ, suc, ◌+◌, ◌-◌, Bool, true, false, List, [], ◌∷◌, ◌++◌, map, length, take, drop, refl, sym, ap, ap₂, subst, ◌∙◌, arith}
 use Rattle.std.proofs.lemmas.List.{length-drop, take-append-drop, map-append}
 use Rattle.dm_token.specs.declared.place.Place.{Place}
 use Rattle.dm_type.specs.CTypes.{CType}
@@ -14,13 +14,12 @@ use Rattle.dm_tree.proofs.ViewLemmas.{view-core, opened-Both, opened-Either, ope
 use Rattle.dm_meaning.specs.Values.{At}
 use Rattle.dm_meaning.specs.Operations.{World, Scene, truth_of, operate}
 use Rattle.dm_meaning.specs.Running.{Run, done, Runs, no_runs, more_runs, begun, all_begun, locks_in, locks_in_all, open_of, Hole}
-use Rattle.dm_meaning.specs.Expressions.{Move, goes, fails, by_truth, both_chosen, either_chosen, operand_chosen, going_on, call_step, function_named, form_step, as_move, value_of}
+use Rattle.dm_meaning.specs.Expressions.{goes, by_truth, both_chosen, either_chosen, operand_chosen, going_on, call_step, function_named, form_step, as_move, value_of}
 use Rattle.dm_meaning.specs.Running as running
 use Rattle.dm_row.specs.declared.item.Item.{Item}
 use Rattle.dm_row.specs.declared.item.Item.TheVariants.{Done, Waits}
 use Rattle.dm_row.specs.Counts.{weight_in}
-use Rattle.dm_postfix.specs.Postfix as postfix
-use Rattle.dm_postfix.specs.Postfix.{Evaluated, Slots, no_slots, operand, closed, arity, closed_locks, slots_of, items, locks_of, AreUnlocked}
+use Rattle.dm_postfix.specs.Postfix.{Evaluated, Slots, no_slots, operand, closed, arity, closed_locks, locks_of, AreUnlocked}
 use Rattle.dm_postfix.specs.Reductions.{as_operand, filled, step_at}
 use Rattle.dm_postfix.proofs.BegunLemmas.{closed-begun}
 use Rattle.dm_postfix.proofs.HoleLemmas.{locks-items}
@@ -29,7 +28,7 @@ use Rattle.dm_expression.specs.declared.waiting.Doing.TheVariants.{Evaluates, Gi
 use Rattle.dm_expression.specs.declared.waiting.Waiting.{Waiting}
 use Rattle.dm_expression.specs.Standing.{viewed, Stands}
 use Rattle.dm_expression.specs.Taken.{dones}
-use Rattle.dm_expression.specs.Waiting.{waiting_of, view_of_waiting}
+use Rattle.dm_expression.specs.Waiting.{waiting_of}
 use Rattle.dm_expression.proofs.StandLemmas.{seen}
 
 -- ---- nodes that evaluate some of their operands
