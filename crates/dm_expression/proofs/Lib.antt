@@ -4,3 +4,4 @@ pub mod TakenLemmas
 pub mod StandLemmas
 pub mod ChoiceLemmas
 pub mod NodeLemmas
+pub mod LeaveLemmas

@@ -105,7 +105,7 @@ module _ {R L : Type 0} (see : R → List L → postfix.Evaluated) (types : Tabl
   behind : List postfix.Item
   behind = viewed see types last new.1
 
-  pub node_taken : postfix.Waiting
+  abbrev pub node_taken : postfix.Waiting
   node_taken = view_of_waiting types all.node
 
   -- its operands
@@ -141,7 +141,6 @@ module _ {R L : Type 0} (see : R → List L → postfix.Evaluated) (types : Tabl
 
   -- the items of the tree
   pub items-taken : items run ≡ viewed see types first new.0 ++ (map postfix.evaluated operands_taken ++ postfix.waiting node_taken ∷ viewed see types last new.1)
-  unfolding node_taken
   items-taken =
       sym stands.same
       ∙ (ap₂ (λ l xs. viewed see types l xs) split (taken.same ∙ append_assoc new.0 (dones taken.pairs) (Waits all.node taken.count ∷ new.1))
@@ -151,7 +150,6 @@ module _ {R L : Type 0} (see : R → List L → postfix.Evaluated) (types : Tabl
       ∙ ap (λ xs. xs ++ postfix.waiting (view_of_waiting types all.node) ∷ viewed see types last new.1) (viewed-dones see types own taken.pairs))))
 
   size-taken : length operands_taken ≡ arity node_taken.slots
-  unfolding node_taken
   size-taken = seen-length see own taken.pairs ∙ (taken.as_many ∙ sized-node.0)
 
   number-taken : ready_count 0 (viewed see types first new.0 ++ map postfix.evaluated operands_taken) ≡ number_of choice (ready_count 0 (items run))
