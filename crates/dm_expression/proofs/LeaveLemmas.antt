@@ -19,10 +19,11 @@ use Rattle.dm_postfix.specs.Reductions.{step_at}
 use Rattle.dm_expression.specs.declared.waiting.Waiting.{Waiting}
 use Rattle.dm_expression.specs.declared.results.Taken.{Taken}
 use Rattle.dm_expression.specs.Given.{lock_list, with_lock, without}
+use Rattle.dm_expression.specs.Left.{seen}
 use Rattle.dm_expression.specs.Standing.{viewed, Stands, Lacks}
 use Rattle.dm_expression.specs.Taken.{dones, number_of, IsTaken}
 use Rattle.dm_expression.specs.Waiting.{view_of_waiting, IsPut}
-use Rattle.dm_expression.proofs.StandLemmas.{seen, move-taken, lacks-taken, given, picked}
+use Rattle.dm_expression.proofs.StandLemmas.{move-taken, lacks-taken, given, picked}
 use Rattle.dm_expression.proofs.TakenLemmas.{weight-append}
 
 -- ---- locks in front of the place, of the operands, and behind the place
@@ -120,12 +121,12 @@ module _ {R L : Type 0} (see : R → List L → postfix.Evaluated) (types : Tabl
   -- A result with the operands' locks, and with another one in front of them, if there is one.
   pub result-left : (value : R) (lock : Option L)
       → Stands see types (new.0 ++ Done value (all.locks + length (lock_list lock)) ∷ [], new.1) (with_lock (weight_in new.0) lock locks)
-        (filled_in hole_left (done (see value (lock_list lock ++ own_of)).kind (see value (lock_list lock ++ own_of)).result (see value (lock_list lock ++ own_of)).locks))
+      (filled_in hole_left (done (see value (lock_list lock ++ own_of)).kind (see value (lock_list lock ++ own_of)).result (see value (lock_list lock ++ own_of)).locks))
   result-left value lock =
       let size = length-append (lock_list lock) own_of in
       let own = own-size (weight_in new.0) all.locks locks room-taken in
       subst (λ l. Stands see types (new.0 ++ Done value (all.locks + length (lock_list lock)) ∷ [], new.1) l
-        (filled_in hole_left (done (see value (lock_list lock ++ own_of)).kind (see value (lock_list lock ++ own_of)).result (see value (lock_list lock ++ own_of)).locks)))
+      (filled_in hole_left (done (see value (lock_list lock ++ own_of)).kind (see value (lock_list lock ++ own_of)).result (see value (lock_list lock ++ own_of)).locks)))
       (sym (locks-given (weight_in new.0) all.locks locks room-taken lock))
       (given see types new front_of (lock_list lock ++ own_of) rest_of hole_left value (all.locks + length (lock_list lock)) lacks (omega (arith, size, own)))
 

@@ -26,10 +26,10 @@ use Rattle.dm_postfix.proofs.HoleLemmas.{locks-items}
 use Rattle.dm_expression.specs.declared.waiting.Doing.{Doing}
 use Rattle.dm_expression.specs.declared.waiting.Doing.TheVariants.{Evaluates, GivesTruth, GivesValue}
 use Rattle.dm_expression.specs.declared.waiting.Waiting.{Waiting}
+use Rattle.dm_expression.specs.Left.{seen}
 use Rattle.dm_expression.specs.Standing.{viewed, Stands}
 use Rattle.dm_expression.specs.Taken.{dones}
 use Rattle.dm_expression.specs.Waiting.{waiting_of}
-use Rattle.dm_expression.proofs.StandLemmas.{seen}
 
 -- ---- nodes that evaluate some of their operands
 

@@ -23,13 +23,9 @@ use Rattle.dm_expression.specs.declared.results.Taken.{Taken}
 use Rattle.dm_expression.specs.Waiting.{waiting_of, view_of_waiting, AreWaiting, IsPut}
 use Rattle.dm_expression.specs.declared.waiting.Doing.TheVariants.{GivesTruth, GivesValue}
 use Rattle.dm_expression.specs.Taken.{dones, number_of, IsTaken}
+use Rattle.dm_expression.specs.Left.{seen}
 use Rattle.dm_expression.specs.Standing.{viewed, AreSized, Stands, Lacks}
 use Rattle.dm_expression.proofs.TakenLemmas.{weight-append}
-
--- results with their locks
-abbrev pub seen : {R L : Type 0} → (R → List L → postfix.Evaluated) → List L → List (R × ℕ) → List postfix.Evaluated
-seen see locks [] = []
-seen see locks (one ∷ rest) = see one.0 (take one.1 locks) ∷ seen see (drop one.1 locks) rest
 
 -- ---- lists that are joined
 

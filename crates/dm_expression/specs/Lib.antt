@@ -3,3 +3,4 @@ pub mod Waiting
 pub mod Taken
 pub mod Standing
 pub mod Given
+pub mod Left

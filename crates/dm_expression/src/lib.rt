@@ -2,12 +2,17 @@
 #![tactic(auto)]
 
 mod expression;
+mod laws;
 mod locks;
 mod results;
 mod trees;
 mod waiting;
 
 pub use expression::Expression;
+pub use laws::{
+    chosen_operands_stand_in_place, expressions_begin, moves_are_chosen, results_stand_in_place,
+    taken_nodes_move,
+};
 pub use results::{Results, Taken};
 pub use trees::put;
 pub use waiting::{Doing, Operands, Waiting, open_operands};

@@ -1,0 +1,28 @@
+-- What is left of an expression when a node was taken out.
+--     own_locks locks row taken      the locks of the node's operands
+--     operands_left see locks row taken pairs      the operands, with their locks
+--     hole_left see types locks row taken      the tree without the node
+use Rattle.std.specs.Prelude.{ℕ, List, [], ◌∷◌, take, drop}
+use Rattle.dm_type.specs.Tables.{Table}
+use Rattle.dm_meaning.specs.Running.{Hole}
+use Rattle.dm_row.specs.declared.item.Item.{Item}
+use Rattle.dm_row.specs.Counts.{weight_in}
+use Rattle.dm_postfix.specs.Postfix.{Evaluated, hole_of}
+use Rattle.dm_expression.specs.declared.results.Taken.{Taken}
+use Rattle.dm_expression.specs.declared.waiting.Waiting.{Waiting}
+use Rattle.dm_expression.specs.Standing.{viewed}
+
+abbrev pub own_locks : {R L : Type 0} → List L → List (Item R Waiting) × List (Item R Waiting) → Taken R → List L
+own_locks locks row taken = take taken.locks (drop (weight_in row.0) locks)
+
+-- results with their locks
+abbrev pub seen : {R L : Type 0} → (R → List L → Evaluated) → List L → List (R × ℕ) → List Evaluated
+seen see locks [] = []
+seen see locks (one ∷ rest) = see one.0 (take one.1 locks) ∷ seen see (drop one.1 locks) rest
+
+abbrev pub operands_left : {R L : Type 0} → (R → List L → Evaluated) → List L → List (Item R Waiting) × List (Item R Waiting) → Taken R → List (R × ℕ) → List Evaluated
+operands_left see locks row taken pairs = seen see (own_locks locks row taken) pairs
+
+abbrev pub hole_left : {R L : Type 0} → (R → List L → Evaluated) → Table → List L → List (Item R Waiting) × List (Item R Waiting) → Taken R → Hole
+hole_left see types locks row taken =
+    hole_of (viewed see types (take (weight_in row.0) locks) row.0) (viewed see types (drop taken.locks (drop (weight_in row.0) locks)) row.1)
