@@ -182,6 +182,7 @@ one-node {R} tree core xs cores one count old before after h opened known counte
   expressions = λ types.
       let last = expressions-last types xs core (h.expressions types) in
       expressions-both types xs cores last.0 (operands-expressions types core cores last.1 (opened types (label-expression types core last.1).0));
+  nodes = λ types. (subst (λ c. IsTrue (is_expression (view types c))) (sym at) (expressions-last types xs core (h.expressions types)).1, h.nodes types);
 }
   where
     length-mapped : {A B : Type 0} (f : A → B) (all : List A) → length (map f all) ≡ length all
@@ -206,6 +207,7 @@ at-first tree row expression = record {
   waits = λ types. ([], append-nil (items (begun (view types tree)) ++ []) ∙ append-nil (items (begun (view types tree))), tt);
   known = λ n h. ((h, tt), tt);
   expressions = λ types. (expression types, tt);
+  nodes = λ types. tt;
 }
 
 pub map-twice : {A B C : Type 0} (f : B → C) (g : A → B) (xs : List A) → map (λ x. f (g x)) xs ≡ map f (map g xs)

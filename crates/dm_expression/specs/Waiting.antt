@@ -55,6 +55,12 @@ abbrev pub AreAllExpressions : Table → List Core → Type 0
 AreAllExpressions types [] = Unit {0}
 AreAllExpressions types (core ∷ rest) = IsTrue (is_expression (view types core)) × AreAllExpressions types rest
 
+-- no statement is in the nodes that wait
+abbrev pub AreWaitingExpressions : {R : Type 0} → Table → List (Item R Waiting) → Type 0
+AreWaitingExpressions types [] = Unit {0}
+AreWaitingExpressions types (Done result weight ∷ rest) = AreWaitingExpressions types rest
+AreWaitingExpressions types (Waits one operands ∷ rest) = IsTrue (is_expression (view types one.node.now)) × AreWaitingExpressions types rest
+
 -- Of a tree these parts are still to be put, and its other nodes were put behind the place.
 pub record IsUnfolding {R : Type 0} (tree : Core) (parts : List Core) (before after : List (Item R Waiting) × List (Item R Waiting)) : Type 0 where
   pub in_front : after.0 ≡ before.0
@@ -63,6 +69,7 @@ pub record IsUnfolding {R : Type 0} (tree : Core) (parts : List Core) (before af
   pub waits : (types : Table) → (others : List postfix.Item) × (items_all (map (view types) parts) ++ others ≡ items (begun (view types tree))) × AreWaiting types put others
   pub known : (n : ℕ) → IsTrue (are_known n tree) → AreAllKnown n parts × AreWaitingKnown n put
   pub expressions : (types : Table) → AreAllExpressions types parts
+  pub nodes : (types : Table) → AreWaitingExpressions types put
 
 abbrev pub IsPut : {R : Type 0} → Core → List (Item R Waiting) × List (Item R Waiting) → List (Item R Waiting) × List (Item R Waiting) → Type 0
 IsPut tree before after = IsUnfolding tree [] before after

@@ -21,8 +21,8 @@ ghost use Rattle.dm_row.specs.declared.item.Item.TheVariants.{Done, Waits};
 ghost use Rattle.dm_expression.specs.declared.results.Taken.{Taken};
 ghost use Rattle.dm_expression.specs.declared.waiting.Waiting.{Waiting};
 ghost use Rattle.dm_expression.specs.Given.{lock_list, with_lock, without};
-ghost use Rattle.dm_expression.specs.Standing.{Stands};
-ghost use Rattle.dm_expression.specs.Left.{hole_left, operands_left, own_locks};
+ghost use Rattle.dm_expression.specs.Standing.{Lacks, Stands};
+ghost use Rattle.dm_expression.specs.Left.{first_locks, hole_left, last_locks, operands_left, own_locks};
 ghost use Rattle.dm_expression.specs.Taken.{number_of, IsTaken};
 ghost use Rattle.dm_expression.specs.Waiting.{view_of_waiting, IsPut};
 
@@ -58,6 +58,21 @@ pub fn chosen_operands_stand_in_place<R, L>()
         → Stands see types old locks run → IsTaken choice old new all → (outer : Waiting) (inner : Core) (doing : Doing) (kind : CType) (place : Place) → open_parts doing ≡ every
         → view_of_waiting types outer ≡ node_of doing kind place (operand no_slots) → IsPut inner (new.0, Waits outer 1 ∷ new.1) last
         → Stands see types last (without (weight_in new.0) all.locks locks) (filled_in (hole_left see types locks new all) (going_on doing kind place (begun (view types inner)))) }
+{}
+
+/// Once the locks of the operands are released, it stands for the tree without the node.
+pub fn holes_stay_where_nodes_were_taken<R, L>()
+    ensures { (see : R → List L → Evaluated) (types : Table) (choice : ℕ) (old new : List (Item R Waiting) × List (Item R Waiting)) (locks : List L) (run : Run) (all : Taken R)
+        → Stands see types old locks run → IsTaken choice old new all
+        → (without (weight_in new.0) all.locks locks ≡ first_locks locks new ++ last_locks locks new all)
+        × Lacks see types new (first_locks locks new) (last_locks locks new all) (hole_left see types locks new all) }
+{}
+
+/// A result put into a tree without a node stands there, with its locks.
+pub fn results_fill_holes<R, L>()
+    ensures { (see : R → List L → Evaluated) (types : Table) (row : List (Item R Waiting) × List (Item R Waiting)) (first own last : List L) (hole : Hole) (value : R) (weight : ℕ)
+        → Lacks see types row first last hole → weight ≡ length own
+        → Stands see types (row.0 ++ Done value weight ∷ [], row.1) (first ++ (own ++ last)) (filled_in hole (done (see value own).kind (see value own).result (see value own).locks)) }
 {}
 
 /// A state in which an expression is under evaluation goes on with the move of the choice, or the last.

@@ -10,8 +10,8 @@ mod waiting;
 
 pub use expression::Expression;
 pub use laws::{
-    chosen_operands_stand_in_place, expressions_begin, moves_are_chosen, results_stand_in_place,
-    taken_nodes_move,
+    chosen_operands_stand_in_place, expressions_begin, holes_stay_where_nodes_were_taken,
+    moves_are_chosen, results_fill_holes, results_stand_in_place, taken_nodes_move,
 };
 pub use results::{Results, Taken};
 pub use trees::put;
