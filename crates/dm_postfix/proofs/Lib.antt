@@ -1,0 +1,6 @@
+pub mod ListLemmas
+pub mod MoveLemmas
+pub mod ReductionLemmas
+pub mod HoleLemmas
+pub mod StepLemmas
+pub mod BegunLemmas

@@ -1,0 +1,9 @@
+-- The items stay, and the place moves to the front.
+use Rattle.std.proofs.Common.{◌≡◌, ◌++◌, length}
+use Rattle.dm_row.proofs.row.Row.go_back_to.Given as goal
+
+abbrev pub invariant-loop-self : goal.invariant-loop-self
+invariant-loop-self g l = l.fn.self.0 ++ l.fn.self.1 ≡ l.self.0 ++ l.self.1
+
+abbrev pub decreases-loop-self : goal.decreases-loop-self
+decreases-loop-self g l = length l.self.0

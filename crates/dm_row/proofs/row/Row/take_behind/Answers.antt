@@ -1,0 +1,8 @@
+use Rattle.dm_row.proofs.SideLemmas.{popped-right, sides-right_popped}
+use Rattle.dm_row.proofs.row.Row.take_behind.Goals as goal
+
+pub invariant_of-self-2 : goal.invariant_of-self-2
+invariant_of-self-2 g c = popped-right c.self.inside.left.items c.self.inside.passed c.self.inside.right.items c.self.inside.ahead c.self.invariant _ _ c.in-Some.ensures.items
+
+pub returns : goal.returns
+returns g c = sides-right_popped c.self.inside.left.items c.self.inside.right.items c.args.self.now c.self.view_is _ _ c.in-Some.ensures.items
