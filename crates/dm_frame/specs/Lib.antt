@@ -1,0 +1,5 @@
+pub mod Tasks
+pub mod Frames
+pub mod Forms
+pub mod Entering
+pub mod Nexts

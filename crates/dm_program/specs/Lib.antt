@@ -1,0 +1,4 @@
+pub mod Functions
+pub mod Initials
+pub mod Statics
+pub mod Tables
