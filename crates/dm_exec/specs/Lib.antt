@@ -1,17 +1,2 @@
 pub mod Orders
-pub mod Integers
-pub mod Sooner
-pub mod Parts
-pub mod Paths
-pub mod Places
-pub mod Views
-pub mod Fields
-pub mod LaidOut
-pub mod Blocks
-pub mod Closed
-pub mod Kinds
-pub mod Moves
 pub mod Outcomes
-pub mod Truths
-pub mod Distances
-pub mod Named

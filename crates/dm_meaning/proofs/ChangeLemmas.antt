@@ -10,14 +10,14 @@ use Rattle.dm_type.specs.CTypes.{CType, void, integer, pointer, array, struct, f
 use Rattle.dm_tree.specs.declared.tree.Sign.{Sign}
 use Rattle.dm_tree.specs.declared.tree.Sign.TheVariants.{Not}
 use Rattle.dm_tree.specs.Trees.{Label, number, enumerator, literal, object, function, read, decay, convert, address, follow, member, unary, binary, store, update, count, sizeof_kind}
-use Rattle.dm_tree.specs.Evaluation.{unary_value}
+use Rattle.dm_tree.specs.Evaluation.{unary_value, is_right}
 use Rattle.dm_meaning.specs.declared.cause.Cause.{Cause}
 use Rattle.dm_meaning.specs.declared.cause.Cause.TheVariants.{Unset, Life, Const}
 use Rattle.dm_meaning.specs.Values.{Name, numbered, literal_of, elsewhere, part, part_value, At, Pointer, null, to, Value, integer_value, pointer_value, parts as compound, unset}
 use Rattle.dm_meaning.specs.Memory.{Memory, Block, look_up, look, lives, may_be_written, reached, written, contents_at, or_unset}
 use Rattle.dm_meaning.specs.Programs.{layout}
-use Rattle.dm_meaning.specs.Causes.{earliest, when, is_unset, is_fixed, is_null, target_of, absence_causes, access_causes, read_causes, store_causes, update_causes, use_causes, follow_causes, moved_pointer, moved_causes, pointer_distance, distance_causes, order_causes}
-use Rattle.dm_meaning.specs.Operations.{Result, of_value, designates, Operand, World, Scene, Did, gives, breaks, ends_with, decided, unless, plain, typed, or_null, or_zero, truth_in, pointer_minus, byte_at, equal_pointers, ordered, equated, update_at, count_at, faulted, on_one, on_two, on_value, on_set, ill, on_place, designated, object_named, read_at, followed, member_of, converted, convert_bare, Truth, holds, untold, truth_of, on_truth, signed, on_pointers, on_move, on_plus, pointer_plus, combined, store_at, Made, replace_at, operate}
+use Rattle.dm_meaning.specs.Causes.{earliest, when, is_unset, is_fixed, is_null, absence_causes, access_causes, read_causes, store_causes, update_causes, use_causes, follow_causes, moved_pointer, moved_causes, pointer_distance, distance_causes, order_causes}
+use Rattle.dm_meaning.specs.Operations.{Result, of_value, designates, Operand, World, Scene, Did, gives, breaks, ends_with, decided, provided, unless, plain, typed, is_of_kind, number_alone, or_null, or_zero, truth_in, pointer_minus, byte_at, equal_pointers, ordered, equated, update_at, count_at, faulted, on_one, on_two, on_value, on_set, ill, on_place, designated, object_named, read_at, followed, member_of, converted, convert_bare, Truth, holds, untold, truth_of, on_truth, signed, on_pointers, on_move, on_plus, pointer_plus, combined, store_at, Made, replace_at, operate, on_target, pointer_further}
 use Rattle.dm_meaning.specs.MoreObjects.{IsMade, IsMadeName}
 use Rattle.dm_meaning.proofs.ExtendLemmas.{nil_left, nil_right, when_false, access_absence}
 
@@ -65,6 +65,13 @@ module _ (scene : Scene) (world : World) (locks : List At) where
   faulted_changes : (r : Outcome ℤ Fault) (next : ℤ → Did) → ((z : ℤ) → DidChanges (next z)) → DidChanges (faulted r next)
   faulted_changes (Ok z) next h = h z
   faulted_changes (Err fault) next h = tt
+
+  provided_changes : (b : Bool) (did : Did) → DidChanges did → DidChanges (provided b did)
+  provided_changes true did h = h
+  provided_changes false did h = tt
+
+  number_changes : (kind : CType) (z : ℤ) → DidChanges (number_alone world kind z)
+  number_changes kind z = provided_changes (is_of_kind (typed kind z)) (plain world (typed kind z)) unchanged
 
   one_changes : (operands : List Operand) (next : Operand → Did) → ((a : Operand) → DidChanges (next a)) → DidChanges (on_one operands next)
   one_changes [] next h = tt
@@ -135,35 +142,41 @@ module _ (scene : Scene) (world : World) (locks : List At) where
 
   sign_changes : (kind : CType) (sign : Sign) (value : Value) → DidChanges (signed world kind sign value)
   sign_changes kind Not value = truth_changes (truth_of world.memory value) (λ b. plain world (truth_in kind (not b))) (λ b. unchanged)
-  sign_changes kind sign (integer_value other z) = faulted_changes (unary_value sign other z) (λ m. plain world (typed kind m)) (λ m. unchanged)
+  sign_changes kind sign (integer_value other z) = faulted_changes (unary_value sign other z) (number_alone world kind) (number_changes kind)
   sign_changes kind sign value = tt
 
   minus_changes : (kind target : CType) (a b : Pointer) → DidChanges (pointer_minus scene world kind target a b)
   minus_changes kind target a b =
-      unless_changes (distance_causes (layout scene.program) world.memory target a b) (plain world (typed kind (or_zero (pointer_distance (layout scene.program) world.memory target a b)))) unchanged
+      unless_changes (distance_causes (layout scene.program) world.memory target a b) (number_alone world kind (or_zero (pointer_distance (layout scene.program) world.memory target a b)))
+      (number_changes kind _)
 
   ordered_changes : (kind : CType) (op : Op) (a b : Pointer) → DidChanges (ordered scene world kind op a b)
   ordered_changes kind op a b =
-      unless_changes (order_causes world.memory a b) (faulted (operators.binary op Long (byte_at scene world a) (byte_at scene world b)) (λ z. plain world (typed kind z)))
-      (faulted_changes (operators.binary op Long (byte_at scene world a) (byte_at scene world b)) (λ z. plain world (typed kind z)) (λ z. unchanged))
+      unless_changes (order_causes world.memory a b) (faulted (operators.binary op Long (byte_at scene world a) (byte_at scene world b)) (number_alone world kind))
+      (faulted_changes (operators.binary op Long (byte_at scene world a) (byte_at scene world b)) (number_alone world kind) (number_changes kind))
 
   equated_changes : (kind : CType) (sense : Bool → Bool) (a b : Pointer) → DidChanges (equated scene world kind sense a b)
   equated_changes kind sense a b =
       unless_changes (use_causes world.memory a ++ use_causes world.memory b) (plain world (truth_in kind (sense (equal_pointers scene world a b)))) unchanged
 
-  pointers_change : (kind target : CType) (op : Op) (a b : Pointer) → DidChanges (on_pointers scene world kind target op a b)
-  pointers_change kind target Sub a b = minus_changes kind target a b
-  pointers_change kind target Less a b = ordered_changes kind Less a b
-  pointers_change kind target Greater a b = ordered_changes kind Greater a b
-  pointers_change kind target LessEq a b = ordered_changes kind LessEq a b
-  pointers_change kind target GreaterEq a b = ordered_changes kind GreaterEq a b
-  pointers_change kind target Equal a b = equated_changes kind (λ truth. truth) a b
-  pointers_change kind target NotEqual a b = equated_changes kind not a b
-  pointers_change kind target op a b = tt
+  target_changes : (kind : CType) (next : CType → Did) → ((target : CType) → DidChanges (next target)) → DidChanges (on_target kind next)
+  target_changes (pointer target) next h = h target
+  target_changes kind next h = tt
+
+  pointers_change : (kind left : CType) (op : Op) (a b : Pointer) → DidChanges (on_pointers scene world kind left op a b)
+  pointers_change kind left Sub a b = target_changes left _ (λ target. minus_changes kind target a b)
+  pointers_change kind left Less a b = ordered_changes kind Less a b
+  pointers_change kind left Greater a b = ordered_changes kind Greater a b
+  pointers_change kind left LessEq a b = ordered_changes kind LessEq a b
+  pointers_change kind left GreaterEq a b = ordered_changes kind GreaterEq a b
+  pointers_change kind left Equal a b = equated_changes kind (λ truth. truth) a b
+  pointers_change kind left NotEqual a b = equated_changes kind not a b
+  pointers_change kind left op a b = tt
 
   plus_changes : (kind : CType) (p : Pointer) (m : ℤ) → DidChanges (pointer_plus scene world kind p m)
   plus_changes kind p m =
-      unless_changes (moved_causes (layout scene.program) world.memory (target_of kind) p m) (plain world (pointer_value (or_null (moved_pointer (layout scene.program) world.memory (target_of kind) p m)))) unchanged
+      target_changes kind (λ target. pointer_further scene world target p m)
+      (λ target. unless_changes (moved_causes (layout scene.program) world.memory target p m) (plain world (pointer_value (or_null (moved_pointer (layout scene.program) world.memory target p m)))) unchanged)
 
   move_changes : (op : Op) (m : ℤ) (next : ℤ → Did) → ((z : ℤ) → DidChanges (next z)) → DidChanges (on_move op m next)
   move_changes Add m next h = h m
@@ -175,10 +188,10 @@ module _ (scene : Scene) (world : World) (locks : List At) where
   on_plus_changes op did h = tt
 
   combined_changes : (kind left : CType) (op : Op) (a b : Value) → DidChanges (combined scene world kind left op a b)
-  combined_changes kind left op (integer_value j x) (integer_value k y) = faulted_changes (operators.binary op j x y) (λ z. plain world (typed kind z)) (λ z. unchanged)
+  combined_changes kind left op (integer_value j x) (integer_value k y) = provided_changes (is_right op j y) _ (faulted_changes (operators.binary op j x y) (number_alone world kind) (number_changes kind))
   combined_changes kind left op (pointer_value p) (integer_value k y) = move_changes op y (pointer_plus scene world kind p) (plus_changes kind p)
   combined_changes kind left op (integer_value j x) (pointer_value q) = on_plus_changes op (pointer_plus scene world kind q x) (plus_changes kind q x)
-  combined_changes kind left op (pointer_value p) (pointer_value q) = pointers_change kind (target_of left) op p q
+  combined_changes kind left op (pointer_value p) (pointer_value q) = pointers_change kind left op p q
   combined_changes kind left op (integer_value j x) (compound all) = tt
   combined_changes kind left op (integer_value j x) unset = tt
   combined_changes kind left op (pointer_value p) (compound all) = tt
@@ -206,8 +219,8 @@ module _ (scene : Scene) (world : World) (locks : List At) where
 
   -- The step of a node changes one object at most, which has been made.
   pub operate_changes : (label : Label) (kind : CType) (operands : List Operand) → DidChanges (operate scene world locks label kind operands)
-  operate_changes (number z) kind operands = unchanged
-  operate_changes (enumerator d) kind operands = unchanged
+  operate_changes (number z) kind operands = number_changes kind z
+  operate_changes (enumerator d) kind operands = number_changes kind _
   operate_changes (literal bytes unit) kind operands = unchanged
   operate_changes (object d) kind operands = designated_changes (object_named scene.objects d)
   operate_changes (function d) kind operands = unchanged
@@ -229,5 +242,5 @@ module _ (scene : Scene) (world : World) (locks : List At) where
       (λ a b. place_changes a.result (λ at. on_value b.result (update_at scene world locks kind op works at)) (λ at. value_changes b.result (update_at scene world locks kind op works at) (λ v. replace_changes kind at _ _)))
   operate_changes (count plus before) kind operands =
       one_changes operands (λ a. on_place a.result (count_at scene world locks kind plus before)) (λ a. place_changes a.result (count_at scene world locks kind plus before) (λ at. replace_changes kind at _ _))
-  operate_changes (sizeof_kind type) kind operands = unchanged
+  operate_changes (sizeof_kind type) kind operands = number_changes kind _
   operate_changes label kind operands = tt

@@ -10,7 +10,7 @@ use Rattle.dm_type.specs.CTypes.{CType, void, integer, pointer, array, struct, f
 use Rattle.dm_tree.specs.declared.tree.Sign.{Sign}
 use Rattle.dm_tree.specs.declared.tree.Sign.TheVariants.{Plus, Minus, Complement, Not}
 use Rattle.dm_tree.specs.Trees.{Label, number, enumerator, literal, object, function, read, decay, convert, address, follow, member, unary, binary, store, update, count, sizeof_kind}
-use Rattle.dm_tree.specs.Evaluation.{is_true, unary_value}
+use Rattle.dm_tree.specs.Evaluation.{is_true, unary_value, is_right}
 use Rattle.dm_meaning.specs.declared.cause.Cause.{Cause}
 use Rattle.dm_meaning.specs.declared.cause.Cause.TheVariants.{Conflict, Null, Bounds, Pointer as Order, Life, Unset, OtherType, Const}
 use Rattle.dm_meaning.specs.Among.{IsAmong}
@@ -18,8 +18,8 @@ use Rattle.dm_meaning.specs.Values.{Name, numbered, literal_of, elsewhere, part,
 use Rattle.dm_meaning.specs.Objects.{Layout}
 use Rattle.dm_meaning.specs.Memory.{Memory, Block, look_up, look, changed_block, written, reached_in, value_in, or_unset, contents_at, lives, may_be_written}
 use Rattle.dm_meaning.specs.Programs.{layout}
-use Rattle.dm_meaning.specs.Causes.{earliest, when, is_outside, is_other, is_fixed, is_unset, is_unset_object, absence_causes, access_causes, read_causes, store_causes, update_causes, is_null, use_causes, follow_causes, target_of, path_moved, pointer_along, moved_pointer, moved_causes, distance_in, pointer_distance, distance_causes, in_one_object, order_causes}
-use Rattle.dm_meaning.specs.Operations.{Result, of_value, designates, Operand, World, Scene, Did, gives, unless, plain, typed, faulted, on_one, on_two, on_value, on_set, ill, on_place, object_named, designated, read_at, followed, member_of, truth_in, converted, convert_bare, told, truth_of, on_truth, signed, or_null, pointer_plus, or_zero, pointer_minus, byte_in_block, byte_at, equal_pointers, ordered, equated, on_pointers, on_move, on_plus, combined, store_at, Made, made_pointer, updated, counted, move_of, replace_at, operate}
+use Rattle.dm_meaning.specs.Causes.{earliest, when, is_outside, is_other, is_fixed, is_unset, is_unset_object, absence_causes, access_causes, read_causes, store_causes, update_causes, is_null, use_causes, follow_causes, path_moved, pointer_along, moved_pointer, moved_causes, distance_in, pointer_distance, distance_causes, in_one_object, order_causes}
+use Rattle.dm_meaning.specs.Operations.{Result, of_value, designates, Operand, World, Scene, Did, gives, unless, plain, typed, faulted, on_one, on_two, on_value, on_set, ill, on_place, object_named, designated, read_at, followed, member_of, truth_in, converted, convert_bare, told, truth_of, on_truth, signed, or_null, pointer_plus, or_zero, pointer_minus, byte_in_block, byte_at, equal_pointers, ordered, equated, on_pointers, on_move, on_plus, combined, store_at, Made, made_pointer, updated, counted, move_of, replace_at, operate, provided, is_of_kind, number_alone, on_target, pointer_further}
 use Rattle.dm_meaning.proofs.OptionLemmas.{mapped_some}
 use Rattle.dm_meaning.specs.Extending.{HasAll, Extends, AreAmong, SameUnlessUndefined}
 
@@ -206,6 +206,13 @@ module _ (scene : Scene) (world more : World) (extends : Extends more world) (lo
   plain_same : (value : Value) → SameUnlessUndefined (plain world value) (plain more value)
   plain_same value = (extends, refl, refl)
 
+  provided_same : (b : Bool) (did other : Did) → SameUnlessUndefined did other → SameUnlessUndefined (provided b did) (provided b other)
+  provided_same true did other h = h
+  provided_same false did other h = tt
+
+  number_same : (kind : CType) (z : ℤ) → SameUnlessUndefined (number_alone world kind z) (number_alone more kind z)
+  number_same kind z = provided_same (is_of_kind (typed kind z)) (plain world (typed kind z)) (plain more (typed kind z)) (plain_same (typed kind z))
+
   gives_same : (result : Result) (new : List At) → SameUnlessUndefined (gives world result new) (gives more result new)
   gives_same result new = (extends, refl, refl)
 
@@ -281,9 +288,9 @@ module _ (scene : Scene) (world more : World) (extends : Extends more world) (lo
 
   signed_same : (kind : CType) (sign : Sign) (value : Value) → SameUnlessUndefined (signed world kind sign value) (signed more kind sign value)
   signed_same kind Not value = truth_same value (λ b. plain world (truth_in kind (not b))) (λ b. plain more (truth_in kind (not b))) (λ b. plain_same (truth_in kind (not b)))
-  signed_same kind Plus (integer_value other z) = faulted_same (unary_value Plus other z) (λ n. plain world (typed kind n)) (λ n. plain more (typed kind n)) (λ n. plain_same (typed kind n))
-  signed_same kind Minus (integer_value other z) = faulted_same (unary_value Minus other z) (λ n. plain world (typed kind n)) (λ n. plain more (typed kind n)) (λ n. plain_same (typed kind n))
-  signed_same kind Complement (integer_value other z) = faulted_same (unary_value Complement other z) (λ n. plain world (typed kind n)) (λ n. plain more (typed kind n)) (λ n. plain_same (typed kind n))
+  signed_same kind Plus (integer_value other z) = faulted_same (unary_value Plus other z) (number_alone world kind) (number_alone more kind) (number_same kind)
+  signed_same kind Minus (integer_value other z) = faulted_same (unary_value Minus other z) (number_alone world kind) (number_alone more kind) (number_same kind)
+  signed_same kind Complement (integer_value other z) = faulted_same (unary_value Complement other z) (number_alone world kind) (number_alone more kind) (number_same kind)
   signed_same kind Plus (pointer_value p) = tt
   signed_same kind Minus (pointer_value p) = tt
   signed_same kind Complement (pointer_value p) = tt
@@ -313,12 +320,19 @@ module _ (scene : Scene) (world more : World) (extends : Extends more world) (lo
         same,
       )
 
-  plus_same : (kind : CType) (p : Pointer) (n : ℤ) → SameUnlessUndefined (pointer_plus scene world kind p n) (pointer_plus scene more kind p n)
-  plus_same kind p n =
-      unless_same (moved_causes (layout scene.program) world.memory (target_of kind) p n) (moved_causes (layout scene.program) more.memory (target_of kind) p n)
-      (plain world (pointer_value (or_null (moved_pointer (layout scene.program) world.memory (target_of kind) p n)))) (plain more (pointer_value (or_null (moved_pointer (layout scene.program) more.memory (target_of kind) p n)))) (λ e.
-      let same = moved_causes_same (target_of kind) p n e in
+  further_same : (target : CType) (p : Pointer) (n : ℤ) → SameUnlessUndefined (pointer_further scene world target p n) (pointer_further scene more target p n)
+  further_same target p n =
+      unless_same (moved_causes (layout scene.program) world.memory target p n) (moved_causes (layout scene.program) more.memory target p n)
+      (plain world (pointer_value (or_null (moved_pointer (layout scene.program) world.memory target p n)))) (plain more (pointer_value (or_null (moved_pointer (layout scene.program) more.memory target p n)))) (λ e.
+      let same = moved_causes_same target p n e in
       (same.0, plain_equal _ _ (sym (ap (λ o. pointer_value (or_null o)) same.1))))
+
+  target_same : (kind : CType) (next other : CType → Did) → ((target : CType) → SameUnlessUndefined (next target) (other target)) → SameUnlessUndefined (on_target kind next) (on_target kind other)
+  target_same (pointer target) next other h = h target
+  target_same kind next other h = tt
+
+  plus_same : (kind : CType) (p : Pointer) (n : ℤ) → SameUnlessUndefined (pointer_plus scene world kind p n) (pointer_plus scene more kind p n)
+  plus_same kind p n = target_same kind (λ target. pointer_further scene world target p n) (λ target. pointer_further scene more target p n) (λ target. further_same target p n)
 
   distance_same : (target : CType) (a b : Pointer) → use_causes world.memory a ≡ [] → pointer_distance (layout scene.program) more.memory target a b ≡ pointer_distance (layout scene.program) world.memory target a b
   distance_same target null b e = refl
@@ -328,7 +342,7 @@ module _ (scene : Scene) (world more : World) (extends : Extends more world) (lo
   minus_same : (kind target : CType) (a b : Pointer) → SameUnlessUndefined (pointer_minus scene world kind target a b) (pointer_minus scene more kind target a b)
   minus_same kind target a b =
       unless_same (distance_causes (layout scene.program) world.memory target a b) (distance_causes (layout scene.program) more.memory target a b)
-      (plain world (typed kind (or_zero (pointer_distance (layout scene.program) world.memory target a b)))) (plain more (typed kind (or_zero (pointer_distance (layout scene.program) more.memory target a b)))) (λ e.
+      (number_alone world kind (or_zero (pointer_distance (layout scene.program) world.memory target a b))) (number_alone more kind (or_zero (pointer_distance (layout scene.program) more.memory target a b))) (λ e.
       let nulls = when Null (is_null a || is_null b) in
       let apart = when Order (is_none (pointer_distance (layout scene.program) world.memory target a b)) in
       let used_b = nil_right (nulls ++ apart ++ use_causes world.memory a) (use_causes world.memory b) e in
@@ -338,7 +352,7 @@ module _ (scene : Scene) (world more : World) (extends : Extends more world) (lo
             ∙ ap (λ u. when Null (is_null a || is_null b) ++ when Order (is_none (pointer_distance (layout scene.program) world.memory target a b)) ++ u ++ use_causes more.memory b) (use_same a used_a ∙ sym used_a)
             ∙ ap (λ u. when Null (is_null a || is_null b) ++ when Order (is_none (pointer_distance (layout scene.program) world.memory target a b)) ++ use_causes world.memory a ++ u) (use_same b used_b ∙ sym used_b)
             ∙ e,
-        plain_equal _ _ (sym (ap (λ o. typed kind (or_zero o)) same)),
+        subst (λ o. SameUnlessUndefined (number_alone world kind (or_zero (pointer_distance (layout scene.program) world.memory target a b))) (number_alone more kind (or_zero o))) (sym same) (number_same kind _),
       ))
 
   byte_same : (p : Pointer) → use_causes world.memory p ≡ [] → byte_at scene more p ≡ byte_at scene world p
@@ -348,17 +362,17 @@ module _ (scene : Scene) (world more : World) (extends : Extends more world) (lo
   ordered_same : (kind : CType) (op : Op) (a b : Pointer) → SameUnlessUndefined (ordered scene world kind op a b) (ordered scene more kind op a b)
   ordered_same kind op a b =
       unless_same (order_causes world.memory a b) (order_causes more.memory a b)
-      (faulted (operators.binary op Long (byte_at scene world a) (byte_at scene world b)) (λ z. plain world (typed kind z)))
-      (faulted (operators.binary op Long (byte_at scene more a) (byte_at scene more b)) (λ z. plain more (typed kind z))) (λ e.
+      (faulted (operators.binary op Long (byte_at scene world a) (byte_at scene world b)) (number_alone world kind))
+      (faulted (operators.binary op Long (byte_at scene more a) (byte_at scene more b)) (number_alone more kind)) (λ e.
       let first = when Order (not (in_one_object a b)) in
       let used_b = nil_right (first ++ use_causes world.memory a) (use_causes world.memory b) e in
       let used_a = nil_right first (use_causes world.memory a) (nil_left (first ++ use_causes world.memory a) (use_causes world.memory b) e) in (
         ap (λ u. when Order (not (in_one_object a b)) ++ u ++ use_causes more.memory b) (use_same a used_a ∙ sym used_a)
             ∙ ap (λ u. when Order (not (in_one_object a b)) ++ use_causes world.memory a ++ u) (use_same b used_b ∙ sym used_b)
             ∙ e,
-        subst (λ r. SameUnlessUndefined (faulted (operators.binary op Long (byte_at scene world a) (byte_at scene world b)) (λ z. plain world (typed kind z))) (faulted r (λ z. plain more (typed kind z))))
+        subst (λ r. SameUnlessUndefined (faulted (operators.binary op Long (byte_at scene world a) (byte_at scene world b)) (number_alone world kind)) (faulted r (number_alone more kind)))
             (sym (ap (λ x. operators.binary op Long x (byte_at scene more b)) (byte_same a used_a) ∙ ap (λ y. operators.binary op Long (byte_at scene world a) y) (byte_same b used_b)))
-            (faulted_same (operators.binary op Long (byte_at scene world a) (byte_at scene world b)) (λ z. plain world (typed kind z)) (λ z. plain more (typed kind z)) (λ z. plain_same (typed kind z))),
+            (faulted_same (operators.binary op Long (byte_at scene world a) (byte_at scene world b)) (number_alone world kind) (number_alone more kind) (number_same kind)),
       ))
 
   equal_same : (a b : Pointer) → use_causes world.memory a ≡ [] → use_causes world.memory b ≡ [] → equal_pointers scene more a b ≡ equal_pointers scene world a b
@@ -379,23 +393,23 @@ module _ (scene : Scene) (world more : World) (extends : Extends more world) (lo
         plain_equal _ _ (sym (ap (λ b'. truth_in kind (sense b')) (equal_same a b used_a used_b))),
       ))
 
-  pointers_same : (kind target : CType) (op : Op) (a b : Pointer) → SameUnlessUndefined (on_pointers scene world kind target op a b) (on_pointers scene more kind target op a b)
-  pointers_same kind target Sub a b = minus_same kind target a b
-  pointers_same kind target Less a b = ordered_same kind Less a b
-  pointers_same kind target Greater a b = ordered_same kind Greater a b
-  pointers_same kind target LessEq a b = ordered_same kind LessEq a b
-  pointers_same kind target GreaterEq a b = ordered_same kind GreaterEq a b
-  pointers_same kind target Equal a b = equated_same kind (λ truth. truth) a b
-  pointers_same kind target NotEqual a b = equated_same kind not a b
-  pointers_same kind target Add a b = tt
-  pointers_same kind target Mul a b = tt
-  pointers_same kind target Div a b = tt
-  pointers_same kind target Rem a b = tt
-  pointers_same kind target Shl a b = tt
-  pointers_same kind target Shr a b = tt
-  pointers_same kind target And a b = tt
-  pointers_same kind target Xor a b = tt
-  pointers_same kind target Or a b = tt
+  pointers_same : (kind left : CType) (op : Op) (a b : Pointer) → SameUnlessUndefined (on_pointers scene world kind left op a b) (on_pointers scene more kind left op a b)
+  pointers_same kind left Sub a b = target_same left _ _ (λ target. minus_same kind target a b)
+  pointers_same kind left Less a b = ordered_same kind Less a b
+  pointers_same kind left Greater a b = ordered_same kind Greater a b
+  pointers_same kind left LessEq a b = ordered_same kind LessEq a b
+  pointers_same kind left GreaterEq a b = ordered_same kind GreaterEq a b
+  pointers_same kind left Equal a b = equated_same kind (λ truth. truth) a b
+  pointers_same kind left NotEqual a b = equated_same kind not a b
+  pointers_same kind left Add a b = tt
+  pointers_same kind left Mul a b = tt
+  pointers_same kind left Div a b = tt
+  pointers_same kind left Rem a b = tt
+  pointers_same kind left Shl a b = tt
+  pointers_same kind left Shr a b = tt
+  pointers_same kind left And a b = tt
+  pointers_same kind left Xor a b = tt
+  pointers_same kind left Or a b = tt
 
   move_same : (op : Op) (n : ℤ) (next other : ℤ → Did) → ((z : ℤ) → SameUnlessUndefined (next z) (other z)) → SameUnlessUndefined (on_move op n next) (on_move op n other)
   move_same Add n next other h = h n
@@ -407,10 +421,10 @@ module _ (scene : Scene) (world more : World) (extends : Extends more world) (lo
   on_plus_same op did other h = tt
 
   combined_same : (kind left : CType) (op : Op) (a b : Value) → SameUnlessUndefined (combined scene world kind left op a b) (combined scene more kind left op a b)
-  combined_same kind left op (integer_value j m) (integer_value k n) = faulted_same (operators.binary op j m n) (λ z. plain world (typed kind z)) (λ z. plain more (typed kind z)) (λ z. plain_same (typed kind z))
+  combined_same kind left op (integer_value j m) (integer_value k n) = provided_same (is_right op j n) _ _ (faulted_same (operators.binary op j m n) (number_alone world kind) (number_alone more kind) (number_same kind))
   combined_same kind left op (pointer_value p) (integer_value k n) = move_same op n (pointer_plus scene world kind p) (pointer_plus scene more kind p) (plus_same kind p)
   combined_same kind left op (integer_value j m) (pointer_value q) = on_plus_same op (pointer_plus scene world kind q m) (pointer_plus scene more kind q m) (plus_same kind q m)
-  combined_same kind left op (pointer_value p) (pointer_value q) = pointers_same kind (target_of left) op p q
+  combined_same kind left op (pointer_value p) (pointer_value q) = pointers_same kind left op p q
   combined_same kind left op (integer_value j m) (compound all) = tt
   combined_same kind left op (integer_value j m) unset = tt
   combined_same kind left op (pointer_value p) (compound all) = tt
@@ -437,9 +451,10 @@ module _ (scene : Scene) (world more : World) (extends : Extends more world) (lo
   SameMade made other = made.causes ≡ [] → (other.causes ≡ []) × (made.value ≡ other.value)
 
   made_pointer_same : (kind : CType) (p : Pointer) (n : ℤ) → SameMade (made_pointer scene world kind p n) (made_pointer scene more kind p n)
-  made_pointer_same kind p n e =
-      let same = moved_causes_same (target_of kind) p n e in
+  made_pointer_same (pointer target) p n e =
+      let same = moved_causes_same target p n e in
       (same.0, sym (ap (λ o. pointer_value (or_null o)) same.1))
+  made_pointer_same kind p n e = (e, refl)
 
   updated_same : (kind : CType) (op : Op) (works : CType) (a b : Value) → SameMade (updated scene world kind op works a b) (updated scene more kind op works a b)
   updated_same kind op works (integer_value k m) (integer_value j n) = λ e. (e, refl)
@@ -498,8 +513,8 @@ module _ (scene : Scene) (world more : World) (extends : Extends more world) (lo
 
   -- The step of a node whose operands are evaluated is the same in both worlds, unless it is undefined in the smaller one.
   pub operate_same : (label : Label) (kind : CType) (operands : List Operand) → SameUnlessUndefined (operate scene world locks label kind operands) (operate scene more fewer label kind operands)
-  operate_same (number z) kind operands = plain_same _
-  operate_same (enumerator d) kind operands = plain_same _
+  operate_same (number z) kind operands = number_same kind z
+  operate_same (enumerator d) kind operands = number_same kind _
   operate_same (literal bytes unit) kind operands = gives_same _ _
   operate_same (object d) kind operands = designated_same (object_named scene.objects d)
   operate_same (function d) kind operands = plain_same _
@@ -518,5 +533,5 @@ module _ (scene : Scene) (world more : World) (extends : Extends more world) (lo
   operate_same (count plus before) kind operands =
       one_same operands _ _ (λ a. place_same a.result _ _ (λ at.
       replace_same kind at (λ w c. counted scene w kind plus c) (λ c. counted_same kind plus c) (λ made old. if before then made else old)))
-  operate_same (sizeof_kind type) kind operands = plain_same _
+  operate_same (sizeof_kind type) kind operands = number_same kind _
   operate_same label kind operands = tt

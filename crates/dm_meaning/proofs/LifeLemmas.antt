@@ -12,7 +12,7 @@ use Rattle.dm_tree.specs.declared.tree.Sign.{Sign}
 use Rattle.dm_tree.specs.declared.tree.Sign.TheVariants.{Not}
 use Rattle.dm_tree.specs.Trees.{Label, number, enumerator, literal, object, function, read, decay, convert, address, follow, member, unary, binary, both, either, choose, comma, call, store, update, count, sizeof_tree, sizeof_kind, block as block_form, for_loop, full, if_statement, switch, while_loop, do_loop, break, continue, return, Tree, node, listed, parts_of, Initialiser, one_expression, in_braces}
 use Rattle.dm_tree.specs.Units.{Declaration}
-use Rattle.dm_tree.specs.Evaluation.{unary_value}
+use Rattle.dm_tree.specs.Evaluation.{unary_value, is_right}
 use Rattle.dm_meaning.specs.declared.cause.Cause.{Cause}
 use Rattle.dm_meaning.specs.declared.cause.Cause.TheVariants.{Unset, NoValue}
 use Rattle.dm_meaning.specs.Among.{IsAmong}
@@ -21,8 +21,8 @@ use Rattle.dm_meaning.specs.Values.{Name, numbered, literal_of, elsewhere, part,
 use Rattle.dm_meaning.specs.Memory.{Memory, Block, look_up, changed_block, written, killed, contents_at, or_unset, IsFresh}
 use Rattle.dm_meaning.specs.Primitives.{Answer, answers, stops, refuses, Prim}
 use Rattle.dm_meaning.specs.Programs.{Program, Definition, layout, declaration_of, definition_of}
-use Rattle.dm_meaning.specs.Causes.{earliest, when, is_unset, is_null, target_of, read_causes, store_causes, update_causes, use_causes, follow_causes, moved_pointer, moved_causes, pointer_distance, distance_causes, order_causes}
-use Rattle.dm_meaning.specs.Operations.{Result, of_value, designates, Operand, World, Scene, Objects, Did, gives, breaks, ends_with, decided, unless, plain, typed, or_null, or_zero, truth_in, pointer_minus, byte_at, equal_pointers, ordered, equated, update_at, count_at, faulted, on_one, on_two, on_value, on_set, ill, on_place, designated, object_named, read_at, followed, member_of, converted, convert_bare, Truth, holds, untold, truth_of, on_truth, signed, on_pointers, on_move, on_plus, pointer_plus, combined, store_at, Made, replace_at, operate}
+use Rattle.dm_meaning.specs.Causes.{earliest, when, is_unset, is_null, read_causes, store_causes, update_causes, use_causes, follow_causes, moved_pointer, moved_causes, pointer_distance, distance_causes, order_causes}
+use Rattle.dm_meaning.specs.Operations.{Result, of_value, designates, Operand, World, Scene, Objects, Did, gives, breaks, ends_with, decided, unless, plain, typed, or_null, or_zero, truth_in, pointer_minus, byte_at, equal_pointers, ordered, equated, update_at, count_at, faulted, on_one, on_two, on_value, on_set, ill, on_place, designated, object_named, read_at, followed, member_of, converted, convert_bare, Truth, holds, untold, truth_of, on_truth, signed, on_pointers, on_move, on_plus, pointer_plus, combined, store_at, Made, replace_at, operate, provided, is_of_kind, number_alone, on_target, pointer_further}
 use Rattle.dm_meaning.specs.Running.{Doing, evaluates, gives_truth, gives_value, Run, done, to_do, Runs, no_runs, more_runs, locks_in, locks_in_all, Open, first_open, others_open, open_parts, operands_in, Hole, within, Holes, in_first, in_others}
 use Rattle.dm_meaning.specs.Expressions.{Move, goes, calls, fails, exits, lifted, as_move, by_truth, on_operand, value_of, answered, undefined_called, called, call_step, function_named, nth_run, form_step, node_step, own_or_inner, where_open, moves, moves_in}
 use Rattle.dm_meaning.specs.States.{Use, drops, chooses, selects, repeats, continues, returns, initialises, Task, begins, declares, initials, evaluates as evaluating, again, tests, ends, ends_switch, leaves, skips, hands_back, Caller, State}
@@ -158,6 +158,13 @@ module _ (n : ℕ) where
     keeps_unless_ill true did h = tt
     keeps_unless_ill false did h = h
 
+    provided_keeps : (b : Bool) (did : Did) → DidKeeps did → DidKeeps (provided b did)
+    provided_keeps true did h = h
+    provided_keeps false did h = tt
+
+    number_keeps : (kind : CType) (z : ℤ) → DidKeeps (number_alone world kind z)
+    number_keeps kind z = provided_keeps (is_of_kind (typed kind z)) (plain world (typed kind z)) alive
+
     set_keeps : (result : Result) (next : Value → Did) → ((v : Value) → DidKeeps (next v)) → DidKeeps (on_set result next)
     set_keeps (of_value v) next h = keeps_unless_ill (is_unset v) (next v) (h v)
     set_keeps (designates at) next h = tt
@@ -208,35 +215,41 @@ module _ (n : ℕ) where
 
     sign_keeps : (kind : CType) (sign : Sign) (value : Value) → DidKeeps (signed world kind sign value)
     sign_keeps kind Not value = truth_keeps (truth_of world.memory value) (λ b. plain world (truth_in kind (not b))) (λ b. alive)
-    sign_keeps kind sign (integer_value other z) = faulted_keeps (unary_value sign other z) (λ m. plain world (typed kind m)) (λ m. alive)
+    sign_keeps kind sign (integer_value other z) = faulted_keeps (unary_value sign other z) (number_alone world kind) (number_keeps kind)
     sign_keeps kind sign value = tt
 
     minus_keeps : (kind target : CType) (a b : Pointer) → DidKeeps (pointer_minus scene world kind target a b)
     minus_keeps kind target a b =
-        unless_keeps (distance_causes (layout scene.program) world.memory target a b) (plain world (typed kind (or_zero (pointer_distance (layout scene.program) world.memory target a b)))) alive
+        unless_keeps (distance_causes (layout scene.program) world.memory target a b) (number_alone world kind (or_zero (pointer_distance (layout scene.program) world.memory target a b)))
+        (number_keeps kind _)
 
     ordered_keeps : (kind : CType) (op : Op) (a b : Pointer) → DidKeeps (ordered scene world kind op a b)
     ordered_keeps kind op a b =
-        unless_keeps (order_causes world.memory a b) (faulted (operators.binary op Long (byte_at scene world a) (byte_at scene world b)) (λ z. plain world (typed kind z)))
-        (faulted_keeps (operators.binary op Long (byte_at scene world a) (byte_at scene world b)) (λ z. plain world (typed kind z)) (λ z. alive))
+        unless_keeps (order_causes world.memory a b) (faulted (operators.binary op Long (byte_at scene world a) (byte_at scene world b)) (number_alone world kind))
+        (faulted_keeps (operators.binary op Long (byte_at scene world a) (byte_at scene world b)) (number_alone world kind) (number_keeps kind))
 
     equated_keeps : (kind : CType) (sense : Bool → Bool) (a b : Pointer) → DidKeeps (equated scene world kind sense a b)
     equated_keeps kind sense a b =
         unless_keeps (use_causes world.memory a ++ use_causes world.memory b) (plain world (truth_in kind (sense (equal_pointers scene world a b)))) alive
 
-    pointers_keep : (kind target : CType) (op : Op) (a b : Pointer) → DidKeeps (on_pointers scene world kind target op a b)
-    pointers_keep kind target Sub a b = minus_keeps kind target a b
-    pointers_keep kind target Less a b = ordered_keeps kind Less a b
-    pointers_keep kind target Greater a b = ordered_keeps kind Greater a b
-    pointers_keep kind target LessEq a b = ordered_keeps kind LessEq a b
-    pointers_keep kind target GreaterEq a b = ordered_keeps kind GreaterEq a b
-    pointers_keep kind target Equal a b = equated_keeps kind (λ truth. truth) a b
-    pointers_keep kind target NotEqual a b = equated_keeps kind not a b
-    pointers_keep kind target op a b = tt
+    target_keeps : (kind : CType) (next : CType → Did) → ((target : CType) → DidKeeps (next target)) → DidKeeps (on_target kind next)
+    target_keeps (pointer target) next h = h target
+    target_keeps kind next h = tt
+
+    pointers_keep : (kind left : CType) (op : Op) (a b : Pointer) → DidKeeps (on_pointers scene world kind left op a b)
+    pointers_keep kind left Sub a b = target_keeps left _ (λ target. minus_keeps kind target a b)
+    pointers_keep kind left Less a b = ordered_keeps kind Less a b
+    pointers_keep kind left Greater a b = ordered_keeps kind Greater a b
+    pointers_keep kind left LessEq a b = ordered_keeps kind LessEq a b
+    pointers_keep kind left GreaterEq a b = ordered_keeps kind GreaterEq a b
+    pointers_keep kind left Equal a b = equated_keeps kind (λ truth. truth) a b
+    pointers_keep kind left NotEqual a b = equated_keeps kind not a b
+    pointers_keep kind left op a b = tt
 
     plus_keeps : (kind : CType) (p : Pointer) (m : ℤ) → DidKeeps (pointer_plus scene world kind p m)
     plus_keeps kind p m =
-        unless_keeps (moved_causes (layout scene.program) world.memory (target_of kind) p m) (plain world (pointer_value (or_null (moved_pointer (layout scene.program) world.memory (target_of kind) p m)))) alive
+        target_keeps kind (λ target. pointer_further scene world target p m)
+        (λ target. unless_keeps (moved_causes (layout scene.program) world.memory target p m) (plain world (pointer_value (or_null (moved_pointer (layout scene.program) world.memory target p m)))) alive)
 
     move_keeps : (op : Op) (m : ℤ) (next : ℤ → Did) → ((z : ℤ) → DidKeeps (next z)) → DidKeeps (on_move op m next)
     move_keeps Add m next h = h m
@@ -248,10 +261,10 @@ module _ (n : ℕ) where
     on_plus_keeps op did h = tt
 
     combined_keeps : (kind left : CType) (op : Op) (a b : Value) → DidKeeps (combined scene world kind left op a b)
-    combined_keeps kind left op (integer_value j x) (integer_value k y) = faulted_keeps (operators.binary op j x y) (λ z. plain world (typed kind z)) (λ z. alive)
+    combined_keeps kind left op (integer_value j x) (integer_value k y) = provided_keeps (is_right op j y) _ (faulted_keeps (operators.binary op j x y) (number_alone world kind) (number_keeps kind))
     combined_keeps kind left op (pointer_value p) (integer_value k y) = move_keeps op y (pointer_plus scene world kind p) (plus_keeps kind p)
     combined_keeps kind left op (integer_value j x) (pointer_value q) = on_plus_keeps op (pointer_plus scene world kind q x) (plus_keeps kind q x)
-    combined_keeps kind left op (pointer_value p) (pointer_value q) = pointers_keep kind (target_of left) op p q
+    combined_keeps kind left op (pointer_value p) (pointer_value q) = pointers_keep kind left op p q
     combined_keeps kind left op (integer_value j x) (compound all) = tt
     combined_keeps kind left op (integer_value j x) unset = tt
     combined_keeps kind left op (pointer_value p) (compound all) = tt
@@ -277,8 +290,8 @@ module _ (n : ℕ) where
     designated_keeps (Some m) = alive
 
     operate_keeps : (label : Label) (kind : CType) (operands : List Operand) → DidKeeps (operate scene world locks label kind operands)
-    operate_keeps (number z) kind operands = alive
-    operate_keeps (enumerator d) kind operands = alive
+    operate_keeps (number z) kind operands = number_keeps kind z
+    operate_keeps (enumerator d) kind operands = number_keeps kind _
     operate_keeps (literal bytes unit) kind operands = alive
     operate_keeps (object d) kind operands = designated_keeps (object_named scene.objects d)
     operate_keeps (function d) kind operands = alive
@@ -300,7 +313,7 @@ module _ (n : ℕ) where
         (λ a b. place_keeps a.result (λ at. on_value b.result (update_at scene world locks kind op works at)) (λ at. value_keeps b.result (update_at scene world locks kind op works at) (λ v. replace_keeps kind at _ _)))
     operate_keeps (count plus before) kind operands =
         one_keeps operands (λ a. on_place a.result (count_at scene world locks kind plus before)) (λ a. place_keeps a.result (count_at scene world locks kind plus before) (λ at. replace_keeps kind at _ _))
-    operate_keeps (sizeof_kind type) kind operands = alive
+    operate_keeps (sizeof_kind type) kind operands = number_keeps kind _
     operate_keeps label kind operands = tt
 
     -- ---- moves
@@ -355,7 +368,7 @@ module _ (n : ℕ) where
     form_keeps choose kind place members operands = on_operand_keeps place operands _ (λ a. by_truth_keeps place (truth_of world.memory (value_of a.result)) _)
     form_keeps comma kind place members operands = alive
     form_keeps call kind place members operands = call_keeps kind place (map (λ a. value_of a.result) operands) (function_named (nth_run 0 members))
-    form_keeps sizeof_tree kind place members operands = alive
+    form_keeps sizeof_tree kind place members operands = as_move_keeps kind place [] _ (number_keeps kind _)
     form_keeps label kind place members operands = as_move_keeps kind place (locks_in_all members) (operate scene world locks label kind operands) (operate_keeps label kind operands)
 
     node_keeps : (doing : Doing) (kind : CType) (place : Place) (members : Runs) (operands : List Operand) → MoveKeeps (node_step scene world locks doing kind place members operands)

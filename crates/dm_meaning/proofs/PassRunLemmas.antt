@@ -17,7 +17,7 @@ use Rattle.dm_meaning.specs.Memory.{Block, look_up, lives, reached_in, value_in,
 use Rattle.dm_meaning.specs.Primitives.{Answer, answers, stops, refuses, Prim}
 use Rattle.dm_meaning.specs.Programs.{Definition, layout, declaration_of, definition_in, definition_of}
 use Rattle.dm_meaning.specs.Causes.{when, is_unset, is_unset_object, is_outside, is_other, read_causes}
-use Rattle.dm_meaning.specs.Operations.{Result, of_value, designates, Operand, World, Objects, Scene, Did, gives, breaks, ends_with, unless, plain, typed, Truth, holds, untold, truth_of, enumerator_number, number_of_sort, enumerator_in, object_named, designated, whole, operate}
+use Rattle.dm_meaning.specs.Operations.{Result, of_value, designates, Operand, World, Objects, Scene, Did, gives, breaks, ends_with, unless, plain, Truth, holds, untold, truth_of, enumerator_number, number_of_sort, enumerator_in, object_named, designated, whole, operate, number_alone}
 use Rattle.dm_meaning.specs.Running.{Doing, evaluates, gives_truth, gives_value, Run, done, to_do, Runs, no_runs, more_runs, begun, all_begun, locks_in, locks_in_all, Open, every, first_open, others_open, open_parts, with_first, first_result, operands_in, Hole, here, within, Holes, in_first, in_others, filled_in, all_filled_in, IsOpen, AreOpen, hole_in, holes_in}
 use Rattle.dm_meaning.specs.Expressions.{Move, goes, calls, fails, exits, lifted, as_move, by_truth, on_operand, value_of, nth_run, both_chosen, either_chosen, function_in, function_named, answered, undefined_called, called, call_step, kind_of_run, form_step, node_step, own_or_inner, where_open, moves, moves_in}
 use Rattle.dm_meaning.specs.Replaced.{relabelled, Zipped, facts_of}
@@ -878,7 +878,7 @@ module _ (change : Called) (calling : IsCallingWithAll change) (mode : Mode) (ob
 
   operate_same : (label : Label) (kind : CType) (operands : List Operand) → may_stand change.old (is_inside mode) (evaluates label) ≡ true
       → operate new_scene world fewer (relabelled change.rename label) kind operands ≡ operate old_scene world fewer label kind operands
-  operate_same (enumerator d) kind operands stands = ap (λ z. gives world (of_value (typed kind z)) []) (same_enumerator d)
+  operate_same (enumerator d) kind operands stands = ap (number_alone world kind) (same_enumerator d)
   operate_same (object d) kind operands stands = ap (designated world) (same_objects d stands)
   operate_same label kind operands stands = refl
 
@@ -905,7 +905,10 @@ module _ (change : Called) (calling : IsCallingWithAll change) (mode : Mode) (ob
       (sym (same_part change calling mode (nth_run 0 parts) (nth_run 0 other_parts) (nth_agrees change mode 0 parts other_parts h)).1)
       (call_agrees kind place at (map (λ a. value_of a.result) operands) (function_named (nth_run 0 other_parts)))
   form_agrees sizeof_tree kind place at parts other_parts operands h stands =
-      (refl, (refl, ap (λ type. of_value (typed kind (pos ((layout change.old).size type)))) (same_part change calling mode (nth_run 0 parts) (nth_run 0 other_parts) (nth_agrees change mode 0 parts other_parts h)).0, λ lock k. k))
+      let own : CType → Did = λ type. number_alone world kind (pos ((layout change.old).size type)) in
+      let type = kind_of_run (nth_run 0 other_parts) in
+      subst (λ t. RunMoveAgrees change mode (as_move kind place [] (own t)) (as_move kind at [] (own type))) (sym (same_part change calling mode (nth_run 0 parts) (nth_run 0 other_parts) (nth_agrees change mode 0 parts other_parts h)).0)
+      (as_move_agrees change mode kind place at [] [] (own type) (λ lock k. k))
   form_agrees label kind place at parts other_parts operands h stands =
       subst (λ did. RunMoveAgrees change mode (as_move kind place (locks_in_all parts) did) (as_move kind at (locks_in_all other_parts) (operate old_scene world locks label kind operands)))
       (sym (operate_same label kind operands stands))

@@ -1,5 +1,5 @@
 -- Trees under evaluation in the two programs, and that each step of the new one is met in the old one: by the same step, or, at an
--- enumerator, by the evaluation of the constant expression.
+-- enumerator, by the evaluation of the constant expression, or the old one goes wrong there.
 use Rattle.std.specs.Prelude.{◌≡◌, refl, ◌⊎◌, ℕ, zero, suc, ◌==◌, Bool, true, false, IsTrue, List, [], ◌∷◌, ◌++◌, map, slice_get, Option, Some, None, option_map, ℤ, pos, if◌then◌else◌}
 use Rattle.std.proofs.Common.{arith, ap, sym, ◌∙◌, subst, inl, inr}
 use Rattle.dm_token.specs.declared.place.Place.{Place}
@@ -13,15 +13,15 @@ use Rattle.dm_meaning.specs.Among.{IsAmong}
 use Rattle.dm_meaning.specs.Values.{At, Value}
 use Rattle.dm_meaning.specs.Primitives.{Answer, answers, stops, refuses, Prim}
 use Rattle.dm_meaning.specs.Programs.{Definition, layout, declaration_of, definition_in, definition_of}
-use Rattle.dm_meaning.specs.Operations.{of_value, Operand, World, Objects, Scene, Did, gives, breaks, ends_with, typed, Truth, holds, untold, truth_of, enumerator_number, number_of_sort, enumerator_in, object_named, designated, operate}
+use Rattle.dm_meaning.specs.Operations.{of_value, Operand, World, Objects, Scene, Did, gives, breaks, ends_with, typed, Truth, holds, untold, truth_of, enumerator_number, number_of_sort, enumerator_in, object_named, designated, operate, number_alone, Result, provided, plain, is_of_kind}
 use Rattle.dm_meaning.specs.Running.{Doing, evaluates, gives_truth, gives_value, Run, done, to_do, Runs, no_runs, more_runs, begun, all_begun, locks_in, locks_in_all, Open, first_open, others_open, open_of, open_parts, first_result, operands_in, Hole, here, within, Holes, in_first, in_others, filled_in, all_filled_in, AreOpen}
 use Rattle.dm_meaning.specs.Expressions.{Move, goes, calls, fails, exits, lifted, as_move, by_truth, on_operand, value_of, nth_run, both_chosen, either_chosen, function_in, function_named, answered, undefined_called, called, call_step, kind_of_run, form_step, node_step, own_or_inner, where_open, moves, moves_in}
 use Rattle.dm_meaning.specs.Replaced.{Replaced, new_of, relabelled, Zipped, IsEnumerated, Agrees, AllAgree, facts_of, DefinitionAgrees, IsReplacement}
 use Rattle.dm_meaning.proofs.AmongLemmas.{among_right, among_either, among-map, among-map_from}
 use Rattle.dm_meaning.proofs.MoveLemmas.{inner_steps, open_steps}
 use Rattle.dm_meaning.proofs.OptionLemmas.{none_is_some}
-use Rattle.dm_meaning.proofs.QuietLemmas.{Quietly, quietly_inside}
-use Rattle.dm_meaning.proofs.ConstantLemmas.{no_locks, kind_begun, own_step, no_form, entry_number, constant_parts, constant_evaluates}
+use Rattle.dm_meaning.proofs.QuietLemmas.{Quietly, quietly_inside, Fails, fails_inside}
+use Rattle.dm_meaning.proofs.ConstantLemmas.{no_locks, kind_begun, own_step, no_form, entry_number, constant_parts, constant_evaluates, Comes}
 
 -- ---- how trees, and trees with a part left out, agree
 
@@ -96,6 +96,10 @@ lifted_agrees rename R S R' S' f g f' g' p q (exits status) (exits other) h = h
 lifted_agrees rename R S R' S' f g f' g' p q (exits status) (goes world u) h = absurd h
 lifted_agrees rename R S R' S' f g f' g' p q (exits status) (calls e others kind k) h = absurd h
 lifted_agrees rename R S R' S' f g f' g' p q (exits status) (fails cause place) h = absurd h
+
+-- a tree of which nothing is evaluated isn't done
+never_done : (tree : Tree) (kind : CType) (result : Result) (locks : List At) → begun tree ≡ done kind result locks → ⊥
+never_done (node label own spans parts) kind result locks e = cc
 
 -- ---- what renaming keeps
 
@@ -356,7 +360,7 @@ module _ (change : Replaced) (replacement : IsReplacement change) (objects : Obj
   same_enumerator d = enumerator_fact (declaration_of (new_of change) (change.rename d)) ∙ ap number_fact (replacement.told d) ∙ sym (enumerator_fact (declaration_of change.old d))
 
   operate_same : (label : Label) (kind : CType) (operands : List Operand) → operate new_scene world locks (relabelled change.rename label) kind operands ≡ operate old_scene world locks label kind operands
-  operate_same (enumerator d) kind operands = ap (λ z. gives world (of_value (typed kind z)) []) (same_enumerator d)
+  operate_same (enumerator d) kind operands = ap (number_alone world kind) (same_enumerator d)
   operate_same (object d) kind operands = ap (designated world) (object_renamed change.rename replacement.injective objects d)
   operate_same label kind operands = refl
 
@@ -383,7 +387,10 @@ module _ (change : Replaced) (replacement : IsReplacement change) (objects : Obj
       (sym (same_function change (nth_run 0 parts) (nth_run 0 others) (nth_agrees change 0 parts others h)))
       (call_agrees kind place at (map (λ a. value_of a.result) operands) (function_named (nth_run 0 others)))
   form_agrees sizeof_tree kind place at parts others operands h =
-      (refl, (refl, ap (λ type. of_value (typed kind (pos ((layout change.old).size type)))) (same_kind change (nth_run 0 parts) (nth_run 0 others) (nth_agrees change 0 parts others h)), refl))
+      let own : CType → Did = λ type. number_alone world kind (pos ((layout change.old).size type)) in
+      let type = kind_of_run (nth_run 0 others) in
+      subst (λ t. RunMoveAgrees change (as_move kind place [] (own t)) (as_move kind at [] (own type))) (sym (same_kind change (nth_run 0 parts) (nth_run 0 others) (nth_agrees change 0 parts others h)))
+      (as_move_agrees change kind place at [] [] (own type) refl)
   form_agrees label kind place at parts others operands h =
       subst (λ did. RunMoveAgrees change (as_move kind place (locks_in_all parts) did) (as_move kind at (locks_in_all others) (operate old_scene world locks label kind operands)))
       (sym (operate_same label kind operands))
@@ -400,17 +407,18 @@ module _ (change : Replaced) (replacement : IsReplacement change) (objects : Obj
 
   -- ---- all steps
 
-  -- a step of the new tree is met by a step of the old one, or by quiet ones
+  -- a step of the new tree is met by a step of the old one, or by quiet ones, or the old one's evaluation is undefined
   abbrev Matched : Run → Move Run Hole → Type 0
   Matched other m =
       ((n : Move Run Hole) × IsAmong n (moves old_scene world locks other) × RunMoveAgrees change m n)
-      ⊎ ((run : Run) × (m ≡ goes world run) × (n : ℕ) × (last : Run) × Quietly old_scene world (suc n) other last × RunAgrees change run last)
+      ⊎ (((run : Run) × (m ≡ goes world run) × (n : ℕ) × (last : Run) × Quietly old_scene world (suc n) other last × RunAgrees change run last) ⊎ Fails old_scene world other)
 
   abbrev MatchedIn : Open → Runs → Move Runs Holes → Type 0
   MatchedIn opens others m =
       ((n : Move Runs Holes) × IsAmong n (moves_in old_scene world locks opens others) × MoveAgrees change.rename (RunsAgree change) (HolesAgree change) m n)
-      ⊎ ((parts : Runs) × (m ≡ goes world parts) × (n : ℕ) × (holes : Holes) × AreOpen opens holes × (a b : Run) × (others ≡ all_filled_in holes a)
+      ⊎ (((parts : Runs) × (m ≡ goes world parts) × (n : ℕ) × (holes : Holes) × AreOpen opens holes × (a b : Run) × (others ≡ all_filled_in holes a)
       × Quietly old_scene world (suc n) a b × RunsAgree change parts (all_filled_in holes b))
+      ⊎ ((holes : Holes) × AreOpen opens holes × (a : Run) × (others ≡ all_filled_in holes a) × Fails old_scene world a))
 
   -- the step of a node whose operands are evaluated, or one of its operands
   by_operands : (doing : Doing) (kind : CType) (place at : Place) (parts others : Runs) → RunsAgree change parts others
@@ -440,8 +448,8 @@ module _ (change : Replaced) (replacement : IsReplacement change) (objects : Obj
                 (to_do (redone change.rename doing) kind place) (within (redone change.rename doing) kind place) (to_do doing kind at) (within doing kind at)
                 (λ t u r. inl (refl, refl, r)) (λ a b r. (refl, refl, r)) x n agrees),
           )
-      lifted_match x f (inr (run, g, n, holes, opened, a, b, here_it_is, quiet, agrees)) =
-          inr (
+      lifted_match x f (inr (inl (run, g, n, holes, opened, a, b, here_it_is, quiet, agrees))) =
+          inr (inl (
             to_do (redone change.rename doing) kind place run,
             f ∙ ap (lifted (to_do (redone change.rename doing) kind place) (within (redone change.rename doing) kind place)) g,
             n,
@@ -449,7 +457,9 @@ module _ (change : Replaced) (replacement : IsReplacement change) (objects : Obj
             subst (λ y. Quietly old_scene world (suc n) (to_do doing kind at y) (to_do doing kind at (all_filled_in holes b))) (sym here_it_is)
                 (quietly_inside old_scene world (within doing kind at holes) opened (suc n) a b quiet),
             inl (refl, refl, agrees),
-          )
+          ))
+      lifted_match x f (inr (inr (holes, opened, a, here_it_is, k))) =
+          inr (inr (subst (λ y. Fails old_scene world (to_do doing kind at y)) (sym here_it_is) (fails_inside old_scene world (within doing kind at holes) opened a k)))
 
   -- a node of the same form
   node_matched : (doing other : Doing) (kind other_kind : CType) (place at : Place) (parts others : Runs) → doing ≡ redone change.rename other → kind ≡ other_kind → RunsAgree change parts others
@@ -468,7 +478,7 @@ module _ (change : Replaced) (replacement : IsReplacement change) (objects : Obj
       (map (lifted (to_do (redone change.rename other) other_kind place) (within (redone change.rename other) other_kind place)) (moves_in new_scene world locks (open_parts other) parts))))
       (same_operands change parts others (open_parts other) h) opened)
 
-  -- an enumerator gives its value at once, and the old program evaluates the constant expression
+  -- an enumerator gives its value at once, and the old program evaluates the constant expression, or goes wrong
   enumerated_matched : (doing : Doing) (kind : CType) (place : Place) (parts : Runs) (other : Run) → IsEnumeratedRun change doing kind parts other
       → (m : Move Run Hole) → IsAmong m (moves new_scene world locks (to_do doing kind place parts)) → Matched other m
   enumerated_matched doing kind place parts other h m k =
@@ -480,29 +490,37 @@ module _ (change : Replaced) (replacement : IsReplacement change) (objects : Obj
       z : ℤ
       z = h.enumerated.value
 
-      result : Run
-      result = done kind (of_value (typed kind (enumerator_number (new_of change) h.enumerated.declared))) []
+      -- what the enumerator gives
+      own : ℤ → Move Run Hole
+      own y = as_move kind place [] (number_alone world kind y)
 
       number_is : enumerator_number (new_of change) h.enumerated.declared ≡ z
       number_is = entry_number (slice_get change.declared h.enumerated.declared) z h.enumerated.named
 
-      evaluation : (n : ℕ) × Quietly old_scene world (suc n) (begun h.tree) (done (kind_of h.tree) (of_value (typed (kind_of h.tree) z)) [])
-      evaluation = constant_evaluates change.old objects world h.tree h.enumerated.scene h.enumerated.typed z h.enumerated.constant
+      same_type : kind_of h.tree ≡ kind
+      same_type = h.enumerated.other_int ∙ sym h.enumerated.int
+
+      last : Run
+      last = done (kind_of h.tree) (of_value (typed (kind_of h.tree) z)) []
+
+      by_steps : (n : ℕ) → m ≡ own z → Quietly old_scene world n (begun h.tree) last → is_of_kind (typed (kind_of h.tree) z) ≡ true → Matched other m
+      by_steps zero e quiet has = absurd (never_done h.tree (kind_of h.tree) (of_value (typed (kind_of h.tree) z)) [] quiet)
+      by_steps (suc n) e quiet has =
+          inr (inl (
+            done kind (of_value (typed kind z)) [],
+            e ∙ ap (λ b. as_move kind place [] (provided b (plain world (typed kind z)))) (ap (λ t. is_of_kind (typed t z)) (sym same_type) ∙ has),
+            n,
+            last,
+            subst (λ x. Quietly old_scene world (suc n) x last) (sym h.untouched) quiet,
+            (sym same_type, ap (λ t. of_value (typed t z)) (sym same_type), refl),
+          ))
+
+      by_evaluation : m ≡ own z → Comes change.old objects world (begun h.tree) (kind_of h.tree) z → Matched other m
+      by_evaluation e (inl (n, quiet, has)) = by_steps n e quiet has
+      by_evaluation e (inr k) = inr (inr (subst (Fails old_scene world) (sym h.untouched) k))
 
       given : IsAmong m (moves new_scene world locks (to_do (evaluates (enumerator h.enumerated.declared)) kind place no_runs)) → Matched other m
-      given (inl e) =
-          inr (
-            result,
-            e,
-            evaluation.0,
-            done (kind_of h.tree) (of_value (typed (kind_of h.tree) z)) [],
-            subst (λ x. Quietly old_scene world (suc evaluation.0) x (done (kind_of h.tree) (of_value (typed (kind_of h.tree) z)) [])) (sym h.untouched) evaluation.1,
-            (
-              h.enumerated.int ∙ sym h.enumerated.other_int,
-              ap (λ n. of_value (typed kind n)) number_is ∙ ap (λ t. of_value (typed t z)) (h.enumerated.int ∙ sym h.enumerated.other_int),
-              refl,
-            ),
-          )
+      given (inl e) = by_evaluation (e ∙ ap own number_is) (constant_evaluates change.old objects world h.tree h.enumerated.scene h.enumerated.typed z h.enumerated.constant)
       given (inr e) = absurd e
 
   -- a step of the first operand, or of another one
@@ -531,8 +549,8 @@ module _ (change : Replaced) (replacement : IsReplacement change) (objects : Obj
                 (λ run. more_runs run rest) (λ hole. in_first hole rest) (λ run. more_runs run others) (λ hole. in_first hole others)
                 (λ t u r. (r, h.1)) (λ a b r. (r, h.1)) x n agrees),
           )
-      first_match opened x f (inr (run, g, n, last, quiet, agrees)) =
-          inr (
+      first_match opened x f (inr (inl (run, g, n, last, quiet, agrees))) =
+          inr (inl (
             more_runs run rest,
             f ∙ ap (lifted (λ r. more_runs r rest) (λ hole. in_first hole rest)) g,
             n,
@@ -543,7 +561,8 @@ module _ (change : Replaced) (replacement : IsReplacement change) (objects : Obj
             refl,
             quiet,
             (agrees, h.1),
-          )
+          ))
+      first_match opened x f (inr (inr k)) = inr (inr (in_first here others, (opened, tt), other, refl, k))
   first_or_rest first rest other others h opens m one more (inr k) =
       let from = among-map_from _ m _ k in
       rest_match from.0 from.2 (more from.0 from.1)
@@ -558,8 +577,8 @@ module _ (change : Replaced) (replacement : IsReplacement change) (objects : Obj
                 (more_runs first) (in_others first) (more_runs other) (in_others other)
                 (λ t u r. (h.0, r)) (λ a b r. (h.0, r)) x n agrees),
           )
-      rest_match x f (inr (run, g, n, holes, opened, a, b, e, quiet, agrees)) =
-          inr (
+      rest_match x f (inr (inl (run, g, n, holes, opened, a, b, e, quiet, agrees))) =
+          inr (inl (
             more_runs first run,
             f ∙ ap (lifted (more_runs first) (in_others first)) g,
             n,
@@ -570,7 +589,8 @@ module _ (change : Replaced) (replacement : IsReplacement change) (objects : Obj
             ap (more_runs other) e,
             quiet,
             (h.0, agrees),
-          )
+          ))
+      rest_match x f (inr (inr (holes, opened, a, e, k))) = inr (inr (in_others other holes, opened, a, ap (more_runs other) e, k))
 
   mutual
     pub run_matched : (run other : Run) → RunAgrees change run other → (m : Move Run Hole) → IsAmong m (moves new_scene world locks run) → Matched other m

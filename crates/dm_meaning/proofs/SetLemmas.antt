@@ -6,7 +6,7 @@ use Rattle.dm_int.specs.declared.Op.{Op}
 use Rattle.dm_int.specs.declared.Kind.{Kind}
 use Rattle.dm_int.specs.declared.Kind.TheVariants.{Long}
 use Rattle.dm_int.specs.Operators as operators
-use Rattle.dm_tree.specs.Evaluation.{unary_value, updated_value, counted_value}
+use Rattle.dm_tree.specs.Evaluation.{unary_value, updated_value, counted_value, is_right}
 use Rattle.dm_int.specs.declared.Op.TheVariants.{Add, Sub, Less, Greater, LessEq, GreaterEq, Equal, NotEqual}
 use Rattle.dm_type.specs.CTypes.{CType, void, integer, pointer, array, struct, function as function_type, const, bare, is_const}
 use Rattle.dm_tree.specs.declared.tree.Sign.{Sign}
@@ -19,8 +19,8 @@ use Rattle.dm_meaning.specs.Objects.{Layout, Field, Reached, object_of, outside,
 use Rattle.dm_meaning.specs.Memory.{Memory, Block, look_up, look, lives, reached, reached_in, literal_block, contents_at, written}
 use Rattle.dm_meaning.specs.Primitives.{Answer, answers, stops, refuses, put_character, get_character, text_at, most_in, written_line, put_line, end_program, Primitive, primitives, is_primitive, primitive_in, Prim}
 use Rattle.dm_meaning.specs.Programs.{layout}
-use Rattle.dm_meaning.specs.Causes.{when, is_null, store_causes, update_causes, is_unset, is_unset_object, is_outside, is_other, absence_causes, access_causes, read_causes, use_causes, order_causes}
-use Rattle.dm_meaning.specs.Operations.{Result, of_value, designates, Operand, World, Scene, Did, gives, breaks, ends_with, unless, faulted, on_one, on_two, on_value, on_set, ill, on_place, converted, store_at, made_number, kind_in, updated, counted, count_at, update_at, Truth, holds, untold, truth_of, on_truth, truth_in, typed_bare, typed, plain, read_at, part_of, byte_at, ordered, signed, pointer_plus, on_pointers, on_move, on_plus, combined, operate}
+use Rattle.dm_meaning.specs.Causes.{when, is_null, store_causes, update_causes, is_unset, is_unset_object, is_outside, is_other, absence_causes, access_causes, read_causes, use_causes, order_causes, distance_causes}
+use Rattle.dm_meaning.specs.Operations.{Result, of_value, designates, Operand, World, Scene, Did, gives, breaks, ends_with, provided, unless, number_alone, is_of_kind, faulted, on_one, on_two, on_value, on_set, ill, on_place, converted, store_at, made_number, kind_in, updated, counted, count_at, update_at, Truth, holds, untold, truth_of, on_truth, truth_in, made_right, typed_bare, typed, plain, read_at, part_of, byte_at, ordered, signed, pointer_plus, on_pointers, on_move, on_plus, combined, operate, on_target, pointer_further, made_pointer}
 use Rattle.dm_meaning.proofs.OptionLemmas.{none_is_some}
 use Rattle.dm_meaning.proofs.ExtendLemmas.{nil_left, nil_right, when_false}
 
@@ -136,6 +136,13 @@ unless_sets (cause ∷ causes) did h = tt
 unless_pointer : (causes : List Cause) (world : World) (p : Pointer) → DidSets (unless causes (gives world (of_value (pointer_value p)) []))
 unless_pointer causes world p = unless_sets causes (gives world (of_value (pointer_value p)) []) (λ e. pointer_result p)
 
+pub provided_sets : (b : Bool) (did : Did) → DidSets did → DidSets (provided b did)
+provided_sets true did h = h
+provided_sets false did h = tt
+
+pub number_sets : (world : World) (kind : CType) (z : ℤ) → DidSets (number_alone world kind z)
+number_sets world kind z = provided_sets (is_of_kind (typed kind z)) (plain world (typed kind z)) (typed_result kind z)
+
 unless_typed : (causes : List Cause) (world : World) (kind : CType) (z : ℤ) → DidSets (unless causes (gives world (of_value (typed kind z)) []))
 unless_typed causes world kind z = unless_sets causes (gives world (of_value (typed kind z)) []) (λ e. typed_result kind z)
 
@@ -158,8 +165,8 @@ place_sets : (result : Result) (next : At → Did) → ((at : At) → DidSets (n
 place_sets (of_value value) next h = tt
 place_sets (designates at) next h = h at
 
-fault_typed : (outcome : Outcome ℤ Fault) (world : World) (kind : CType) → DidSets (faulted outcome (λ z. plain world (typed kind z)))
-fault_typed (Ok z) world kind = typed_result kind z
+fault_typed : (outcome : Outcome ℤ Fault) (world : World) (kind : CType) → DidSets (faulted outcome (number_alone world kind))
+fault_typed (Ok z) world kind = number_sets world kind z
 fault_typed (Err fault) world kind = tt
 
 truth_typed : (truth : Truth) (world : World) (kind : CType) → DidSets (on_truth truth (λ b. plain world (truth_in kind (not b))))
@@ -178,6 +185,10 @@ set_sets (designates at) next h = tt
 number_set : (kind : Kind) (outcome : Outcome ℤ Fault) → (made_number kind outcome).causes ≡ [] → is_unset (made_number kind outcome).value ≡ false
 number_set kind (Ok z) e = refl
 number_set kind (Err fault) e = absurd (cc)
+
+right_set : (b : Bool) (kind : Kind) (outcome : Outcome ℤ Fault) → (made_right b (made_number kind outcome)).causes ≡ [] → is_unset (made_right b (made_number kind outcome)).value ≡ false
+right_set true kind outcome e = number_set kind outcome e
+right_set false kind outcome e = absurd (cc)
 
 if_set : (b : Bool) (x y : Value) → is_unset x ≡ false → is_unset y ≡ false → is_unset (if b then x else y) ≡ false
 if_set true x y h k = h
@@ -290,8 +301,12 @@ module _ (scene : Scene) (world : World) (locks : List At) where
   signed_sets kind Complement (compound all) = tt
   signed_sets kind Complement unset = tt
 
+  target_sets : (kind : CType) (next : CType → Did) → ((target : CType) → DidSets (next target)) → DidSets (on_target kind next)
+  target_sets (pointer target) next h = h target
+  target_sets kind next h = tt
+
   plus_sets : (kind : CType) (p : Pointer) (n : ℤ) → DidSets (pointer_plus scene world kind p n)
-  plus_sets kind p n = unless_pointer _ _ _
+  plus_sets kind p n = target_sets kind (λ target. pointer_further scene world target p n) (λ target. unless_pointer _ _ _)
 
   move_sets : (op : Op) (n : ℤ) (next : ℤ → Did) → ((z : ℤ) → DidSets (next z)) → DidSets (on_move op n next)
   move_sets Add n next h = h n
@@ -305,23 +320,23 @@ module _ (scene : Scene) (world : World) (locks : List At) where
   ordered_sets : (kind : CType) (op : Op) (a b : Pointer) → DidSets (ordered scene world kind op a b)
   ordered_sets kind op a b =
       let compared = operators.binary op Long (byte_at scene world a) (byte_at scene world b) in
-      unless_sets (order_causes world.memory a b) (faulted compared (λ z. plain world (typed kind z))) (λ e. fault_typed compared world kind)
+      unless_sets (order_causes world.memory a b) (faulted compared (number_alone world kind)) (λ e. fault_typed compared world kind)
 
-  pointers_set : (kind target : CType) (op : Op) (a b : Pointer) → DidSets (on_pointers scene world kind target op a b)
-  pointers_set kind target Sub a b = unless_typed _ _ kind _
-  pointers_set kind target Less a b = ordered_sets kind Less a b
-  pointers_set kind target Greater a b = ordered_sets kind Greater a b
-  pointers_set kind target LessEq a b = ordered_sets kind LessEq a b
-  pointers_set kind target GreaterEq a b = ordered_sets kind GreaterEq a b
-  pointers_set kind target Equal a b = unless_typed _ _ kind _
-  pointers_set kind target NotEqual a b = unless_typed _ _ kind _
-  pointers_set kind target op a b = tt
+  pointers_set : (kind left : CType) (op : Op) (a b : Pointer) → DidSets (on_pointers scene world kind left op a b)
+  pointers_set kind left Sub a b = target_sets left _ (λ target. unless_sets (distance_causes (layout scene.program) world.memory target a b) _ (λ e. number_sets world kind _))
+  pointers_set kind left Less a b = ordered_sets kind Less a b
+  pointers_set kind left Greater a b = ordered_sets kind Greater a b
+  pointers_set kind left LessEq a b = ordered_sets kind LessEq a b
+  pointers_set kind left GreaterEq a b = ordered_sets kind GreaterEq a b
+  pointers_set kind left Equal a b = unless_typed _ _ kind _
+  pointers_set kind left NotEqual a b = unless_typed _ _ kind _
+  pointers_set kind left op a b = tt
 
   combined_sets : (kind left : CType) (op : Op) (a b : Value) → DidSets (combined scene world kind left op a b)
-  combined_sets kind left op (integer_value k m) (integer_value j n) = fault_typed (operators.binary op k m n) world kind
+  combined_sets kind left op (integer_value k m) (integer_value j n) = provided_sets (is_right op k n) _ (fault_typed (operators.binary op k m n) world kind)
   combined_sets kind left op (pointer_value p) (integer_value j n) = move_sets op n _ (plus_sets kind p)
   combined_sets kind left op (integer_value k m) (pointer_value q) = on_plus_sets op _ (plus_sets kind q m)
-  combined_sets kind left op (pointer_value p) (pointer_value q) = pointers_set kind _ op p q
+  combined_sets kind left op (pointer_value p) (pointer_value q) = pointers_set kind left op p q
   combined_sets kind left op (integer_value k m) (compound all) = tt
   combined_sets kind left op (integer_value k m) unset = tt
   combined_sets kind left op (pointer_value p) (compound all) = tt
@@ -339,9 +354,18 @@ module _ (scene : Scene) (world : World) (locks : List At) where
       unless_sets (store_causes (layout scene.program) world.memory locks kind at) (gives (record world { memory = written world.memory at value }) (of_value value) (at ∷ [])) (λ c. (value, refl, e))
 
   -- what is made of a value that was set
+  pointer_set : (kind : CType) (p : Pointer) (n : ℤ) → (made_pointer scene world kind p n).causes ≡ [] → is_unset (made_pointer scene world kind p n).value ≡ false
+  pointer_set (pointer target) p n e = refl
+  pointer_set void p n e = absurd (cc)
+  pointer_set (integer k) p n e = absurd (cc)
+  pointer_set (array type known) p n e = absurd (cc)
+  pointer_set (struct m) p n e = absurd (cc)
+  pointer_set (function_type result parameters) p n e = absurd (cc)
+  pointer_set (const type) p n e = absurd (cc)
+
   updated_set : (kind : CType) (op : Op) (works : CType) (a b : Value) → is_unset a ≡ false → (updated scene world kind op works a b).causes ≡ [] → is_unset (updated scene world kind op works a b).value ≡ false
-  updated_set kind op works (integer_value k m) (integer_value j n) s e = number_set k (updated_value op (kind_in works) k m n) e
-  updated_set kind op works (pointer_value p) (integer_value j n) s e = refl
+  updated_set kind op works (integer_value k m) (integer_value j n) s e = right_set (is_right op (kind_in works) n) k (updated_value op (kind_in works) k m n) e
+  updated_set kind op works (pointer_value p) (integer_value j n) s e = pointer_set kind p _ e
   updated_set kind op works unset b s e = absurd (true≢false s)
   updated_set kind op works (compound all) b s e = absurd (cc)
   updated_set kind op works (integer_value k m) (pointer_value q) s e = absurd (cc)
@@ -353,7 +377,7 @@ module _ (scene : Scene) (world : World) (locks : List At) where
 
   counted_set : (kind : CType) (plus : Bool) (a : Value) → is_unset a ≡ false → (counted scene world kind plus a).causes ≡ [] → is_unset (counted scene world kind plus a).value ≡ false
   counted_set kind plus (integer_value k m) s e = number_set k (counted_value plus k m) e
-  counted_set kind plus (pointer_value p) s e = refl
+  counted_set kind plus (pointer_value p) s e = pointer_set kind p _ e
   counted_set kind plus unset s e = absurd (true≢false s)
   counted_set kind plus (compound all) s e = absurd (cc)
 
@@ -382,14 +406,14 @@ module _ (scene : Scene) (world : World) (locks : List At) where
       (if before then made.value else contents, refl, if_set before made.value contents (counted_set kind plus contents known (nil_left made.causes updates e)) known))
 
   pub operate_sets : (label : Label) (kind : CType) (operands : List Operand) → is_set label ≡ true → DidSets (operate scene world locks label kind operands)
-  operate_sets (number z) kind operands h = typed_result kind z
-  operate_sets (enumerator d) kind operands h = typed_result kind _
+  operate_sets (number z) kind operands h = number_sets world kind z
+  operate_sets (enumerator d) kind operands h = number_sets world kind _
   operate_sets read kind operands h = one_sets operands _ (λ a. place_sets a.result _ (read_sets kind))
   operate_sets decay kind operands h = one_sets operands _ (λ a. place_sets a.result _ (λ at. pointer_result (to (part_of at 0))))
   operate_sets address kind operands h = one_sets operands _ (λ a. place_sets a.result _ (λ at. pointer_result (to at)))
   operate_sets (unary sign) kind operands h = one_sets operands _ (λ a. value_sets a.result _ (signed_sets kind sign))
   operate_sets (binary op) kind operands h = two_sets operands _ (λ a b. value_sets a.result _ (λ x. value_sets b.result _ (combined_sets kind a.kind op x)))
-  operate_sets (sizeof_kind type) kind operands h = typed_result kind _
+  operate_sets (sizeof_kind type) kind operands h = number_sets world kind _
   operate_sets store kind operands h = two_sets operands _ (λ a b. place_sets a.result _ (λ at. set_sets b.result _ (store_sets kind at)))
   operate_sets (update op works) kind operands h = two_sets operands _ (λ a b. place_sets a.result _ (λ at. value_sets b.result _ (update_sets kind op works at)))
   operate_sets (count plus before) kind operands h = one_sets operands _ (λ a. place_sets a.result _ (count_sets kind plus before))

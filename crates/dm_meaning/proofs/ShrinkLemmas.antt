@@ -128,7 +128,7 @@ module _ (scene : Scene) (world : World) (locks : List At) where
       (λ b. picked_left (left_in (nth_run (if b then 1 else 2) parts)) (all_left_in parts) (nth_left (if b then 1 else 2) parts)))
   form_leaves comma kind place parts operands = picked_left (left_in (nth_run 1 parts)) (all_left_in parts) (nth_left 1 parts)
   form_leaves call kind place parts operands = call_leaves (2 + all_left_in parts) kind place _ (function_named (nth_run 0 parts)) (two_at_most (all_left_in parts))
-  form_leaves sizeof_tree kind place parts operands = two_at_most (all_left_in parts)
+  form_leaves sizeof_tree kind place parts operands = as_move_leaves (2 + all_left_in parts) kind place [] _ (two_at_most (all_left_in parts))
   form_leaves label kind place parts operands =
       as_move_leaves (2 + all_left_in parts) kind place (locks_in_all parts) (operate scene world locks label kind operands) (two_at_most (all_left_in parts))
 

@@ -1,5 +1,5 @@
 -- The steps of an expression beside more objects are those without them, unless these are undefined, and leave the spare objects alone.
-use Rattle.std.specs.Prelude.{◌≡◌, refl, ◌⊎◌, ℕ, zero, suc, ◌==◌, if◌then◌else◌, Bool, true, false, List, [], ◌∷◌, ◌++◌, map, Option, Some, None, option_map}
+use Rattle.std.specs.Prelude.{◌≡◌, refl, ◌⊎◌, ℕ, zero, suc, ◌==◌, if◌then◌else◌, Bool, true, false, List, [], ◌∷◌, ◌++◌, map, Option, Some, None, option_map, pos}
 use Rattle.std.proofs.Common.{ap, sym, ◌∙◌, subst, inl, inr}
 use Rattle.dm_token.specs.declared.place.Place.{Place}
 use Rattle.dm_type.specs.CTypes.{CType, void}
@@ -12,9 +12,9 @@ use Rattle.dm_meaning.specs.Memory.{Memory, Block, look_up, changed_block, writt
 use Rattle.dm_meaning.specs.Causes.{earliest, use_causes}
 use Rattle.dm_meaning.specs.Primitives.{Answer, answers, stops, refuses, Prim}
 use Rattle.dm_meaning.specs.Programs.{Definition, layout, declaration_of, definition_of}
-use Rattle.dm_meaning.specs.Operations.{of_value, Operand, World, Scene, Did, gives, breaks, ends_with, Truth, holds, untold, told, truth_of, truth_in, operate}
+use Rattle.dm_meaning.specs.Operations.{of_value, Operand, World, Scene, Did, gives, breaks, ends_with, Truth, holds, untold, told, truth_of, truth_in, operate, provided, is_of_kind, plain, typed}
 use Rattle.dm_meaning.specs.Running.{Doing, evaluates, gives_truth, gives_value, Run, done, to_do, Runs, no_runs, more_runs, locks_in, locks_in_all, Open, first_open, others_open, open_parts, operands_in, Hole, within, Holes, in_first, in_others, all_filled_in}
-use Rattle.dm_meaning.specs.Expressions.{Move, goes, calls, fails, exits, lifted, as_move, by_truth, on_operand, value_of, nth_run, both_chosen, either_chosen, operand_chosen, answered, undefined_called, called, call_step, function_named, form_step, node_step, own_or_inner, where_open, moves, moves_in}
+use Rattle.dm_meaning.specs.Expressions.{Move, goes, calls, fails, exits, lifted, as_move, by_truth, on_operand, value_of, nth_run, both_chosen, either_chosen, operand_chosen, answered, undefined_called, called, call_step, function_named, form_step, node_step, own_or_inner, where_open, moves, moves_in, kind_of_run}
 use Rattle.dm_meaning.specs.Extending.{HasAll, AreAmong, SameUnlessUndefined, SameOptionalAnswer}
 use Rattle.dm_meaning.specs.Replaced.{Zipped}
 use Rattle.dm_meaning.specs.MoreObjects.{IsMade, IsMadeName, LocksMade, unfilled, IsSpare, Grown}
@@ -271,13 +271,21 @@ module _ (scene : Scene) (world : World) (more : Memory) (has : HasAll more worl
     choice_locks true = chosen_locks gives_value 1
     choice_locks false = chosen_locks gives_value 2
 
+    -- a number alone, where its type has it
+    number_spared : (value : Value) → Related (as_move kind place [] (provided (is_of_kind value) (plain wide value))) (as_move kind place [] (provided (is_of_kind value) (plain world value)))
+    number_spared value = by_kind (is_of_kind value)
+      where
+        by_kind : (b : Bool) → Related (as_move kind place [] (provided b (plain wide value))) (as_move kind place [] (provided b (plain world value)))
+        by_kind true = (world_same, refl, no_locks_made world.memory)
+        by_kind false = tt
+
     form_spared : (label : Label) (operands : List Operand) → Related (form_step scene wide locks label kind place members operands) (form_step scene world locks label kind place members operands)
     form_spared both operands = on_operand_spared place operands _ _ (λ a. by_truth_spared place (truth_of world.memory (value_of a.result)) (truth_of more (value_of a.result)) (both_chosen kind place members) (truth_here a) both_locks)
     form_spared either operands = on_operand_spared place operands _ _ (λ a. by_truth_spared place (truth_of world.memory (value_of a.result)) (truth_of more (value_of a.result)) (either_chosen kind place members) (truth_here a) either_locks)
     form_spared choose operands = on_operand_spared place operands _ _ (λ a. by_truth_spared place (truth_of world.memory (value_of a.result)) (truth_of more (value_of a.result)) (operand_chosen kind place members) (truth_here a) choice_locks)
     form_spared comma operands = (world_same, refl, chosen_locks gives_value 1)
     form_spared call operands = call_spared kind place (map (λ a. value_of a.result) operands) (function_named (nth_run 0 members))
-    form_spared sizeof_tree operands = (world_same, refl, no_locks_made world.memory)
+    form_spared sizeof_tree operands = number_spared (typed kind (pos ((layout scene.program).size (kind_of_run (nth_run 0 members)))))
     form_spared label operands =
         did_spared kind place (locks_in_all members) made (operate scene world locks label kind operands) (operate scene wide locks label kind operands)
         (operate_same scene world wide (has, refl, refl) locks locks (all_among locks) label kind operands)

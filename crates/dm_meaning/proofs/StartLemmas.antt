@@ -2,6 +2,7 @@
 use Rattle.std.specs.Prelude.{◌≡◌, refl, ◌⊎◌, ℕ, suc, ◌+◌, Bool, true, false, List, [], ◌∷◌, ◌++◌, map, length, take, drop, Option, Some, None, option_map, ℤ, if◌then◌else◌}
 use Rattle.std.proofs.Common.{arith, ap, sym, ◌∙◌, subst, inl, inr}
 use Rattle.dm_int.specs.declared.Op.{Op}
+use Rattle.dm_int.specs.Kinds as kinds
 use Rattle.dm_type.specs.CTypes.{CType, void, integer, pointer, array, struct, function as function_type, const, bare}
 use Rattle.dm_tree.specs.declared.unit.Sort.{Sort}
 use Rattle.dm_tree.specs.Constants.{is_constant_form, constant_forms, has_constant_form}
@@ -49,8 +50,12 @@ module _ (program : Program) (objects : Objects) (memory : Memory) where
   no_address_convert kind spans no_trees below form = refl
   no_address_convert kind spans (more_trees first rest) below form = below.0 (and_right _ _ form)
 
+  null_moved : (kind : CType) (z : ℤ) → pointer_moved program memory kind null z ≡ null
+  null_moved (pointer target) z = refl
+  null_moved kind z = refl
+
   moved_null : (kind : CType) (p : Pointer) (z : ℤ) → p ≡ null → pointer_moved program memory kind p z ≡ null
-  moved_null kind p z e = ap (λ q. pointer_moved program memory kind q z) e
+  moved_null kind p z e = ap (λ q. pointer_moved program memory kind q z) e ∙ null_moved kind z
 
   if_both : {A : Type 0} (b : Bool) (x y z : A) → x ≡ z → y ≡ z → (if b then x else y) ≡ z
   if_both true x y z e f = e
@@ -157,8 +162,8 @@ module _ (change : Replaced) (replacement : IsReplacement change) where
         → static_scalar (new_of change) (renamed_objects change.rename objects) memory kind tree ≡ static_scalar change.old objects memory kind other
     scalar_agrees void tree other h = refl
     scalar_agrees (integer kind) tree other h =
-        ap (λ o. integer_value kind (number_or o (address_of (new_of change) (renamed_objects change.rename objects) memory tree))) (agreeing_constant change replacement tree other h)
-        ∙ ap (λ p. integer_value kind (number_or (constant_of change.old other) p)) (address_agrees tree other h)
+        ap (λ o. integer_value kind (kinds.convert kind (number_or o (address_of (new_of change) (renamed_objects change.rename objects) memory tree)))) (agreeing_constant change replacement tree other h)
+        ∙ ap (λ p. integer_value kind (kinds.convert kind (number_or (constant_of change.old other) p))) (address_agrees tree other h)
     scalar_agrees (pointer target) tree other h = ap pointer_value (address_agrees tree other h)
     scalar_agrees (array element length_known) tree other h = ap (array_of (array element length_known)) (characters_agree tree other h)
     scalar_agrees (struct n) tree other h = refl

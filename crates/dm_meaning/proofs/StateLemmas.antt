@@ -25,7 +25,7 @@ use Rattle.dm_meaning.specs.Units.{machine_of}
 use Rattle.dm_meaning.specs.Replaced.{Replaced, new_of, renamed_declarator, Zipped, Agrees, facts_of, DefinitionAgrees, IsReplacement}
 use Rattle.dm_meaning.proofs.AmongLemmas.{among-map, among-map_from}
 use Rattle.dm_meaning.proofs.StepLemmas.{fresh_names}
-use Rattle.dm_meaning.proofs.QuietLemmas.{Quietly}
+use Rattle.dm_meaning.proofs.QuietLemmas.{Quietly, Fails}
 use Rattle.dm_meaning.proofs.RunLemmas.{RunAgrees, HoleAgrees, RunMoveAgrees, OptionAgrees, definition_agrees, filled_agrees, renamed_objects, same_locks, run_matched}
 use Rattle.dm_meaning.proofs.StatementLemmas.{UseAgrees, TasksAgree, TurnedAgrees, map_append, numbers_renamed, named_from_renamed, listed_agrees, length_renamed, same_type, declared_in_agrees, made_from_agrees, items_agree, statement_begins, declarator_begins, initialiser_begins, conclusion_agrees, unfolded_agree, ended_agrees, break_agrees, continue_agrees}
 
@@ -313,6 +313,64 @@ module _ (change : Replaced) (replacement : IsReplacement change) where
           (names, fresh, old_among (evaluates at a other_use ∷ other_rest) e (with_run h.0) (quiet_among names a h.0 h.1))
           (quiet_goes n h.0 b h.2)
 
+      -- an undefined step of the expression is one of the state
+      abbrev broken : (ℕ → ℕ) → State → Cause → Place → State
+      broken some_names state cause there = moved change.old some_names state other_rest at other_use (fails cause there)
+
+      fails_among : (some_names : ℕ → ℕ) (a : Run) (cause : Cause) (there : Place) → ((locks : _) → IsAmong (fails cause there) (moves (scene_of change.old other) other.world locks a))
+          → IsAmong (broken some_names other cause there) (expression_steps change.old some_names other other_rest at other_use a)
+      fails_among some_names (done kind result locks) cause there h = absurd (h [])
+      fails_among some_names (to_do doing kind here parts) cause there h = among-map (moved change.old some_names other other_rest at other_use) (fails cause there) _ (h (locks_in (to_do doing kind here parts)))
+
+      fails_later_among : (some_names : ℕ → ℕ) (a c : Run) (cause : Cause) (there : Place) → ((locks : _) → IsAmong (fails cause there) (moves (scene_of change.old other) other.world locks a))
+          → IsAmong (broken some_names (with_run c) cause there) (expression_steps change.old some_names (with_run c) other_rest at other_use a)
+      fails_later_among some_names (done kind result locks) c cause there h = absurd (h [])
+      fails_later_among some_names (to_do doing kind here parts) c cause there h =
+          among-map (moved change.old some_names (with_run c) other_rest at other_use) (fails cause there) _ (h (locks_in (to_do doing kind here parts)))
+
+      fails_goes : (n : ℕ) (a b : Run) → Quietly (scene_of change.old other) other.world n a b → (cause : Cause) (there : Place)
+          → ((locks : _) → IsAmong (fails cause there) (moves (scene_of change.old other) other.world locks b))
+          → (last : State) × Goes (machine_of change.old) (suc n) (with_run a) last × (last.standing ≡ undefined cause there)
+      fails_goes zero a b e cause there h =
+          let some = fresh_names other.world.memory in
+          let here_fails = subst (λ x. (locks : List At) → IsAmong (fails cause there) (moves (scene_of change.old other) other.world locks x)) (sym e) h in (
+            broken some.0 (with_run a) cause there,
+            goes_one change.old (with_run a) (broken some.0 (with_run a) cause there)
+                (some.0, some.1, subst (λ standing. IsAmong (broken some.0 (with_run a) cause there) (steps_from standing (expression_steps change.old some.0 (with_run a) other_rest at other_use a))) (sym stands) (fails_later_among some.0 a a cause there here_fails)),
+            refl,
+          )
+      fails_goes (suc n) a b k cause there h =
+          let some = fresh_names other.world.memory in
+          let rest = fails_goes n k.0 b k.2 cause there h in (
+            rest.0,
+            goes_first change.old (suc n) (with_run a) (with_run k.0) rest.0
+                (some.0, some.1, subst (λ standing. IsAmong (with_run k.0) (steps_from standing (expression_steps change.old some.0 (with_run a) other_rest at other_use a))) (sym stands) (later_among some.0 a k.0 a k.1))
+                rest.1,
+            rest.2,
+          )
+
+      -- where the expression's evaluation is undefined, the program goes wrong
+      fails_first : (a : Run) → unfolded other.frame.tasks ≡ evaluates at a other_use ∷ other_rest → Fails (scene_of change.old other) other.world a → GoesWrong (machine_of change.old) other
+      fails_first a e k = by_count k.count k.steps
+        where
+          by_count : (n : ℕ) → Quietly (scene_of change.old other) other.world n a k.last → GoesWrong (machine_of change.old) other
+          by_count zero same =
+              wrong_step (broken names other k.cause k.place)
+              (old_among (evaluates at a other_use ∷ other_rest) e (broken names other k.cause k.place)
+              (fails_among names a k.cause k.place (subst (λ x. (locks : List At) → IsAmong (fails k.cause k.place) (moves (scene_of change.old other) other.world locks x)) (sym same) k.fails)))
+              k.cause k.place refl
+          by_count (suc n) h =
+              let rest = fails_goes n h.0 k.last h.2 k.cause k.place k.fails in (
+                suc (suc n),
+                rest.0,
+                goes_first change.old (suc n) other (with_run h.0) rest.0
+                    (names, fresh, old_among (evaluates at a other_use ∷ other_rest) e (with_run h.0) (quiet_among names a h.0 h.1))
+                    rest.1,
+                k.cause,
+                k.place,
+                rest.2,
+              )
+
       expression_met : (run other_run : Run) → RunAgrees change run other_run → unfolded other.frame.tasks ≡ evaluates at other_run other_use ∷ other_rest
           → (state : State) → IsAmong state (expression_steps (new_of change) names now rest place use_of run) → Met state
       expression_met (done kind result locks) (done other_kind other_result other_locks) h e state (inl k) =
@@ -335,7 +393,8 @@ module _ (change : Replaced) (replacement : IsReplacement change) where
         where
           by_match : (run other_run : Run) → RunAgrees change run other_run → unfolded other.frame.tasks ≡ evaluates at other_run other_use ∷ other_rest → (m : Move Run Hole)
               → ((n : Move Run Hole) × IsAmong n (moves (scene_of change.old other) other.world (locks_in run) other_run) × RunMoveAgrees change m n)
-              ⊎ ((next_run : Run) × (m ≡ goes other.world next_run) × (n : ℕ) × (last : Run) × Quietly (scene_of change.old other) other.world (suc n) other_run last × RunAgrees change next_run last)
+              ⊎ (((next_run : Run) × (m ≡ goes other.world next_run) × (n : ℕ) × (last : Run) × Quietly (scene_of change.old other) other.world (suc n) other_run last × RunAgrees change next_run last)
+              ⊎ Fails (scene_of change.old other) other.world other_run)
               → Met (moved (new_of change) names now rest place use_of m)
           by_match run (done result_kind result locks) h e m (inl (n, among, agrees)) = absurd among
           by_match run (to_do d t p ps) h e m (inl (n, among, agrees)) =
@@ -343,7 +402,8 @@ module _ (change : Replaced) (replacement : IsReplacement change) where
               (old_among _ e _
               (among-map (moved change.old names other other_rest at other_use) n _
               (subst (λ locks. IsAmong n (moves (scene_of change.old other) other.world locks (to_do d t p ps))) (same_locks change run (to_do d t p ps) h) among)))
-          by_match run other_run h e m (inr (next_run, is, n, last, quiet, agrees)) =
+          by_match run other_run h e m (inr (inr k)) = inl (fails_first other_run e k)
+          by_match run other_run h e m (inr (inl (next_run, is, n, last, quiet, agrees))) =
               subst (λ x. Met (moved (new_of change) names now rest place use_of x)) (sym is)
               (inr (
                 n,

@@ -2,6 +2,7 @@
 use Rattle.std.specs.Prelude.{◌≡◌, refl, ℕ, suc, List, [], ◌∷◌, ◌++◌, take, drop, Option, Some, None}
 use Rattle.std.proofs.Common.{ap, ◌∙◌}
 use Rattle.dm_int.specs.declared.Op.{Op}
+use Rattle.dm_int.specs.Kinds as kinds
 use Rattle.dm_type.specs.CTypes.{CType, void, integer, pointer, array, struct, function as function_type, const, bare}
 use Rattle.dm_tree.specs.Trees.{Label, binary, Initialiser, Initialisers, one_expression, in_braces, no_items, more_items, expressions_in, Tree, Trees, node, no_trees, more_trees, listed}
 use Rattle.dm_meaning.specs.Values.{numbered, Pointer, integer_value, pointer_value, values, parts_in, parts as compound}
@@ -39,7 +40,7 @@ module _ (program : Program) (functions : List Definition) where
 
     scalar_same : (kind : CType) (tree : Tree) → static_scalar other objects memory kind tree ≡ static_scalar program objects memory kind tree
     scalar_same void tree = refl
-    scalar_same (integer kind) tree = ap (λ p. integer_value kind (number_or (constant_of program tree) p)) (address_same tree)
+    scalar_same (integer kind) tree = ap (λ p. integer_value kind (kinds.convert kind (number_or (constant_of program tree) p))) (address_same tree)
     scalar_same (pointer target) tree = ap pointer_value (address_same tree)
     scalar_same (array element length_known) tree = refl
     scalar_same (struct n) tree = refl

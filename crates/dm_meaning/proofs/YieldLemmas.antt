@@ -19,7 +19,7 @@ use Rattle.dm_meaning.specs.Expressions.{Move, goes, calls, fails, exits, lifted
 use Rattle.dm_meaning.specs.Steps.{lacks_value}
 use Rattle.dm_meaning.specs.Called.{gives_value as root_gives_value, Gives, GivesPicked}
 use Rattle.dm_meaning.proofs.AmongLemmas.{among_either, among-map_from}
-use Rattle.dm_meaning.proofs.SetLemmas.{DidSets, typed_set, set_sets, converted_sets, AnswerSets, prim_sets, is_set, operate_sets}
+use Rattle.dm_meaning.proofs.SetLemmas.{DidSets, typed_set, set_sets, converted_sets, AnswerSets, prim_sets, is_set, operate_sets, number_sets}
 
 -- ---- what a step of an operator gives
 
@@ -215,7 +215,7 @@ module _ (scene : Scene) (world : World) (locks : List At) (kind : CType) where
       either_yields true = typed_yields own kind (operators.truth true) [] e
       either_yields false = (e, inl refl)
   form_yields call own place parts operands e h = call_yields own place _ (function_named (nth_run 0 parts)) e
-  form_yields sizeof_tree own place parts operands e h = typed_yields own kind _ [] e
+  form_yields sizeof_tree own place parts operands e h = did_yields own place [] _ e (set_yields own _ (number_sets world own _))
   form_yields (number z) own place parts operands e h = did_yields own place (locks_in_all parts) (operate scene world locks (number z) own operands) e (operate_yields scene world locks (number z) own operands h)
   form_yields (enumerator d) own place parts operands e h = did_yields own place (locks_in_all parts) (operate scene world locks (enumerator d) own operands) e (operate_yields scene world locks (enumerator d) own operands h)
   form_yields (sizeof_kind type) own place parts operands e h = did_yields own place (locks_in_all parts) (operate scene world locks (sizeof_kind type) own operands) e (operate_yields scene world locks (sizeof_kind type) own operands h)

@@ -6,7 +6,7 @@ use Rattle.std.specs.Prelude.{ℕ, nat_le, Bool, true, false, not, ◌&&◌, ◌
 use Rattle.dm_int.specs.declared.Fault.{Fault}
 use Rattle.dm_int.specs.declared.Fault.TheVariants.{Overflow as TooGreat, Zero, Shift as BadShift}
 use Rattle.dm_int.specs.Operators.{int_eq}
-use Rattle.dm_type.specs.CTypes.{CType, pointer, void, bare}
+use Rattle.dm_type.specs.CTypes.{CType, bare}
 use Rattle.dm_type.specs.Alike.{are_compatible}
 use Rattle.dm_meaning.specs.declared.cause.Cause.{Cause}
 use Rattle.dm_meaning.specs.declared.cause.Cause.TheVariants.{Overflow, Division, Shift, Conflict, Null, Bounds, Pointer as Order, Life, Unset, OtherType, Const, NoValue, External}
@@ -131,11 +131,6 @@ use_causes memory (to at) = absence_causes memory at.name
 -- a pointer is followed (6.5.3.2p4)
 abbrev pub follow_causes : Memory → Pointer → List Cause
 follow_causes memory p = when Null (is_null p) ++ use_causes memory p
-
--- what a pointer's type points to
-abbrev pub target_of : CType → CType
-target_of (pointer type) = type
-target_of type = void
 
 -- the path that a number of elements further on begins, if the array goes so far; in an object that isn't there it stays
 abbrev pub path_moved : Layout → Option Block → CType → Path → ℤ → Option Path

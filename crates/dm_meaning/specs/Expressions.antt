@@ -11,7 +11,7 @@ use Rattle.dm_meaning.specs.declared.cause.Cause.TheVariants.{OtherType, Externa
 use Rattle.dm_meaning.specs.Values.{At, Value, unset}
 use Rattle.dm_meaning.specs.Primitives.{Prim, Answer, answers, stops, refuses}
 use Rattle.dm_meaning.specs.Programs.{layout, Definition, declaration_of, definition_of}
-use Rattle.dm_meaning.specs.Operations.{Result, of_value, designates, Operand, World, Scene, Did, gives, breaks, ends_with, typed, truth_in, Truth, holds, untold, truth_of, operate}
+use Rattle.dm_meaning.specs.Operations.{Result, of_value, designates, Operand, World, Scene, Did, gives, breaks, ends_with, number_alone, truth_in, Truth, holds, untold, truth_of, operate}
 use Rattle.dm_meaning.specs.Running.{Doing, evaluates, gives_truth, gives_value, Run, done, to_do, Runs, no_runs, more_runs, locks_in_all, Open, first_open, others_open, open_parts, operands_in, Hole, here, within, Holes, in_first, in_others}
 
 -- A step of a tree, or of the trees below a node, where `T` is what it leaves and `H` such with a part left out.
@@ -132,7 +132,7 @@ form_step scene world locks comma kind place parts operands = goes world (going_
 form_step scene world locks call kind place parts operands =
     call_step scene world kind place (map (λ a. value_of a.result) operands) (function_named (nth_run 0 parts))
 form_step scene world locks sizeof_tree kind place parts operands =
-    goes world (unlocked kind (typed kind (pos ((layout scene.program).size (kind_of_run (nth_run 0 parts))))))
+    as_move kind place [] (number_alone world kind (pos ((layout scene.program).size (kind_of_run (nth_run 0 parts)))))
 form_step scene world locks label kind place parts operands =
     as_move kind place (locks_in_all parts) (operate scene world locks label kind operands)
 

@@ -18,14 +18,14 @@ use Rattle.dm_tree.specs.declared.unit.Sort.{Sort}
 use Rattle.dm_tree.specs.declared.unit.Sort.TheVariants.{Enumerator}
 use Rattle.dm_tree.specs.Trees.{Label, number, enumerator, literal, object, function, read, decay, convert, address, follow, member, unary, binary, store, update, count, sizeof_kind}
 use Rattle.dm_tree.specs.Units.{Declaration}
-use Rattle.dm_tree.specs.Evaluation.{is_true, unary_value, updated_value, counted_value}
+use Rattle.dm_tree.specs.Evaluation.{is_true, is_right, unary_value, updated_value, counted_value}
 use Rattle.dm_meaning.specs.declared.cause.Cause.{Cause}
 use Rattle.dm_meaning.specs.declared.cause.Cause.TheVariants.{Division, Shift, Unset, OtherType, External}
 use Rattle.dm_meaning.specs.Values.{Name, numbered, literal_of, part, Path, At, Pointer, null, to, Value, integer_value, pointer_value, parts, unset, same_name, part_value}
 use Rattle.dm_meaning.specs.Objects.{Layout, byte_of}
 use Rattle.dm_meaning.specs.Programs.{Program, layout, declaration_of}
 use Rattle.dm_meaning.specs.Memory.{Memory, Block, look, contents_at, or_unset, written}
-use Rattle.dm_meaning.specs.Causes.{earliest, when, fault_cause, read_causes, store_causes, update_causes, use_causes, follow_causes, moved_pointer, moved_causes, pointer_distance, distance_causes, order_causes, target_of, is_null, is_unset}
+use Rattle.dm_meaning.specs.Causes.{earliest, when, fault_cause, read_causes, store_causes, update_causes, use_causes, follow_causes, moved_pointer, moved_causes, pointer_distance, distance_causes, order_causes, is_null, is_unset}
 
 -- what evaluating an expression gives (6.5p1)
 pub data Result : Type 0 where
@@ -66,6 +66,11 @@ abbrev pub decided : Option Cause → Did → Did
 decided None did = did
 decided (Some cause) did = breaks cause
 
+-- a step, where what holds in all typed trees does
+abbrev pub provided : Bool → Did → Did
+provided true did = did
+provided false did = ill
+
 -- a step that is undefined where there are causes
 abbrev pub unless : List Cause → Did → Did
 unless causes did = decided (earliest causes) did
@@ -81,6 +86,15 @@ typed_bare other z = integer_value Int z
 
 abbrev pub typed : CType → ℤ → Value
 typed kind z = typed_bare (bare kind) z
+
+-- an integer is a value of its kind
+abbrev pub is_of_kind : Value → Bool
+is_of_kind (integer_value kind z) = kinds.is_in_range kind z
+is_of_kind other = true
+
+-- a number alone, where its type has it
+abbrev pub number_alone : World → CType → ℤ → Did
+number_alone world kind z = provided (is_of_kind (typed kind z)) (plain world (typed kind z))
 
 -- a number, or the cause why there is none
 abbrev pub faulted : Outcome ℤ Fault → (ℤ → Did) → Did
@@ -204,18 +218,26 @@ on_truth (untold cause) next = breaks cause
 
 abbrev pub signed : World → CType → Sign → Value → Did
 signed world kind Not value = on_truth (truth_of world.memory value) (λ truth. plain world (truth_in kind (not truth)))
-signed world kind sign (integer_value other z) = faulted (unary_value sign other z) (λ n. plain world (typed kind n))
+signed world kind sign (integer_value other z) = faulted (unary_value sign other z) (number_alone world kind)
 signed world kind sign value = ill
+
+-- what a type points to; in no typed tree has a pointer that moves another type
+abbrev pub on_target : CType → (CType → Did) → Did
+on_target (pointer type) next = next type
+on_target type next = ill
 
 -- the pointer a number of elements on from another (6.5.6p8)
 abbrev pub or_null : Option Pointer → Pointer
 or_null None = null
 or_null (Some p) = p
 
+abbrev pub pointer_further : Scene → World → CType → Pointer → ℤ → Did
+pointer_further scene world target p n =
+    unless (moved_causes (layout scene.program) world.memory target p n)
+    (plain world (pointer_value (or_null (moved_pointer (layout scene.program) world.memory target p n))))
+
 abbrev pub pointer_plus : Scene → World → CType → Pointer → ℤ → Did
-pointer_plus scene world kind p n =
-    unless (moved_causes (layout scene.program) world.memory (target_of kind) p n)
-    (plain world (pointer_value (or_null (moved_pointer (layout scene.program) world.memory (target_of kind) p n))))
+pointer_plus scene world kind p n = on_target kind (λ target. pointer_further scene world target p n)
 
 abbrev pub or_zero : Option ℤ → ℤ
 or_zero None = pos 0
@@ -224,7 +246,7 @@ or_zero (Some z) = z
 abbrev pub pointer_minus : Scene → World → CType → CType → Pointer → Pointer → Did
 pointer_minus scene world kind target a b =
     unless (distance_causes (layout scene.program) world.memory target a b)
-    (plain world (typed kind (or_zero (pointer_distance (layout scene.program) world.memory target a b))))
+    (number_alone world kind (or_zero (pointer_distance (layout scene.program) world.memory target a b)))
 
 abbrev pub byte_in_block : Layout → Path → Option Block → ℕ
 byte_in_block layout path None = 0
@@ -245,22 +267,22 @@ equal_pointers scene world (to a) (to b) = same_name a.name b.name && operators.
 -- pointers into one object are ordered by their bytes (6.5.8p5)
 abbrev pub ordered : Scene → World → CType → Op → Pointer → Pointer → Did
 ordered scene world kind op a b =
-    unless (order_causes world.memory a b) (faulted (operators.binary op Long (byte_at scene world a) (byte_at scene world b)) (λ z. plain world (typed kind z)))
+    unless (order_causes world.memory a b) (faulted (operators.binary op Long (byte_at scene world a) (byte_at scene world b)) (number_alone world kind))
 
 abbrev pub equated : Scene → World → CType → (Bool → Bool) → Pointer → Pointer → Did
 equated scene world kind sense a b =
     unless (use_causes world.memory a ++ use_causes world.memory b) (plain world (truth_in kind (sense (equal_pointers scene world a b))))
 
--- a binary operator on two pointers; `target` is what the first points to
+-- a binary operator on two pointers, of which the first has the type `left`
 abbrev pub on_pointers : Scene → World → CType → CType → Op → Pointer → Pointer → Did
-on_pointers scene world kind target Sub a b = pointer_minus scene world kind target a b
-on_pointers scene world kind target Less a b = ordered scene world kind Less a b
-on_pointers scene world kind target Greater a b = ordered scene world kind Greater a b
-on_pointers scene world kind target LessEq a b = ordered scene world kind LessEq a b
-on_pointers scene world kind target GreaterEq a b = ordered scene world kind GreaterEq a b
-on_pointers scene world kind target Equal a b = equated scene world kind (λ truth. truth) a b
-on_pointers scene world kind target NotEqual a b = equated scene world kind not a b
-on_pointers scene world kind target op a b = ill
+on_pointers scene world kind left Sub a b = on_target left (λ target. pointer_minus scene world kind target a b)
+on_pointers scene world kind left Less a b = ordered scene world kind Less a b
+on_pointers scene world kind left Greater a b = ordered scene world kind Greater a b
+on_pointers scene world kind left LessEq a b = ordered scene world kind LessEq a b
+on_pointers scene world kind left GreaterEq a b = ordered scene world kind GreaterEq a b
+on_pointers scene world kind left Equal a b = equated scene world kind (λ truth. truth) a b
+on_pointers scene world kind left NotEqual a b = equated scene world kind not a b
+on_pointers scene world kind left op a b = ill
 
 -- the number of elements by which += or -=, or + or -, moves a pointer
 abbrev pub on_move : Op → ℤ → (ℤ → Did) → Did
@@ -273,12 +295,13 @@ abbrev pub on_plus : Op → Did → Did
 on_plus Add did = did
 on_plus op did = ill
 
--- a binary operator: integers are of one kind, but for the count of a shift
+-- a binary operator: integers are of one kind, that of the left one, but for the count of a shift
 abbrev pub combined : Scene → World → CType → CType → Op → Value → Value → Did
-combined scene world kind left op (integer_value a m) (integer_value b n) = faulted (operators.binary op a m n) (λ z. plain world (typed kind z))
+combined scene world kind left op (integer_value a m) (integer_value b n) =
+    provided (is_right op a n) (faulted (operators.binary op a m n) (number_alone world kind))
 combined scene world kind left op (pointer_value p) (integer_value b n) = on_move op n (pointer_plus scene world kind p)
 combined scene world kind left op (integer_value a m) (pointer_value q) = on_plus op (pointer_plus scene world kind q m)
-combined scene world kind left op (pointer_value p) (pointer_value q) = on_pointers scene world kind (target_of left) op p q
+combined scene world kind left op (pointer_value p) (pointer_value q) = on_pointers scene world kind left op p q
 combined scene world kind left op a b = ill
 
 -- ---- assignments (6.5.16, 6.5.2.4, 6.5.3.1)
@@ -298,11 +321,24 @@ abbrev pub made_number : Kind → Outcome ℤ Fault → Made
 made_number kind (Ok z) = record { causes = []; value = integer_value kind z }
 made_number kind (Err fault) = record { causes = fault_cause fault ∷ []; value = unset }
 
-abbrev pub made_pointer : Scene → World → CType → Pointer → ℤ → Made
-made_pointer scene world kind p n = record {
-  causes = moved_causes (layout scene.program) world.memory (target_of kind) p n;
-  value = pointer_value (or_null (moved_pointer (layout scene.program) world.memory (target_of kind) p n));
+-- what no typed tree comes to
+abbrev pub made_ill : Made
+made_ill = record { causes = OtherType ∷ []; value = unset }
+
+-- what is made of numbers, where the right one may stand there
+abbrev pub made_right : Bool → Made → Made
+made_right true made = made
+made_right false made = made_ill
+
+abbrev pub made_further : Scene → World → CType → Pointer → ℤ → Made
+made_further scene world target p n = record {
+  causes = moved_causes (layout scene.program) world.memory target p n;
+  value = pointer_value (or_null (moved_pointer (layout scene.program) world.memory target p n));
 }
+
+abbrev pub made_pointer : Scene → World → CType → Pointer → ℤ → Made
+made_pointer scene world (pointer target) p n = made_further scene world target p n
+made_pointer scene world kind p n = made_ill
 
 -- the causes that don't depend on the object's value
 abbrev pub causes_anyway : Op → Kind → ℤ → List Cause
@@ -322,17 +358,18 @@ move_of op n = n
 
 -- the value that a compound assignment stores (6.5.16.2p3)
 abbrev pub updated : Scene → World → CType → Op → CType → Value → Value → Made
-updated scene world kind op works (integer_value k m) (integer_value j n) = made_number k (updated_value op (kind_in works) k m n)
+updated scene world kind op works (integer_value k m) (integer_value j n) =
+    made_right (is_right op (kind_in works) n) (made_number k (updated_value op (kind_in works) k m n))
 updated scene world kind op works (pointer_value p) (integer_value j n) = made_pointer scene world kind p (move_of op n)
 updated scene world kind op works unset (integer_value j n) = record { causes = causes_anyway op (kind_in works) n; value = unset }
-updated scene world kind op works a b = record { causes = OtherType ∷ []; value = unset }
+updated scene world kind op works a b = made_ill
 
 -- the value that ++ or -- stores
 abbrev pub counted : Scene → World → CType → Bool → Value → Made
 counted scene world kind plus (integer_value k m) = made_number k (counted_value plus k m)
 counted scene world kind plus (pointer_value p) = made_pointer scene world kind p (if plus then pos 1 else neg_ℤ (pos 1))
 counted scene world kind plus unset = record { causes = []; value = unset }
-counted scene world kind plus (parts all) = record { causes = OtherType ∷ []; value = unset }
+counted scene world kind plus (parts all) = made_ill
 
 -- the value of an object is replaced in one step, and the step gives the new value or the old one
 abbrev pub replace_at : Scene → World → List At → CType → At → Made → Value → Did
@@ -355,8 +392,8 @@ update_at scene world locks kind op works at value =
 -- The step of a node by the results of its operands, beside what stores that are unsequenced with it have locked. The nodes that evaluate
 -- only some of their operands, and calls, have steps of their own.
 abbrev pub operate : Scene → World → List At → Label → CType → List Operand → Did
-operate scene world locks (number z) kind operands = plain world (typed kind z)
-operate scene world locks (enumerator d) kind operands = plain world (typed kind (enumerator_number scene.program d))
+operate scene world locks (number z) kind operands = number_alone world kind z
+operate scene world locks (enumerator d) kind operands = number_alone world kind (enumerator_number scene.program d)
 operate scene world locks (literal bytes unit) kind operands = gives world (designates (whole (literal_of bytes unit))) []
 operate scene world locks (object d) kind operands = designated world (object_named scene.objects d)
 operate scene world locks (function d) kind operands = plain world unset
@@ -374,5 +411,5 @@ operate scene world locks store kind operands =
 operate scene world locks (update op works) kind operands =
     on_two operands (λ a b. on_place a.result (λ at. on_value b.result (update_at scene world locks kind op works at)))
 operate scene world locks (count plus before) kind operands = on_one operands (λ a. on_place a.result (count_at scene world locks kind plus before))
-operate scene world locks (sizeof_kind type) kind operands = plain world (typed kind (pos ((layout scene.program).size type)))
+operate scene world locks (sizeof_kind type) kind operands = number_alone world kind (pos ((layout scene.program).size type))
 operate scene world locks other kind operands = ill

@@ -5,6 +5,7 @@
 use Rattle.std.specs.Prelude.{◌≡◌, ℕ, suc, ◌+◌, ◌==◌, Bool, true, false, not, ◌&&◌, List, [], ◌∷◌, ◌++◌, map, length, take, drop, Option, Some, None, ℤ, pos, is_some, if◌then◌else◌}
 use Rattle.dm_int.specs.declared.Kind.TheVariants.{Int, Char}
 use Rattle.dm_int.specs.declared.Op.{Op}
+use Rattle.dm_int.specs.Kinds as kinds
 use Rattle.dm_int.specs.Operators as operators
 use Rattle.dm_type.specs.CTypes.{CType, integer, pointer, array, bare}
 use Rattle.dm_type.specs.Tables.{Table}
@@ -16,7 +17,7 @@ use Rattle.dm_meaning.specs.Machines.{Machine, going}
 use Rattle.dm_meaning.specs.Values.{Name, numbered, literal_of, elsewhere, part, past, Pointer, null, to, Value, integer_value, pointer_value, parts, unset, values, parts_in}
 use Rattle.dm_meaning.specs.Objects.{inner_type, all_zero}
 use Rattle.dm_meaning.specs.Memory.{Memory, new_block, literal_block, written, IsFresh}
-use Rattle.dm_meaning.specs.Causes.{target_of, is_null, moved_pointer}
+use Rattle.dm_meaning.specs.Causes.{is_null, moved_pointer}
 use Rattle.dm_meaning.specs.Programs.{Definition, Static, Program, layout, declaration_at, declaration_of, constant_of}
 use Rattle.dm_meaning.specs.Operations.{Objects, object_named, whole, part_of, move_of, or_zero}
 use Rattle.dm_meaning.specs.States.{State}
@@ -120,7 +121,8 @@ or_beyond null None = null
 or_beyond (to at) None = to (record { name = at.name; path = past ∷ past ∷ [] })
 
 abbrev pub pointer_moved : Program → Memory → CType → Pointer → ℤ → Pointer
-pointer_moved program memory kind p n = or_beyond p (moved_pointer (layout program) memory (target_of kind) p n)
+pointer_moved program memory (pointer target) p n = or_beyond p (moved_pointer (layout program) memory target p n)
+pointer_moved program memory kind p n = null
 
 abbrev pub is_pointer : CType → Bool
 is_pointer (pointer target) = true
@@ -167,9 +169,9 @@ abbrev pub number_or : Option ℤ → Pointer → ℤ
 number_or (Some z) p = z
 number_or None p = operators.truth (not (is_null p))
 
--- the value that an expression gives an object of this type (6.7.9p4)
+-- the value that an expression gives an object of this type, converted to it (6.7.9p4, p11)
 abbrev pub static_scalar : Program → Objects → Memory → CType → Tree → Value
-static_scalar program objects memory (integer kind) tree = integer_value kind (number_or (constant_of program tree) (address_of program objects memory tree))
+static_scalar program objects memory (integer kind) tree = integer_value kind (kinds.convert kind (number_or (constant_of program tree) (address_of program objects memory tree)))
 static_scalar program objects memory (pointer target) tree = pointer_value (address_of program objects memory tree)
 static_scalar program objects memory (array element count) tree = array_of (array element count) (characters_of tree)
 static_scalar program objects memory kind tree = unset

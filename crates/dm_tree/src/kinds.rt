@@ -9,7 +9,7 @@ use dm_int::{Kind, Op, greatest, least};
 use dm_type::{Shape, TypeId, Types};
 
 /// The kind of an integer type, const or not.
-pub(crate) fn integer_kind(types: &Types, id: TypeId) -> Option<Kind>
+pub fn integer_kind(types: &Types, id: TypeId) -> Option<Kind>
     requires { IsId types.now id }
     ensures { result ≡ constants.integer_kind (type_of types.now id) }
 {
@@ -32,7 +32,7 @@ fn plain_kind(types: &Types, id: TypeId) -> Option<Kind>
 }
 
 /// Whether a number is a value of the kind.
-pub(crate) fn in_range(kind: Kind, value: i128) -> bool
+pub fn in_range(kind: Kind, value: i128) -> bool
     ensures test { result ≡ is_in_range kind value }
     ensures fact { IsTrue result → InRange kind value }
 {
@@ -40,7 +40,7 @@ pub(crate) fn in_range(kind: Kind, value: i128) -> bool
 }
 
 /// Whether a number may stand on the right of an operator on values of the kind.
-pub(crate) fn may_stand_right(op: Op, kind: Kind, value: i128) -> bool
+pub fn may_stand_right(op: Op, kind: Kind, value: i128) -> bool
     ensures test { result ≡ is_right op kind value }
     ensures fact { IsTrue result → IsRight op kind value }
 {

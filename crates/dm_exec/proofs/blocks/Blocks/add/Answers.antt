@@ -1,9 +1,0 @@
--- The new object is the newest.
-use Rattle.std.proofs.Common.{ap, ◌∷◌, [], ◌++◌, ◌∙◌}
-use Rattle.dm_exec.specs.Blocks.{view_of_blocks}
-use Rattle.dm_exec.proofs.ChangedLemmas.{more-view}
-use Rattle.dm_exec.proofs.blocks.Blocks.add.Goals as goal
-
-pub returns-clause-view : goal.returns-clause-view
-returns-clause-view c = λ table.
-    ap (view_of_blocks table) (c.in_ok-push.ensures.items ∙ ap (λ all. all ++ c.args.block ∷ []) c.self.view_is) ∙ more-view table c.args.self.now c.args.block

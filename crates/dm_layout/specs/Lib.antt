@@ -1,0 +1,5 @@
+pub mod Distances
+pub mod Fields
+pub mod Kinds
+pub mod LaidOut
+pub mod Moves

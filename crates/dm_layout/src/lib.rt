@@ -1,0 +1,16 @@
+//! How the types of a program are laid out (ISO/IEC 9899:2011, 6.2.5p20, 6.7.2.1): what paths lead to, where its first byte is,
+//! and where pointers may move (6.5.6).
+#![tactic(auto)]
+
+mod apart;
+mod bytes;
+mod fields;
+mod kinds;
+mod layout;
+mod moves;
+
+pub use apart::distance;
+pub use bytes::byte_of;
+pub use kinds::{ObjectType, is_char, is_text};
+pub use layout::{Element, Field, Layout, Reached, bare, is_const};
+pub use moves::{Tail, moved};

@@ -1,0 +1,18 @@
+-- One object changes, or none.
+use Rattle.std.proofs.Common.{◌≡◌, ◌<◌, ◌≤◌, false, length, get_or, rules, refl, sym}
+use Rattle.std.proofs.lemmas.Option.{slice_get_read}
+use Rattle.dm_memory.proofs.ChangedLemmas.{change-past, ended}
+use Rattle.dm_memory.proofs.blocks.Blocks.end.Goals as goal
+
+pub returns-then-len-number : goal.returns-then-len-number
+returns-then-len-number c =
+    let past : length c.args.self.now ≤ c.args.number = search rules in
+    λ table. sym (change-past table c.args.number (λ block. record block { alive = false }) c.args.self.now past)
+
+pub returns : goal.returns
+returns c =
+    let items = c.self.inside.all.items in
+    let block = c.index_mut-block.result.now in
+    let within : c.args.number < length items = search rules in
+    let is : block ≡ get_or items c.args.number block = search rules in
+    λ table. ended table c.args.self.now items c.args.number block c.self.view_is (slice_get_read items (length items) c.args.number block refl within is)
