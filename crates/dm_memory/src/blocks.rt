@@ -60,6 +60,7 @@ impl Blocks {
         ensures number { IfOk result (λ number. number ≡ length self.old) }
         ensures ok { OnOk result (self.new ≡ self.old ++ block ∷ []) }
         ensures view { (table : Table) → OnOk result (view_of_blocks table self.new ≡ (length self.old, view_of_block table block) ∷ view_of_blocks table self.old) }
+        ensures known { (table : Table) → AreKnown table self.old → IsId table block.kind → OnOk result (AreKnown table self.new) }
         ensures err { OnErr result (self.new ≡ self.old) }
     {
         let number = self.all.len() as u64;
@@ -69,7 +70,8 @@ impl Blocks {
 
     /// The lifetime of an object ends.
     pub fn end(&mut self, number: u64)
-        ensures { (table : Table) → view_of_blocks table self.new
+        ensures known { (table : Table) → AreKnown table self.old → AreKnown table self.new }
+        ensures view { (table : Table) → view_of_blocks table self.new
             ≡ memory.changed_block number (λ block. record block { alive = false }) (view_of_blocks table self.old) }
     {
         let number = number as usize;
@@ -82,7 +84,8 @@ impl Blocks {
 
     /// A value is stored at a place. After an `Err` the object has none.
     pub fn store(&mut self, alloc: Global, at: &At, value: Value) -> Result<(), Memory>
-        ensures { (table : Table) → OnOk result (view_of_blocks table self.new
+        ensures known { (table : Table) → AreKnown table self.old → OnOk result (AreKnown table self.new) }
+        ensures view { (table : Table) → OnOk result (view_of_blocks table self.new
             ≡ memory.written (view_of_blocks table self.old) (view_of_at at.now) (view_of_value value)) }
     {
         let Name::Numbered(number) = &at.name else {

@@ -1,17 +1,22 @@
 //! Calls of the machine's functions. Each is one step.
 
-ghost use Rattle.std.specs.Prelude.{◌≡◌, map, IfOk};
-ghost use Rattle.dm_int.specs.Kinds.{InRange};
+ghost use Rattle.std.specs.Prelude.{◌≡◌, ◌++◌, pos, map, IfOk, OnOk};
+ghost use Rattle.dm_int.specs.declared.Kind.TheVariants.{Char, Int};
+ghost use Rattle.dm_type.specs.CTypes.{integer};
+ghost use Rattle.dm_type.specs.Tables.{Has};
 ghost use Rattle.dm_layout.specs.LaidOut.{laid_out};
 ghost use Rattle.dm_memory.specs.Blocks.{view_of_blocks, AreKnown};
 ghost use Rattle.dm_meaning.specs.Primitives as primitives;
+ghost use Rattle.dm_meaning.specs.Values as values;
+ghost use Rattle.dm_primitive.specs.declared.streams.Streams.{Streams as AllStreams};
 ghost use Rattle.dm_primitive.specs.Meanings.{meaning_of, IsAnswer, IsOver};
 ghost use Rattle.dm_value.specs.Views.{view_of_value};
 
+use crate::byte::byte_in;
 use crate::primitive::Primitive;
 use crate::streams::Streams;
 use crate::text::text;
-use dm_int::{Kind, convert};
+use dm_int::Kind;
 use dm_layout::Layout;
 use dm_meaning::Cause;
 use dm_memory::Blocks;
@@ -53,13 +58,6 @@ impl Primitive {
             Primitive::Exit => Ok(end_program(arguments)),
         }
     }
-}
-
-/// What is left of a number in a byte.
-fn byte_in(number: i128) -> u8
-    ensures { result ≡ primitives.byte_in number }
-{
-    convert(Kind::UChar, number) as u8
 }
 
 /// A value of int that is a byte.
@@ -114,11 +112,11 @@ fn put_line(
     let Pointer::To(at) = pointer else {
         return Ok(Answer::Refuses(Cause::Null));
     };
-    let line = match text(alloc, layout, blocks, character, at.as_ref())? {
+    let line = match text(alloc, layout, blocks, character, at)? {
         Ok(line) => line,
         Err(cause) => return Ok(Answer::Refuses(cause)),
     };
-    write(streams, &line)?;
+    write(streams, line.items())?;
     streams.output.push(b'\n')?;
     Ok(Answer::Gives(int(0)))
 }

@@ -2,11 +2,13 @@
 //! output.
 #![tactic(auto)]
 
+mod byte;
 mod call;
 mod primitive;
 mod streams;
 mod text;
 
+pub use byte::byte_in;
 pub use call::Answer;
 pub use primitive::Primitive;
 pub use streams::Streams;

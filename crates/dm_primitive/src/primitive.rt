@@ -1,15 +1,15 @@
 //! Which function of the machine a declaration names.
 
-ghost use Rattle.std.specs.Prelude.{◌≡◌, [], ◌∷◌, Some, IfSome, List, ℕ, option_map};
-ghost use Rattle.dm_int.specs.declared.Kind.{Kind as AnyKind};
-ghost use Rattle.dm_type.specs.Alike.{are_compatible};
+ghost use Rattle.std.specs.Prelude.{◌≡◌, true, false, Some, None, MatchOption, IfSome, All, List, ℕ, map, option_map, if◌then◌else◌};
+ghost use Rattle.dm_int.specs.declared.Kind.TheVariants.{Char, Int};
+ghost use Rattle.dm_type.specs.Alike.{are_compatible, match_as_parameters};
 ghost use Rattle.dm_type.specs.CTypes as ctypes;
-ghost use Rattle.dm_type.specs.Tables.{IsId, type_of};
+ghost use Rattle.dm_type.specs.Tables.{Has, IsId, type_of};
 ghost use Rattle.dm_meaning.specs.Memory.{Memory as AllMemory};
 ghost use Rattle.dm_meaning.specs.Objects.{Layout as AnyLayout};
 ghost use Rattle.dm_meaning.specs.Primitives as primitives;
 ghost use Rattle.dm_meaning.specs.Values.{Value as AnyValue};
-ghost use Rattle.dm_primitive.specs.Meanings.{meaning_of, IsOver, is_text_kind, first_parameter};
+ghost use Rattle.dm_primitive.specs.Meanings.{meaning_of, IsOver};
 
 use dm_int::Kind;
 use dm_layout::bare;
@@ -33,20 +33,93 @@ impl Primitive {
             primitives.Prim name.now (type_of types.now kind) layout memory arguments input output ≡ option_map (λ one. meaning_of one layout memory arguments input output) result }
         ensures over { IfSome result (IsOver types.now) }
     {
-        if name == b"putchar".as_slice() {
-            if returns_int(types, kind) && takes_int(types, kind) { Some(Primitive::Putchar) } else { None }
-        } else if name == b"getchar".as_slice() {
-            if returns_int(types, kind) && takes_nothing(types, kind) { Some(Primitive::Getchar) } else { None }
-        } else if name == b"puts".as_slice() {
-            if !returns_int(types, kind) {
-                return None;
-            }
-            let character = takes_text(types, kind)?;
-            Some(Primitive::Puts(character))
-        } else if name == b"exit".as_slice() {
-            if returns_nothing(types, kind) && takes_int(types, kind) { Some(Primitive::Exit) } else { None }
-        } else {
-            None
-        }
+        let Shape::Function(gives, parameters) = types.shape(kind) else {
+            return None;
+        };
+        named(types, name, *gives, parameters.items())
+    }
+}
+
+/// The function of this name, type of result and types of parameters.
+fn named(types: &Types, name: &[u8], gives: TypeId, parameters: &[TypeId]) -> Option<Primitive>
+    requires gives { IsId types.now gives }
+    requires parameters { All (IsId types.now) parameters.now }
+    ensures same { (layout : AnyLayout) (memory : AllMemory) (arguments : List AnyValue) (input output : List ℕ) →
+        primitives.Prim name.now (ctypes.function (type_of types.now gives) (ctypes.all_of (map (type_of types.now) parameters.now))) layout memory arguments input output
+        ≡ option_map (λ one. meaning_of one layout memory arguments input output) result }
+    ensures over { IfSome result (IsOver types.now) }
+{
+    if name == b"putchar".as_slice() {
+        return when(Primitive::Putchar, is_int(types, gives) && takes_int(types, parameters));
+    }
+    if name == b"getchar".as_slice() {
+        return when(Primitive::Getchar, is_int(types, gives) && parameters.is_empty());
+    }
+    if name == b"exit".as_slice() {
+        return when(Primitive::Exit, is_void(types, gives) && takes_int(types, parameters));
+    }
+    if name == b"puts".as_slice() && is_int(types, gives) {
+        let character = takes_text(types, parameters)?;
+        return Some(Primitive::Puts(character));
+    }
+    None
+}
+
+/// A function where something holds.
+fn when(primitive: Primitive, holds: bool) -> Option<Primitive>
+    ensures { result ≡ (if holds then Some primitive else None) }
+{
+    if holds { Some(primitive) } else { None }
+}
+
+fn is_int(types: &Types, id: TypeId) -> bool
+    requires { IsId types.now id }
+    ensures { result ≡ are_compatible (type_of types.now id) (ctypes.integer Int) }
+{
+    match types.shape(id) {
+        Shape::Integer(Kind::Int) => true,
+        _ => false,
+    }
+}
+
+fn is_void(types: &Types, id: TypeId) -> bool
+    requires { IsId types.now id }
+    ensures { result ≡ are_compatible (type_of types.now id) ctypes.void }
+{
+    match types.shape(id) {
+        Shape::Void => true,
+        _ => false,
+    }
+}
+
+/// Whether the only parameter is an int.
+fn takes_int(types: &Types, parameters: &[TypeId]) -> bool
+    requires { All (IsId types.now) parameters.now }
+    ensures { result ≡ match_as_parameters (ctypes.all_of (map (type_of types.now) parameters.now)) (ctypes.more_types (ctypes.integer Int) ctypes.no_types) }
+{
+    match parameters {
+        [parameter] => is_int(types, bare(types, *parameter)),
+        _ => false,
+    }
+}
+
+/// The number of the type char where the only parameter is a pointer to const char.
+fn takes_text(types: &Types, parameters: &[TypeId]) -> Option<TypeId>
+    requires { All (IsId types.now) parameters.now }
+    ensures { let matches = match_as_parameters (ctypes.all_of (map (type_of types.now) parameters.now)) (ctypes.more_types (ctypes.pointer (ctypes.const (ctypes.integer Char))) ctypes.no_types) in
+        MatchOption result (matches ≡ false) (λ character. (matches ≡ true) × Has types.now character (ctypes.integer Char)) }
+{
+    let [parameter] = parameters else {
+        return None;
+    };
+    let Shape::Pointer(target) = types.shape(bare(types, *parameter)) else {
+        return None;
+    };
+    let Shape::Const(character) = types.shape(*target) else {
+        return None;
+    };
+    match types.shape(*character) {
+        Shape::Integer(Kind::Char) => Some(*character),
+        _ => None,
     }
 }

@@ -1,5 +1,5 @@
 -- What the definitions of functions stand for.
-use Rattle.std.specs.Prelude.{◌≡◌, ℕ, List, Option, None, option_map, slice_index_or, map, length, IsTrue, IfSome}
+use Rattle.std.specs.Prelude.{◌≡◌, ℕ, List, Option, None, Some, option_map, slice_get, map, length, IsTrue, IfSome}
 use Rattle.dm_type.specs.Tables.{Table}
 use Rattle.dm_tree.specs.declared.unit.CoreExternal.{CoreExternal}
 use Rattle.dm_tree.specs.Trees.{parts_of}
@@ -17,7 +17,15 @@ pub record FunctionFits (table : Table) (one : Function) : Type 0 where
   pub known : IsTrue (are_known (length table.shapes) one.body.now)
   pub items : map (view table) one.items.now ≡ parts_of (view table one.body.now)
 
+-- the definition of a number, if there is one
+abbrev pub in_place : Option (Option Function) → Option Function
+in_place None = None
+in_place (Some one) = one
+
+abbrev pub at_number : List (Option Function) → ℕ → Option Function
+at_number functions d = in_place (slice_get functions d)
+
 -- those of a unit, by number
 pub record AreFunctions (table : Table) (externals : List CoreExternal) (functions : List (Option Function)) : Type 0 where
-  pub same : (d : ℕ) → option_map (view_of_function table) (slice_index_or functions d None) ≡ definition_in (definitions_in (map (view_of_external table) externals)) d
-  pub fit : (d : ℕ) → IfSome (slice_index_or functions d None) (FunctionFits table)
+  pub same : (d : ℕ) → option_map (view_of_function table) (at_number functions d) ≡ definition_in (definitions_in (map (view_of_external table) externals)) d
+  pub fit : (d : ℕ) → IfSome (at_number functions d) (FunctionFits table)

@@ -12,7 +12,7 @@ use Rattle.dm_program.specs.Statics.{view_of_static}
 
 pub record AreTables (table : Table) (unit : CoreUnit) (functions : List (Option Function)) (statics : List Static) (main : Function) : Type 0 where
   pub typed : IsTypedUnit table unit
-  pub functions : AreFunctions table unit.externals functions
-  pub statics : map (view_of_static table) statics ≡ (program_of table (view_of_unit table unit)).statics
-  pub main : main_of (program_of table (view_of_unit table unit)) ≡ Some (view_of_function table main)
-  pub main_fits : FunctionFits table main
+  pub definitions : AreFunctions table unit.externals functions
+  pub objects : map (view_of_static table) statics ≡ (program_of table (view_of_unit table unit)).statics
+  pub begins : main_of (program_of table (view_of_unit table unit)) ≡ Some (view_of_function table main)
+  pub begin_fits : FunctionFits table main

@@ -7,15 +7,17 @@ ghost use Rattle.dm_type.specs.Tables.{IsId};
 ghost use Rattle.dm_tree.specs.TypeNumbers.{are_known};
 ghost use Rattle.dm_tree.specs.Views.{view, view_of_declared};
 ghost use Rattle.dm_program.specs.Functions.{view_of_function, FunctionFits};
+ghost use Rattle.dm_program.specs.Sources.{meant};
 ghost use Rattle.dm_program.specs.Statics.{view_of_static};
 
 use crate::fixed::Static;
 use crate::function::Function;
 use dm_layout::Layout;
 use dm_tree::{Core, CoreUnit, Declared, constant};
+use dm_value::nth;
 use std::marker::Model;
 
-/// The program of a unit that defines `main`. Contracts see what the machine needs of the unit.
+/// The program of a unit that defines `main`. Contracts see the unit and its types.
 #[derive(Drop)]
 pub struct Program<'a> {
     unit: &'a CoreUnit,
@@ -27,14 +29,18 @@ pub struct Program<'a> {
 }
 
 impl<'a> Model for Program<'a> {
-    ghost use Rattle.dm_meaning.specs.Programs.{Program as Meant};
-    ghost use Rattle.dm_meaning.specs.Units.{program_of};
-    ghost use Rattle.dm_tree.specs.Views.{view_of_unit};
+    ghost use Rattle.std.specs.Coded.{codes};
+    ghost use Rattle.dm_tree.specs.contracts.tree.Core as core;
+    ghost use Rattle.dm_tree.specs.contracts.tree.Initial as initial;
+    ghost use Rattle.dm_tree.specs.contracts.tree.Local as local;
+    ghost use Rattle.dm_program.specs.Sources.{Source};
     ghost use Rattle.dm_program.specs.Tables.{AreTables};
 
-    ghost Value = { Meant };
+    ghost Value = { Source };
 
-    ghost view = { λ program. program_of program.layout (view_of_unit program.layout program.unit.now) };
+    ghost coded = { Prim.hlevel (codes, core.the_row.coded, initial.the_row.coded, local.the_row.coded) };
+
+    ghost view = { λ program. record { table = program.layout; unit = program.unit.now } };
 
     ghost invariant = { λ program. AreTables program.layout program.unit.now program.functions.items program.statics.items program.main };
 }
@@ -49,18 +55,18 @@ impl<'a> Program<'a> {
 
     /// The declaration of a number.
     pub fn declared(&self, number: u32) -> Option<&'a Declared>
-        ensures { MatchOption result (programs.declaration_of self.now number ≡ None)
-            (λ entry. (programs.declaration_of self.now number ≡ Some (view_of_declared self.now.table entry.now)) × IsId self.now.table entry.now.kind) }
+        ensures { MatchOption result (programs.declaration_of (meant self.now) number ≡ None)
+            (λ entry. (programs.declaration_of (meant self.now) number ≡ Some (view_of_declared self.now.table entry.now)) × IsId self.now.table entry.now.kind) }
     {
-        self.unit.declared.items().get(number as usize)
+        nth(self.unit.declared.items(), number as usize)
     }
 
     /// The definition of a function, if the program has one.
     pub fn function(&self, number: u32) -> Option<Function<'a>>
-        ensures { MatchOption result (programs.definition_of self.now number ≡ None)
-            (λ function. (programs.definition_of self.now number ≡ Some (view_of_function self.now.table function)) × FunctionFits self.now.table function) }
+        ensures { MatchOption result (programs.definition_of (meant self.now) number ≡ None)
+            (λ function. (programs.definition_of (meant self.now) number ≡ Some (view_of_function self.now.table function)) × FunctionFits self.now.table function) }
     {
-        match self.functions.get(number as usize) {
+        match nth(self.functions.as_slice(), number as usize) {
             Some(function) => *function,
             None => None,
         }
@@ -68,7 +74,7 @@ impl<'a> Program<'a> {
 
     /// The definition of `main`.
     pub fn main(&self) -> Function<'a>
-        ensures main { main_of self.now ≡ Some (view_of_function self.now.table result) }
+        ensures main { main_of (meant self.now) ≡ Some (view_of_function self.now.table result) }
         ensures fits { FunctionFits self.now.table result }
     {
         self.main
@@ -76,7 +82,7 @@ impl<'a> Program<'a> {
 
     /// The objects of static storage duration, in order.
     pub fn statics(&self) -> &[Static<'a>]
-        ensures { map (view_of_static self.now.table) result.now ≡ self.now.statics }
+        ensures { map (view_of_static self.now.table) result.now ≡ (meant self.now).statics }
     {
         self.statics.as_slice()
     }
@@ -84,7 +90,7 @@ impl<'a> Program<'a> {
     /// The value of an integer constant expression (6.6p6).
     pub fn constant(&self, tree: &Core) -> Option<i128>
         requires { IsTrue (are_known (length self.now.table.shapes) tree.now) }
-        ensures { result ≡ programs.constant_of self.now (view self.now.table tree.now) }
+        ensures { result ≡ programs.constant_of (meant self.now) (view self.now.table tree.now) }
     {
         constant(tree, &self.unit.declared, self.layout.types())
     }

@@ -4,13 +4,13 @@ use Rattle.std.proofs.lemmas.Option.{slice_get_read}
 use Rattle.dm_memory.proofs.ChangedLemmas.{change-past, ended}
 use Rattle.dm_memory.proofs.blocks.Blocks.end.Goals as goal
 
-pub returns-then-len-number : goal.returns-then-len-number
-returns-then-len-number c =
+pub returns-then-len-number-clause-view : goal.returns-then-len-number-clause-view
+returns-then-len-number-clause-view c =
     let past : length c.args.self.now ≤ c.args.number = search rules in
     λ table. sym (change-past table c.args.number (λ block. record block { alive = false }) c.args.self.now past)
 
-pub returns : goal.returns
-returns c =
+pub returns-clause-view : goal.returns-clause-view
+returns-clause-view c =
     let items = c.self.inside.all.items in
     let block = c.index_mut-block.result.now in
     let within : c.args.number < length items = search rules in

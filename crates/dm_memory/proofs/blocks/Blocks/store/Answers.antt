@@ -6,14 +6,14 @@ use Rattle.dm_value.specs.Views.{view_of_value}
 use Rattle.dm_memory.proofs.ChangedLemmas.{change-past, stored, written-numbered}
 use Rattle.dm_memory.proofs.blocks.Blocks.store.Goals as goal
 
-pub returns-then-len-number : goal.returns-then-len-number
-returns-then-len-number c =
+pub returns-then-len-number-clause-view : goal.returns-then-len-number-clause-view
+returns-then-len-number-clause-view c =
     let past : length c.args.self.now ≤ c.in-Numbered.number = search rules in
     λ table. sym (written-numbered _ c.args.at.now c.in-Numbered.number (view_of_value c.args.value) c.in-Numbered.is
     ∙ change-past table c.in-Numbered.number (λ block. record block { contents = values.with_part c.args.at.now.path (view_of_value c.args.value) block.contents }) c.args.self.now past)
 
-pub returns : goal.returns
-returns c =
+pub returns-clause-view : goal.returns-clause-view
+returns-clause-view c =
     let path = c.args.at.now.path in
     let value = view_of_value c.args.value in
     let changed = c.in_ok-after.ensures ∙ ap (λ steps. values.with_part steps value (view_of_value c.exchange-before.result)) c.steps.ensures in
