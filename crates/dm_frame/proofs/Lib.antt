@@ -1,1 +1,5 @@
 pub mod FormLemmas
+pub mod KeptLemmas
+pub mod BeginLemmas
+pub mod TaskLemmas
+pub mod EnterLemmas

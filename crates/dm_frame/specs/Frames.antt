@@ -33,3 +33,9 @@ pub record IsBegun (table : Table) (begun : Option Begun) (frame : Frame) (block
   pub frame_fits : FrameFits table frame
   pub begun_fits : BegunFits table begun
   pub blocks_fit : AreKnown table blocks
+
+-- The frame and the objects are what the definition leaves, and fit.
+pub record IsLeft (table : Table) (frame : Frame) (blocks : List Block) (turned : Turned) : Type 0 where
+  pub same : onward frame.objects (tasks_of table frame) (view_of_blocks table blocks) ≡ turned
+  pub fits : FrameFits table frame
+  pub known : AreKnown table blocks

@@ -4,6 +4,7 @@
 
 mod form;
 mod frame;
+mod jump;
 mod label;
 mod next;
 mod objects;

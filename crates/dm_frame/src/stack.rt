@@ -1,6 +1,6 @@
 //! Lists that grow and shrink at their front.
 
-ghost use Rattle.std.specs.Prelude.{◌≡◌, List as Sequence, ◌∷◌, [], length, reverse, MatchOption, OnOk, OnErr};
+ghost use Rattle.std.specs.Prelude.{◌≡◌, ◌<◌, ◌≤◌, ◌∷◌, [], length, reverse, MatchOption, OnOk, OnErr};
 
 use std::alloc::{AllocError, Global};
 use std::marker::Model;
@@ -45,6 +45,16 @@ impl<T> Stack<T> {
     pub fn pop(&mut self) -> Option<T>
         ensures { MatchOption result ((self.old ≡ []) × (self.new ≡ [])) (λ item. self.old ≡ item ∷ self.new) }
     {
+        self.items.pop()
+    }
+
+    /// The same, where there are more items than so many.
+    pub fn pop_above(&mut self, count: usize) -> Option<T>
+        ensures { MatchOption result ((length self.old ≤ count) × (self.new ≡ self.old)) (λ item. (count < length self.old) × (self.old ≡ item ∷ self.new)) }
+    {
+        if self.items.len() <= count {
+            return None;
+        }
         self.items.pop()
     }
 }

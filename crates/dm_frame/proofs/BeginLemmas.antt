@@ -1,0 +1,74 @@
+-- What is left of a frame where statements begin, form by form.
+use Rattle.std.proofs.Common.{◌≡◌, ℕ, List, [], ◌∷◌, ◌++◌, map, length, Option, Some, None, option_map, Bor, refl, ap, sym, ◌∙◌}
+use Rattle.dm_type.specs.Tables.{Table, type_of}
+use Rattle.dm_tree.proofs.ViewLemmas.{view-core}
+use Rattle.dm_tree.specs.declared.tree.Core.{Core, out-Core}
+use Rattle.dm_tree.specs.declared.tree.Form.{Form}
+use Rattle.dm_tree.specs.declared.tree.Form.TheVariants as form
+use Rattle.dm_tree.specs.Trees as label
+use Rattle.dm_tree.specs.Trees.{Tree, Spans, listed, trees}
+use Rattle.dm_tree.specs.Views.{Opened, opened_form, node_of, view}
+use Rattle.dm_meaning.specs.Memory.{Memory}
+use Rattle.dm_meaning.specs.Operations.{Objects}
+use Rattle.dm_meaning.specs.Programs.{Program}
+use Rattle.dm_meaning.specs.States as states
+use Rattle.dm_meaning.specs.Statements.{Turned, onward, begin_form, begin_statement, begin_tree, evaluation, unlabelled}
+use Rattle.dm_frame.specs.declared.frame.Frame.{Frame}
+use Rattle.dm_frame.specs.declared.task.Begun.{Begun}
+use Rattle.dm_frame.specs.declared.task.Loop.{Loop}
+use Rattle.dm_frame.specs.declared.task.Task.{Task}
+use Rattle.dm_frame.specs.declared.task.Task.TheVariants as task
+use Rattle.dm_frame.specs.Forms.{IsBegunForm}
+use Rattle.dm_frame.specs.Frames.{tasks_of}
+use Rattle.dm_frame.specs.Tasks.{kept, view_of_begun, view_of_loop, view_of_tasks}
+use Rattle.dm_frame.proofs.FormLemmas.{opened-Case, opened-Default}
+use Rattle.dm_frame.proofs.KeptLemmas.{kept-whole}
+
+-- ---- a task in front of those that are left
+
+module _ (table : Table) (before after : Frame) (same : after.objects ≡ before.objects) where
+  led : (first : Task) → after.tasks ≡ first ∷ before.tasks → tasks_of table after ≡ view_of_tasks table before.objects (first ∷ before.tasks)
+  led first is = ap (λ objects. view_of_tasks table objects after.tasks) same ∙ ap (view_of_tasks table before.objects) is
+
+  pub ends-led : after.tasks ≡ task.Ends (length before.objects) ∷ before.tasks → tasks_of table after ≡ states.ends before.objects ∷ tasks_of table before
+  ends-led is = led (task.Ends (length before.objects)) is ∙ ap (λ objects. states.ends objects ∷ tasks_of table before) (kept-whole before.objects)
+
+  pub switch-led : after.tasks ≡ task.EndsSwitch (length before.objects) ∷ before.tasks → tasks_of table after ≡ states.ends_switch before.objects ∷ tasks_of table before
+  switch-led is = led (task.EndsSwitch (length before.objects)) is ∙ ap (λ objects. states.ends_switch objects ∷ tasks_of table before) (kept-whole before.objects)
+
+  pub tests-led : (loop : Loop) → after.tasks ≡ task.Tests (length before.objects) loop ∷ before.tasks
+      → tasks_of table after ≡ states.tests before.objects (view_of_loop table loop) ∷ tasks_of table before
+  tests-led loop is = led (task.Tests (length before.objects) loop) is ∙ ap (λ objects. states.tests objects (view_of_loop table loop) ∷ tasks_of table before) (kept-whole before.objects)
+
+  pub again-led : (loop : Loop) → after.tasks ≡ task.Again (length before.objects) loop ∷ before.tasks
+      → tasks_of table after ≡ states.again before.objects (view_of_loop table loop) ∷ tasks_of table before
+  again-led loop is = led (task.Again (length before.objects) loop) is ∙ ap (λ objects. states.again objects (view_of_loop table loop) ∷ tasks_of table before) (kept-whole before.objects)
+
+  pub task-led : (first : Task) → after.tasks ≡ first ∷ before.tasks → tasks_of table after ≡ view_of_tasks table before.objects (first ∷ before.tasks)
+  task-led first is = led first is
+
+-- what is left where a statement begins that makes no objects
+pub form-begun : (table : Table) (before after : Frame) (one : Form) (opening : Opened) (begun : Option Begun) (rest : List states.Task) → opened_form table one ≡ opening
+    → after.objects ≡ before.objects → tasks_of table after ≡ rest
+    → ((program : Program) (names : ℕ → ℕ) (memory : Memory)
+    → onward before.objects (view_of_begun table begun ++ rest) memory ≡ begin_form program names before.objects (tasks_of table before) memory opening.label (listed (trees opening.parts)))
+    → IsBegunForm table (opened_form table one) before begun after
+form-begun table before after one opening begun rest opens same left meant = λ program names memory.
+    ap (λ objects. onward objects (view_of_begun table begun ++ tasks_of table after) memory) same
+    ∙ (ap (λ tasks. onward before.objects (view_of_begun table begun ++ tasks) memory) left
+    ∙ (meant program names memory
+    ∙ sym (ap (λ (o : Opened). begin_form program names before.objects (tasks_of table before) memory o.label (listed (trees o.parts))) opens)))
+
+-- ---- labels
+
+unlabelled-node : (table : Table) (core : Core) (opening : Opened) → opened_form table (out-Core core).form ≡ opening
+    → unlabelled (view table core) ≡ unlabelled (node_of opening (type_of table (out-Core core).kind) (out-Core core).inner (out-Core core).outer (out-Core core).place)
+unlabelled-node table core opening opens =
+    ap unlabelled (view-core table core)
+    ∙ ap (λ (o : Opened). unlabelled (node_of o (type_of table (out-Core core).kind) (out-Core core).inner (out-Core core).outer (out-Core core).place)) opens
+
+pub unlabelled-Case : (table : Table) (core a b : Core) → (out-Core core).form ≡ form.Case a b → unlabelled (view table core) ≡ unlabelled (view table b)
+unlabelled-Case table core a b is = unlabelled-node table core _ (ap (opened_form table) is ∙ opened-Case table a b)
+
+pub unlabelled-Default : (table : Table) (core a : Core) → (out-Core core).form ≡ form.Default a → unlabelled (view table core) ≡ unlabelled (view table a)
+unlabelled-Default table core a is = unlabelled-node table core _ (ap (opened_form table) is ∙ opened-Default table a)
