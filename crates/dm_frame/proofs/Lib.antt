@@ -3,3 +3,4 @@ pub mod KeptLemmas
 pub mod BeginLemmas
 pub mod TaskLemmas
 pub mod EnterLemmas
+pub mod SortLemmas

@@ -104,6 +104,21 @@ impl<'a> Frame<'a> {
         }
     }
 
+    /// The first part of a `for` begins: a declaration or an expression.
+    pub(crate) fn begin_start(&mut self, start: &'a Core) -> Result<Option<Begun<'a>>, Memory>
+        ensures objects { self.new.objects ≡ self.old.objects }
+        ensures same { (table : Table) → IfOk result (λ begun. view_of_begun table begun ++ tasks_of table self.new ≡ statements.start_tasks (Some (view table start.now)) ++ tasks_of table self.old) }
+        ensures fits { (table : Table) → FrameFits table self.old → TreeFits table start.now → IfOk result (λ begun. FrameFits table self.new × BegunFits table begun) }
+    {
+        match &start.form {
+            Form::Declare(_, locals) => {
+                self.tasks.push(Task::Declares(locals.items()))?;
+                Ok(None)
+            }
+            _ => Ok(begun(start, Use::Drops)),
+        }
+    }
+
     /// A `do` begins with its body.
     fn begin_do(&mut self, body: &'a Core, condition: &'a Core) -> Result<(), Memory>
         ensures objects { self.new.objects ≡ self.old.objects }

@@ -8,6 +8,7 @@ ghost use Rattle.dm_memory.specs.Blocks.{view_of_block, view_of_blocks, AreKnown
 ghost use Rattle.dm_meaning.specs.Memory as memory;
 ghost use Rattle.dm_meaning.specs.Operations as operations;
 ghost use Rattle.dm_meaning.specs.Statements as statements;
+ghost use Rattle.dm_program.specs.Sources.{meant};
 ghost use Rattle.dm_frame.specs.Entering.{IsEntered};
 
 use crate::stack::Stack;
@@ -29,7 +30,7 @@ pub(crate) fn enter(
     items: &[Core],
 ) -> Result<(), Memory>
     requires { AreKnown program.now.table blocks.old }
-    ensures { OnOk result (IsEntered program.now (statements.declared_in program.now (map (view program.now.table) items.now)) objects.old blocks.old objects.new blocks.new) }
+    ensures { OnOk result (IsEntered (meant program.now) (statements.declared_in (meant program.now) (map (view program.now.table) items.now)) objects.old blocks.old objects.new blocks.new) }
 {
     let mut left = items;
     while let Some((item, rest)) = left.split_first() {
@@ -48,7 +49,7 @@ pub(crate) fn enter_item(
     item: &Core,
 ) -> Result<(), Memory>
     requires { AreKnown program.now.table blocks.old }
-    ensures { OnOk result (IsEntered program.now (statements.declared_by program.now (view program.now.table item.now)) objects.old blocks.old objects.new blocks.new) }
+    ensures { OnOk result (IsEntered (meant program.now) (statements.declared_by (meant program.now) (view program.now.table item.now)) objects.old blocks.old objects.new blocks.new) }
 {
     match &item.form {
         Form::Declare(_, locals) => {
@@ -68,7 +69,7 @@ fn enter_locals(
     locals: &[Local],
 ) -> Result<(), Memory>
     requires { AreKnown program.now.table blocks.old }
-    ensures { OnOk result (IsEntered program.now (statements.automatic_in program.now (declarators_of (map (view_of_local program.now.table) locals.now))) objects.old blocks.old objects.new blocks.new) }
+    ensures { OnOk result (IsEntered (meant program.now) (statements.automatic_in (meant program.now) (declarators_of (map (view_of_local program.now.table) locals.now))) objects.old blocks.old objects.new blocks.new) }
 {
     let mut left = locals;
     while let Some((local, rest)) = left.split_first() {
@@ -87,7 +88,7 @@ fn enter_local(
     local: &Local,
 ) -> Result<(), Memory>
     requires { AreKnown program.now.table blocks.old }
-    ensures { OnOk result (IsEntered program.now (statements.automatic_in program.now ((view_of_local program.now.table local.now).declarator ∷ [])) objects.old blocks.old objects.new blocks.new) }
+    ensures { OnOk result (IsEntered (meant program.now) (statements.automatic_in (meant program.now) ((view_of_local program.now.table local.now).declarator ∷ [])) objects.old blocks.old objects.new blocks.new) }
 {
     match automatic(program, local) {
         Some(kind) => {
@@ -101,9 +102,9 @@ fn enter_local(
 
 /// The type of the object of automatic storage duration that a declarator defines, if it defines one.
 pub(crate) fn automatic(program: &Program, local: &Local) -> Option<TypeId>
-    ensures { MatchOption result (statements.is_automatic program.now (view_of_local program.now.table local.now).declarator ≡ false)
-        (λ kind. (statements.is_automatic program.now (view_of_local program.now.table local.now).declarator ≡ true)
-        × (statements.type_declared program.now local.now.declared ≡ type_of program.now.table kind) × IsId program.now.table kind) }
+    ensures { MatchOption result (statements.is_automatic (meant program.now) (view_of_local program.now.table local.now).declarator ≡ false)
+        (λ kind. (statements.is_automatic (meant program.now) (view_of_local program.now.table local.now).declarator ≡ true)
+        × (statements.type_declared (meant program.now) local.now.declared ≡ type_of program.now.table kind) × IsId program.now.table kind) }
 {
     if !local.defines {
         return None;

@@ -6,6 +6,7 @@ ghost use Rattle.dm_tree.specs.Views.{view};
 ghost use Rattle.dm_memory.specs.Blocks.{view_of_blocks, AreKnown};
 ghost use Rattle.dm_meaning.specs.Choices.{in_order};
 ghost use Rattle.dm_meaning.specs.Statements as statements;
+ghost use Rattle.dm_program.specs.Sources.{meant};
 ghost use Rattle.dm_frame.specs.Frames.{tasks_of, FrameFits, IsBegun};
 ghost use Rattle.dm_frame.specs.Tasks.{tree_or_none, view_of_loop, LoopFits, OptionFits, TreeFits, TreesFit};
 
@@ -33,7 +34,7 @@ pub fn begin_statement<'a>(
     requires blocks { AreKnown program.now.table blocks.old }
     requires tree { TreeFits program.now.table tree.now }
     ensures { let before = view_of_blocks program.now.table blocks.old in IfOk result (λ begun. IsBegun program.now.table begun frame.new blocks.new
-        (statements.begin_statement program.now (in_order before) frame.old.objects (tasks_of program.now.table frame.old) before (view program.now.table tree.now))) }
+        (statements.begin_statement (meant program.now) (in_order before) frame.old.objects (tasks_of program.now.table frame.old) before (view program.now.table tree.now))) }
 {
     let statement = unlabelled(tree);
     match &statement.form {
@@ -69,7 +70,7 @@ fn begin_block<'a>(
     requires blocks { AreKnown program.now.table blocks.old }
     requires items { TreesFit program.now.table items.now }
     ensures { let before = view_of_blocks program.now.table blocks.old in OnOk result (IsBegun program.now.table None frame.new blocks.new
-        (statements.begin_form program.now (in_order before) frame.old.objects (tasks_of program.now.table frame.old) before block (map (view program.now.table) items.now))) }
+        (statements.begin_form (meant program.now) (in_order before) frame.old.objects (tasks_of program.now.table frame.old) before block (map (view program.now.table) items.now))) }
 {
     frame.ends()?;
     frame.tasks.push(Task::Items(items))?;
@@ -91,7 +92,7 @@ fn begin_for<'a>(
     requires start { OptionFits program.now.table start }
     requires repeated { LoopFits program.now.table repeated }
     ensures { let before = view_of_blocks program.now.table blocks.old in IfOk result (λ begun. IsBegun program.now.table begun frame.new blocks.new
-        (statements.begin_for program.now (in_order before) frame.old.objects (tasks_of program.now.table frame.old) before (tree_or_none program.now.table start) (view_of_loop program.now.table repeated))) }
+        (statements.begin_for (meant program.now) (in_order before) frame.old.objects (tasks_of program.now.table frame.old) before (tree_or_none program.now.table start) (view_of_loop program.now.table repeated))) }
 {
     frame.ends()?;
     let Some(start) = start else {
