@@ -1,8 +1,8 @@
 -- Memory with one object more, or with a change of one.
-use Rattle.std.proofs.Common.{◌≡◌, ℕ, zero, suc, ◌+◌, ◌<◌, ◌≤◌, ◌==◌, Bool, true, false, if◌then◌else◌, List, [], ◌∷◌, ◌++◌, length, Option, Some, None, option_map, slice_get, slice_set, refl, sym, ap, ◌∙◌, arith, eq-eqb, ne_eqb}
+use Rattle.std.proofs.Common.{◌≡◌, ℕ, zero, suc, ◌+◌, ◌<◌, ◌≤◌, ◌==◌, Bool, true, false, if◌then◌else◌, List, [], ◌∷◌, ◌++◌, length, Option, Some, None, option_map, slice_get, slice_set, refl, sym, subst, ap, ◌∙◌, arith, eq-eqb, ne_eqb}
 use Rattle.std.proofs.lemmas.List.{set-set}
 use Rattle.std.proofs.lemmas.Option.{none-some, slice_get_past}
-use Rattle.dm_type.specs.Tables.{Table}
+use Rattle.dm_type.specs.Tables.{Table, IsId}
 use Rattle.dm_meaning.specs.Memory as memory
 use Rattle.dm_meaning.specs.Values as values
 use Rattle.dm_meaning.specs.Memory.{Memory, look_up, changed_block}
@@ -10,7 +10,7 @@ use Rattle.dm_memory.specs.declared.blocks.Block.{Block}
 use Rattle.dm_value.specs.declared.place.At.{At}
 use Rattle.dm_value.specs.declared.place.Name.TheVariants.{Numbered}
 use Rattle.dm_value.specs.declared.value.Value.{Value}
-use Rattle.dm_memory.specs.Blocks.{view_of_block, numbered_from, view_of_blocks, look_up-view, IsExchanged}
+use Rattle.dm_memory.specs.Blocks.{view_of_block, numbered_from, view_of_blocks, look_up-view, AreKnown, IsExchanged}
 use Rattle.dm_value.specs.Places.{view_of_at, view_of_name}
 use Rattle.dm_value.specs.Views.{view_of_value}
 
@@ -102,6 +102,31 @@ stored table blocks between later n hidden taken after left path value out chang
     ∙ sym (change-view table n (λ block. record block { contents = values.with_part path value block.contents }) blocks out.block (record out.block { contents = after }) out.found
     (ap (λ contents. record (view_of_block table out.block) { contents = contents })
     (ap (values.with_part path value) (ap view_of_value (sym out.was)) ∙ sym changed)))
+
+-- the types of objects stay those of the table where one is replaced by another of its type
+known-set : (table : Table) (blocks : List Block) (n : ℕ) (before after : Block) → slice_get blocks n ≡ Some before → before.kind ≡ after.kind
+    → AreKnown table blocks → AreKnown table (slice_set blocks n after)
+known-set table [] n before after found same known = absurd (none-some before found)
+known-set table (block ∷ blocks) zero before after found same known = at
+  where
+    at : AreKnown table (after ∷ blocks)
+    at zero other less = subst (IsId table) (ap (λ b. b.kind) (ap (taken-out block) found) ∙ same) (known zero other less)
+    at (suc k) other less = known (suc k) other less
+known-set table (block ∷ blocks) (suc n) before after found same known = at (known-set table blocks n before after found same (λ k other less. known (suc k) other (omega (arith, less))))
+  where
+    at : AreKnown table (slice_set blocks n after) → AreKnown table (block ∷ slice_set blocks n after)
+    at rest zero other less = known zero other (omega arith)
+    at rest (suc k) other less = rest k other (omega (arith, less))
+
+pub known-exchanged : (table : Table) (blocks later : List Block) (n : ℕ) (contents taken : Value) → IsExchanged blocks n contents taken later
+    → AreKnown table blocks → AreKnown table later
+known-exchanged table blocks later n contents taken out known =
+    subst (AreKnown table) (sym out.now) (known-set table blocks n out.block (record out.block { contents = contents }) out.found refl known)
+
+pub known-ended : (table : Table) (blocks items : List Block) (n : ℕ) (block : Block) → items ≡ blocks → slice_get items n ≡ Some block
+    → AreKnown table blocks → AreKnown table (slice_set items n (record block { alive = false }))
+known-ended table blocks items n block same found known =
+    known-set table items n block (record block { alive = false }) found refl (subst (AreKnown table) (sym same) known)
 
 -- the lifetime of an object ends
 pub ended : (table : Table) (blocks items : List Block) (n : ℕ) (block : Block) → items ≡ blocks → slice_get items n ≡ Some block

@@ -60,7 +60,6 @@ impl Blocks {
         ensures number { IfOk result (λ number. number ≡ length self.old) }
         ensures ok { OnOk result (self.new ≡ self.old ++ block ∷ []) }
         ensures view { (table : Table) → OnOk result (view_of_blocks table self.new ≡ (length self.old, view_of_block table block) ∷ view_of_blocks table self.old) }
-        ensures known { (table : Table) → AreKnown table self.old → IsId table block.kind → OnOk result (AreKnown table self.new) }
         ensures err { OnErr result (self.new ≡ self.old) }
     {
         let number = self.all.len() as u64;
@@ -70,9 +69,9 @@ impl Blocks {
 
     /// The lifetime of an object ends.
     pub fn end(&mut self, number: u64)
-        ensures known { (table : Table) → AreKnown table self.old → AreKnown table self.new }
         ensures view { (table : Table) → view_of_blocks table self.new
             ≡ memory.changed_block number (λ block. record block { alive = false }) (view_of_blocks table self.old) }
+        ensures known { (table : Table) → AreKnown table self.old → AreKnown table self.new }
     {
         let number = number as usize;
         if self.all.len() <= number {
@@ -84,9 +83,9 @@ impl Blocks {
 
     /// A value is stored at a place. After an `Err` the object has none.
     pub fn store(&mut self, alloc: Global, at: &At, value: Value) -> Result<(), Memory>
-        ensures known { (table : Table) → AreKnown table self.old → OnOk result (AreKnown table self.new) }
         ensures view { (table : Table) → OnOk result (view_of_blocks table self.new
             ≡ memory.written (view_of_blocks table self.old) (view_of_at at.now) (view_of_value value)) }
+        ensures known { (table : Table) → AreKnown table self.old → AreKnown table self.new }
     {
         let Name::Numbered(number) = &at.name else {
             return Ok(());

@@ -117,13 +117,28 @@ pub fn to_subtract(
         ++ table.use_causes (view_of_blocks types blocks.now) (view_of_pointer a.now)
         ++ table.use_causes (view_of_blocks types blocks.now) (view_of_pointer b.now)) }
 {
-    let null = when(Cause::Null, a.is_null() | b.is_null());
-    let apart = when(Cause::Pointer, distance.is_none());
+    let null = when(Cause::Null, is_one_null(a, b));
+    let apart = when(Cause::Pointer, is_unknown(distance));
     let first = to_use(blocks, a);
     let second = to_use(blocks, b);
     let two = sooner(null, apart);
     let three = sooner(two, first);
     sooner(three, second)
+}
+
+fn is_one_null(a: &Pointer, b: &Pointer) -> bool
+    ensures { result ≡ (table.is_null (view_of_pointer a.now) || table.is_null (view_of_pointer b.now)) }
+{
+    a.is_null() || b.is_null()
+}
+
+fn is_unknown(distance: Option<i128>) -> bool
+    ensures { result ≡ is_none distance }
+{
+    match distance {
+        Some(_) => false,
+        None => true,
+    }
 }
 
 /// Why comparing two pointers for equality is undefined, if it is (6.5.9p2).

@@ -1,17 +1,19 @@
 -- What evaluations and steps of nodes stand for.
 --     view_of_did world did      what a step did, which left this world
+--     Does table before after did step      what a step did, which found these objects and left those
 --     asks_names label      the step of a node asks what names stand for
-use Rattle.std.specs.Prelude.{ℕ, Bool, true, false, List, [], ◌∷◌, Option, Some, None}
+use Rattle.std.specs.Prelude.{◌≡◌, Bool, true, false, List, [], ◌∷◌, Option, Some, None}
 use Rattle.dm_type.specs.Tables.{Table, IsId, type_of}
 use Rattle.dm_tree.specs.Trees.{Label, enumerator, object}
 use Rattle.dm_meaning.specs.Values as values
 use Rattle.dm_meaning.specs.Operations as operations
-use Rattle.dm_meaning.specs.Operations.{World}
+use Rattle.dm_meaning.specs.Operations.{Scene, World}
 use Rattle.dm_value.specs.declared.place.At.{At}
 use Rattle.dm_value.specs.Places.{view_of_at}
 use Rattle.dm_value.specs.Views.{view_of_value}
 use Rattle.dm_memory.specs.declared.blocks.Block.{Block}
 use Rattle.dm_memory.specs.Blocks.{view_of_blocks}
+use Rattle.dm_memory.specs.Scenes.{Beside, scene_in, world_in}
 use Rattle.dm_operate.specs.declared.evaluation.Evaluation.{Evaluation}
 use Rattle.dm_operate.specs.declared.evaluation.Evaluation.TheVariants.{Value, Object}
 use Rattle.dm_operate.specs.declared.evaluation.Operand.{Operand}
@@ -46,9 +48,10 @@ abbrev pub view_of_did : World → Did → operations.Did
 view_of_did world (Gives result lock) = operations.gives world (view_of_evaluation result) (view_of_lock lock)
 view_of_did world (Breaks cause) = operations.breaks cause
 
--- the world with these objects
-abbrev pub world_of : Table → List Block → List ℕ → List ℕ → World
-world_of table blocks input output = record { memory = view_of_blocks table blocks; input = input; output = output }
+-- what is done by a step in every scene with these types, from every world with the objects before it to that with those after it
+abbrev pub Does : Table → List Block → List Block → Did → (Scene → World → operations.Did) → Type 0
+Does table before after did step = (beside : Beside)
+    → view_of_did (world_in (view_of_blocks table after) beside) did ≡ step (scene_in table beside) (world_in (view_of_blocks table before) beside)
 
 -- what the names of objects and enumerators stand for is looked up before their step
 abbrev pub asks_names : Label → Bool

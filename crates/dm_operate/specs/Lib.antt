@@ -1,1 +1,4 @@
 pub mod Evaluations
+pub mod Numbers
+pub mod Pairs
+pub mod Replacements

@@ -1,7 +1,7 @@
 -- One object changes, or none.
 use Rattle.std.proofs.Common.{◌≡◌, ◌<◌, ◌≤◌, false, length, get_or, rules, refl, sym}
 use Rattle.std.proofs.lemmas.Option.{slice_get_read}
-use Rattle.dm_memory.proofs.ChangedLemmas.{change-past, ended}
+use Rattle.dm_memory.proofs.ChangedLemmas.{change-past, ended, known-ended}
 use Rattle.dm_memory.proofs.blocks.Blocks.end.Goals as goal
 
 pub returns-then-len-number-clause-view : goal.returns-then-len-number-clause-view
@@ -16,3 +16,11 @@ returns-clause-view c =
     let within : c.args.number < length items = search rules in
     let is : block ≡ get_or items c.args.number block = search rules in
     λ table. ended table c.args.self.now items c.args.number block c.self.view_is (slice_get_read items (length items) c.args.number block refl within is)
+
+pub returns-clause-known : goal.returns-clause-known
+returns-clause-known c =
+    let items = c.self.inside.all.items in
+    let block = c.index_mut-block.result.now in
+    let within : c.args.number < length items = search rules in
+    let is : block ≡ get_or items c.args.number block = search rules in
+    λ table known. known-ended table c.args.self.now items c.args.number block c.self.view_is (slice_get_read items (length items) c.args.number block refl within is) known
