@@ -21,7 +21,7 @@ use Rattle.dm_frame.specs.declared.task.Task.TheVariants as task
 use Rattle.dm_frame.specs.Forms.{IsBegunForm}
 use Rattle.dm_frame.specs.Frames.{tasks_of}
 use Rattle.dm_frame.specs.Tasks.{kept, view_of_begun, view_of_loop, view_of_tasks}
-use Rattle.dm_frame.proofs.FormLemmas.{opened-Case, opened-Default}
+use Rattle.dm_program.proofs.FormLemmas.{opened-Case, opened-Default}
 use Rattle.dm_frame.proofs.KeptLemmas.{kept-whole}
 
 -- ---- a task in front of those that are left

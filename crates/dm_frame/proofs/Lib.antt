@@ -1,6 +1,4 @@
-pub mod FormLemmas
-pub mod KeptLemmas
 pub mod BeginLemmas
-pub mod TaskLemmas
 pub mod EnterLemmas
-pub mod SortLemmas
+pub mod KeptLemmas
+pub mod TaskLemmas

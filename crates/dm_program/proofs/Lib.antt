@@ -1,1 +1,3 @@
+pub mod FormLemmas
 pub mod ProgramLemmas
+pub mod SortLemmas

@@ -9,9 +9,10 @@ use Rattle.dm_tree.specs.declared.unit.Declared.{Declared}
 use Rattle.dm_tree.specs.TypeNumbers.{entry_has_known}
 use Rattle.dm_tree.specs.Units.{Declaration}
 use Rattle.dm_tree.specs.Views.{view_of_declared}
-use Rattle.dm_meaning.specs.Programs.{Definition, declaration_at, definition_in}
+use Rattle.dm_meaning.specs.Programs.{declaration_at, definition_of}
 use Rattle.dm_program.specs.declared.function.Function.{Function}
 use Rattle.dm_program.specs.Functions.{view_of_function, FunctionFits}
+use Rattle.dm_program.specs.Sources.{Source, meant}
 
 abbrev other : {A : Type 0} → A → Option A → A
 other x None = x
@@ -38,8 +39,8 @@ declared-found table declared items d (Some entry) same known found =
     (slice_get-map (view_of_declared table) declared d ∙ ap (option_map (view_of_declared table)) at,
     ltb-true entry.now.kind (length table.shapes) (each-passes (entry_has_known (length table.shapes)) declared d entry.now known at))
 
--- the definition of a number fits the table
-pub function-found : (table : Table) (definitions : List Definition) (d : ℕ) (result : Option Function) → option_map (view_of_function table) result ≡ definition_in definitions d
-    → IfSome result (FunctionFits table) → MatchOption result (definition_in definitions d ≡ None) (λ one. (definition_in definitions d ≡ Some (view_of_function table one)) × FunctionFits table one)
-function-found table definitions d None same fits = sym same
-function-found table definitions d (Some one) same fits = (sym same, fits)
+-- the definition of a number fits the program
+pub function-found : (source : Source) (d : ℕ) (result : Option Function) → option_map (view_of_function source.table) result ≡ definition_of (meant source) d
+    → IfSome result (FunctionFits source) → MatchOption result (definition_of (meant source) d ≡ None) (λ one. (definition_of (meant source) d ≡ Some (view_of_function source.table one)) × FunctionFits source one)
+function-found source d None same fits = sym same
+function-found source d (Some one) same fits = (sym same, fits)

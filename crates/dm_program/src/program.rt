@@ -42,7 +42,7 @@ impl<'a> Model for Program<'a> {
 
     ghost view = { λ program. record { table = program.layout; unit = program.unit.now } };
 
-    ghost invariant = { λ program. AreTables program.layout program.unit.now program.functions.items program.statics.items program.main };
+    ghost invariant = { λ program. AreTables (record { table = program.layout; unit = program.unit.now }) program.functions.items program.statics.items program.main };
 }
 
 impl<'a> Program<'a> {
@@ -64,7 +64,7 @@ impl<'a> Program<'a> {
     /// The definition of a function, if the program has one.
     pub fn function(&self, number: u32) -> Option<Function<'a>>
         ensures { MatchOption result (programs.definition_of (meant self.now) number ≡ None)
-            (λ function. (programs.definition_of (meant self.now) number ≡ Some (view_of_function self.now.table function)) × FunctionFits self.now.table function) }
+            (λ function. (programs.definition_of (meant self.now) number ≡ Some (view_of_function self.now.table function)) × FunctionFits self.now function) }
     {
         match nth(self.functions.as_slice(), number as usize) {
             Some(function) => *function,
@@ -75,7 +75,7 @@ impl<'a> Program<'a> {
     /// The definition of `main`.
     pub fn main(&self) -> Function<'a>
         ensures main { main_of (meant self.now) ≡ Some (view_of_function self.now.table result) }
-        ensures fits { FunctionFits self.now.table result }
+        ensures fits { FunctionFits self.now result }
     {
         self.main
     }

@@ -81,19 +81,19 @@ module _ (table : Table) where
   sorted-layer (layer.SizeofTree a) = by-seen (layer.SizeofTree a) (record { item = λ tree trees. refl; start = λ tree. refl; declared = λ program. refl; begun = λ program names objects rest memory trees. refl; behind = λ kind spans parts. refl })
   sorted-layer (layer.SizeofKind type lengths) = by-seen (layer.SizeofKind type lengths) (record { item = λ tree trees. refl; start = λ tree. refl; declared = λ program. refl; begun = λ program names objects rest memory trees. refl; behind = λ kind spans parts. refl })
   sorted-layer layer.Empty = by-seen layer.Empty (record { item = λ tree trees. refl; start = λ tree. refl; declared = λ program. refl; begun = λ program names objects rest memory trees. refl; behind = λ kind spans parts. refl })
-  sorted-layer (layer.Block items) = is-Block items (sym (form.rolls-Block items))
-  sorted-layer (layer.Declare lengths locals) = is-Declare lengths locals (sym (form.rolls-Declare lengths locals))
-  sorted-layer (layer.Full a) = is-Full a (sym (form.rolls-Full a))
-  sorted-layer (layer.If a b c) = is-If a b c (sym (form.rolls-If a b c))
-  sorted-layer (layer.Switch a items) = is-Switch a items (sym (form.rolls-Switch a items))
-  sorted-layer (layer.Case a b) = is-Case a b (sym (form.rolls-Case a b))
-  sorted-layer (layer.Default a) = is-Default a (sym (form.rolls-Default a))
-  sorted-layer (layer.While a b) = is-While a b (sym (form.rolls-While a b))
-  sorted-layer (layer.Do a b) = is-Do a b (sym (form.rolls-Do a b))
-  sorted-layer (layer.For a b c body) = is-For a b c body (sym (form.rolls-For a b c body))
-  sorted-layer layer.Break = is-Break (sym form.rolls-Break)
-  sorted-layer layer.Continue = is-Continue (sym form.rolls-Continue)
-  sorted-layer (layer.Return a) = is-Return a (sym (form.rolls-Return a))
+  sorted-layer (layer.Block items) = is-Block items (form.rolls-Block items)
+  sorted-layer (layer.Declare lengths locals) = is-Declare lengths locals (form.rolls-Declare lengths locals)
+  sorted-layer (layer.Full a) = is-Full a (form.rolls-Full a)
+  sorted-layer (layer.If a b c) = is-If a b c (form.rolls-If a b c)
+  sorted-layer (layer.Switch a items) = is-Switch a items (form.rolls-Switch a items)
+  sorted-layer (layer.Case a b) = is-Case a b (form.rolls-Case a b)
+  sorted-layer (layer.Default a) = is-Default a (form.rolls-Default a)
+  sorted-layer (layer.While a b) = is-While a b (form.rolls-While a b)
+  sorted-layer (layer.Do a b) = is-Do a b (form.rolls-Do a b)
+  sorted-layer (layer.For a b c body) = is-For a b c body (form.rolls-For a b c body)
+  sorted-layer layer.Break = is-Break form.rolls-Break
+  sorted-layer layer.Continue = is-Continue form.rolls-Continue
+  sorted-layer (layer.Return a) = is-Return a (form.rolls-Return a)
 
   -- each form is one of them
   pub sorted : (one : Form) → Sorted table one
