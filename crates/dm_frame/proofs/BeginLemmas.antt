@@ -1,12 +1,14 @@
 -- What is left of a frame where statements begin, form by form.
 use Rattle.std.proofs.Common.{◌≡◌, ℕ, List, [], ◌∷◌, ◌++◌, map, length, Option, Some, None, option_map, Bor, refl, ap, sym, ◌∙◌}
+use Rattle.dm_type.specs.CTypes.{CType}
 use Rattle.dm_type.specs.Tables.{Table, type_of}
 use Rattle.dm_tree.proofs.ViewLemmas.{view-core}
 use Rattle.dm_tree.specs.declared.tree.Core.{Core, out-Core}
 use Rattle.dm_tree.specs.declared.tree.Form.{Form}
 use Rattle.dm_tree.specs.declared.tree.Form.TheVariants as form
+use Rattle.dm_tree.specs.declared.tree.Local.{Local}
 use Rattle.dm_tree.specs.Trees as label
-use Rattle.dm_tree.specs.Trees.{Tree, Spans, listed, trees}
+use Rattle.dm_tree.specs.Trees.{Tree, Trees, Spans, listed, node, trees}
 use Rattle.dm_tree.specs.Views.{Opened, opened_form, node_of, view}
 use Rattle.dm_meaning.specs.Memory.{Memory}
 use Rattle.dm_meaning.specs.Operations.{Objects}
@@ -18,10 +20,12 @@ use Rattle.dm_frame.specs.declared.task.Begun.{Begun}
 use Rattle.dm_frame.specs.declared.task.Loop.{Loop}
 use Rattle.dm_frame.specs.declared.task.Task.{Task}
 use Rattle.dm_frame.specs.declared.task.Task.TheVariants as task
+use Rattle.dm_frame.specs.declared.task.Use.{Use}
 use Rattle.dm_frame.specs.Forms.{IsBegunForm}
 use Rattle.dm_frame.specs.Frames.{tasks_of}
-use Rattle.dm_frame.specs.Tasks.{kept, view_of_begun, view_of_loop, view_of_tasks}
-use Rattle.dm_program.proofs.FormLemmas.{opened-Case, opened-Default}
+use Rattle.dm_frame.specs.Tasks.{kept, view_of_begun, view_of_loop, view_of_tasks, view_of_use}
+use Rattle.dm_program.proofs.FormLemmas.{opened-Block, opened-Break, opened-Case, opened-Continue, opened-Declare, opened-Default, opened-Do, opened-For, opened-Full, opened-If, opened-Return, opened-Switch, opened-While}
+use Rattle.dm_program.proofs.SortLemmas.{Sorted, is-Block, is-Declare, is-Full, is-If, is-Switch, is-Case, is-Default, is-While, is-Do, is-For, is-Break, is-Continue, is-Return, is-inert, sorted}
 use Rattle.dm_frame.proofs.KeptLemmas.{kept-whole}
 
 -- ---- a task in front of those that are left
@@ -48,16 +52,23 @@ module _ (table : Table) (before after : Frame) (same : after.objects ≡ before
   task-led first is = led first is
 
 -- what is left where a statement begins that makes no objects
-pub form-begun : (table : Table) (before after : Frame) (one : Form) (opening : Opened) (begun : Option Begun) (rest : List states.Task) → opened_form table one ≡ opening
-    → after.objects ≡ before.objects → tasks_of table after ≡ rest
+pub form-begun : (table : Table) (before after : Frame) (one : Form) (opening : Opened) (begun : Option Begun) (first rest : List states.Task) → opened_form table one ≡ opening
+    → after.objects ≡ before.objects → view_of_begun table begun ≡ first → tasks_of table after ≡ rest
     → ((program : Program) (names : ℕ → ℕ) (memory : Memory)
-    → onward before.objects (view_of_begun table begun ++ rest) memory ≡ begin_form program names before.objects (tasks_of table before) memory opening.label (listed (trees opening.parts)))
+    → onward before.objects (first ++ rest) memory ≡ begin_form program names before.objects (tasks_of table before) memory opening.label (listed (trees opening.parts)))
     → IsBegunForm table (opened_form table one) before begun after
-form-begun table before after one opening begun rest opens same left meant = λ program names memory.
+form-begun table before after one opening begun first rest opens same seen left meant = λ program names memory.
     ap (λ objects. onward objects (view_of_begun table begun ++ tasks_of table after) memory) same
     ∙ (ap (λ tasks. onward before.objects (view_of_begun table begun ++ tasks) memory) left
+    ∙ (ap (λ tasks. onward before.objects (tasks ++ rest) memory) seen
     ∙ (meant program names memory
-    ∙ sym (ap (λ (o : Opened). begin_form program names before.objects (tasks_of table before) memory o.label (listed (trees o.parts))) opens)))
+    ∙ sym (ap (λ (o : Opened). begin_form program names before.objects (tasks_of table before) memory o.label (listed (trees o.parts))) opens))))
+
+-- a full expression that begins
+pub begun-seen : (table : Table) (begun : Option Begun) (tree : Bor Core) (use_of : Use) (core : Core) → begun ≡ Some (record { tree = tree; use_of = use_of }) → tree.now ≡ core
+    → view_of_begun table begun ≡ evaluation (view table core) (view_of_use table use_of) ∷ []
+begun-seen table begun tree use_of core is same =
+    ap (view_of_begun table) is ∙ ap (λ one. evaluation (view table one) (view_of_use table use_of) ∷ []) same
 
 -- ---- labels
 
@@ -72,3 +83,37 @@ unlabelled-Case table core a b is = unlabelled-node table core _ (ap (opened_for
 
 pub unlabelled-Default : (table : Table) (core a : Core) → (out-Core core).form ≡ form.Default a → unlabelled (view table core) ≡ unlabelled (view table a)
 unlabelled-Default table core a is = unlabelled-node table core _ (ap (opened_form table) is ∙ opened-Default table a)
+
+-- a node by its label and parts
+seen-as : (table : Table) (core : Core) (opening : Opened) → opened_form table (out-Core core).form ≡ opening
+    → view table core ≡ node_of opening (type_of table (out-Core core).kind) (out-Core core).inner (out-Core core).outer (out-Core core).place
+seen-as table core opening opens =
+    view-core table core ∙ ap (λ (o : Opened). node_of o (type_of table (out-Core core).kind) (out-Core core).inner (out-Core core).outer (out-Core core).place) opens
+
+-- a statement without a label is the one behind its labels
+module _ (table : Table) (core : Core) (no-case : (a b : Core) → (out-Core core).form ≡ form.Case a b → ⊥) (no-default : (a : Core) → (out-Core core).form ≡ form.Default a → ⊥) where
+  plainly : (opening : Opened) → opened_form table (out-Core core).form ≡ opening
+      → ((kind : CType) (spans : Spans) (parts : Trees) → unlabelled (node opening.label kind spans parts) ≡ node opening.label kind spans parts) → unlabelled (view table core) ≡ view table core
+  plainly opening opens stays =
+      unlabelled-node table core opening opens
+      ∙ (stays (type_of table (out-Core core).kind) (record { inner = (out-Core core).inner; outer = (out-Core core).outer; place = (out-Core core).place }) (trees opening.parts)
+      ∙ sym (seen-as table core opening opens))
+
+  by-sort : Sorted table (out-Core core).form → unlabelled (view table core) ≡ view table core
+  by-sort (is-Block items is) = plainly _ (ap (opened_form table) is ∙ opened-Block table items) (λ kind spans parts. refl)
+  by-sort (is-Declare lengths locals is) = plainly _ (ap (opened_form table) is ∙ opened-Declare table lengths locals) (λ kind spans parts. refl)
+  by-sort (is-Full a is) = plainly _ (ap (opened_form table) is ∙ opened-Full table a) (λ kind spans parts. refl)
+  by-sort (is-If a b c is) = plainly _ (ap (opened_form table) is ∙ opened-If table a b c) (λ kind spans parts. refl)
+  by-sort (is-Switch a items is) = plainly _ (ap (opened_form table) is ∙ opened-Switch table a items) (λ kind spans parts. refl)
+  by-sort (is-Case a b is) = absurd (no-case a b is)
+  by-sort (is-Default a is) = absurd (no-default a is)
+  by-sort (is-While a b is) = plainly _ (ap (opened_form table) is ∙ opened-While table a b) (λ kind spans parts. refl)
+  by-sort (is-Do a b is) = plainly _ (ap (opened_form table) is ∙ opened-Do table a b) (λ kind spans parts. refl)
+  by-sort (is-For a b c body is) = plainly _ (ap (opened_form table) is ∙ opened-For table a b c body) (λ kind spans parts. refl)
+  by-sort (is-Break is) = plainly _ (ap (opened_form table) is ∙ opened-Break table) (λ kind spans parts. refl)
+  by-sort (is-Continue is) = plainly _ (ap (opened_form table) is ∙ opened-Continue table) (λ kind spans parts. refl)
+  by-sort (is-Return a is) = plainly _ (ap (opened_form table) is ∙ opened-Return table a) (λ kind spans parts. refl)
+  by-sort (is-inert inert) = plainly _ refl inert.behind
+
+  pub unlabelled-other : unlabelled (view table core) ≡ view table core
+  unlabelled-other = by-sort (sorted table (out-Core core).form)

@@ -59,13 +59,13 @@ made-append program n m [] es memory e = let same : n ≡ m = omega (arith, e) i
 made-append program n m (d ∷ ds) es memory e = made-append program (suc n) m ds es ((n, new_block (layout program) (type_declared program d)) ∷ memory) (omega (arith, e))
 
 pub none-entered : (program : Program) (objects : Objects) (blocks : List Block) → AreKnown program.table blocks → IsEntered program [] objects blocks objects blocks
-none-entered program objects blocks known = record { objects = refl; memory = refl; count = omega arith; known = known }
+none-entered program objects blocks known = record { names = refl; memory = refl; count = omega arith; known = known }
 
 pub both-entered : (program : Program) (ds es : List ℕ) (objects named other : Objects) (blocks made later : List Block)
     → IsEntered program ds objects blocks named made → IsEntered program es named made other later → IsEntered program (ds ++ es) objects blocks other later
 both-entered program ds es objects named other blocks made later first second = record {
-  objects = second.objects
-      ∙ (ap (named_on (length made) es) first.objects ∙ sym (named-append (length blocks) (length made) ds es objects first.count));
+  names = second.names
+      ∙ (ap (named_on (length made) es) first.names ∙ sym (named-append (length blocks) (length made) ds es objects first.count));
   memory = second.memory
       ∙ (ap (made_on program (length made) es) first.memory ∙ sym (made-append program (length blocks) (length made) ds es (view_of_blocks program.table blocks) first.count));
   count = let l : length (ds ++ es) ≡ length ds + length es = length-append ds es in omega (arith, first.count, second.count, l);
@@ -75,8 +75,8 @@ both-entered program ds es objects named other blocks made later first second = 
 pub one-entered : (program : Program) (d kind : ℕ) (block : Block) (objects named : Objects) (blocks made : List Block) → type_declared program d ≡ type_of program.table kind
     → view_of_block program.table block ≡ new_block (laid_out program.table) (type_of program.table kind) → named ≡ (d, length blocks) ∷ objects → made ≡ blocks ++ block ∷ []
     → AreKnown program.table made → IsEntered program (d ∷ []) objects blocks named made
-one-entered program d kind block objects named blocks made typed seen names makes known = record {
-  objects = names;
+one-entered program d kind block objects named blocks made typed seen is makes known = record {
+  names = is;
   memory = ap (view_of_blocks program.table) makes
       ∙ (more-view program.table blocks block
       ∙ ap (λ one. (length blocks, one) ∷ view_of_blocks program.table blocks) (seen ∙ ap (new_block (layout program)) (sym typed)));
@@ -90,6 +90,6 @@ pub in-order : (program : Program) (ds : List ℕ) (objects named : Objects) (bl
     × (made_from program (in_order (view_of_blocks program.table blocks)) 0 ds (view_of_blocks program.table blocks) ≡ view_of_blocks program.table made)
 in-order program ds objects named blocks made entered =
     let e : length (view_of_blocks program.table blocks) + 0 ≡ length blocks = let l = length-view program.table blocks in omega (arith, l) in (
-      named-order (view_of_blocks program.table blocks) 0 (length blocks) ds objects e ∙ sym entered.objects,
+      named-order (view_of_blocks program.table blocks) 0 (length blocks) ds objects e ∙ sym entered.names,
       made-order program (view_of_blocks program.table blocks) 0 (length blocks) ds (view_of_blocks program.table blocks) e ∙ sym entered.memory,
     )

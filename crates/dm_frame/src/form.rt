@@ -43,7 +43,7 @@ impl<'a> Frame<'a> {
     /// A loop is to go on at its condition.
     pub(crate) fn tests(&mut self, repeated: Loop<'a>) -> Result<(), Memory>
         ensures objects { self.new.objects ≡ self.old.objects }
-        ensures tasks { OnOk result (self.new.tasks ≡ Task.Tests (length self.old.objects) repeated ∷ self.old.tasks) }
+        ensures tasks { OnOk result (self.new.tasks ≡ Task.Tests (length self.old.objects) repeated.entry ∷ self.old.tasks) }
     {
         let alive = self.objects.len();
         self.tasks.push(Task::Tests(alive, repeated))?;
@@ -142,8 +142,8 @@ impl<'a> Frame<'a> {
     fn begin_return(&mut self, value: Option<&'a Core>) -> Result<Option<Begun<'a>>, Memory>
         ensures objects { self.new.objects ≡ self.old.objects }
         ensures same { (table : Table) → IfOk result (λ begun. (objects : Objects) (memory : AllMemory) →
-            onward objects (view_of_begun table begun ++ tasks_of table self.new) memory ≡ statements.returning objects memory (tree_or_none table value)) }
-        ensures fits { (table : Table) → OptionFits table value → IfOk result (λ begun. FrameFits table self.new × BegunFits table begun) }
+            onward objects (view_of_begun table begun ++ tasks_of table self.new) memory ≡ statements.returning objects memory (tree_or_none table value.entry)) }
+        ensures fits { (table : Table) → OptionFits table value.entry → IfOk result (λ begun. FrameFits table self.new × BegunFits table begun) }
     {
         self.tasks.clear();
         match value {
@@ -158,7 +158,7 @@ impl<'a> Frame<'a> {
 
 /// A full expression begins.
 pub(crate) fn begun<'a>(tree: &'a Core, use_of: Use<'a>) -> Option<Begun<'a>>
-    ensures { result ≡ Some (record { tree = tree; use_of = use_of }) }
+    ensures { result ≡ Some (record { tree = tree.entry; use_of = use_of.entry }) }
 {
     Some(Begun { tree, use_of })
 }

@@ -16,7 +16,8 @@ pub(crate) fn unlabelled(tree: &Core) -> &Core
     let mut at = tree;
     loop {
         match &at.form {
-            Form::Case(_, statement) | Form::Default(statement) => at = statement.get(),
+            Form::Case(_, statement) => at = statement.get(),
+            Form::Default(statement) => at = statement.get(),
             _ => return at,
         }
     }

@@ -66,16 +66,19 @@ impl<'a> Frame<'a> {
         requires { TasksFit layout.now (length self.old.objects) (task ∷ self.old.tasks) }
         ensures objects { self.new.objects ≡ self.old.objects }
         ensures function { self.new.function ≡ self.old.function }
-        ensures same { IfOk result (λ next. view_of_tasks layout.now self.old.objects (task ∷ self.old.tasks) ≡ view_of_next layout.now self.old.objects next ++ tasks_of layout.now self.new) }
+        ensures same { IfOk result (λ next. view_of_tasks layout.now self.old.objects (task.entry ∷ self.old.tasks) ≡ view_of_next layout.now self.old.objects next ++ tasks_of layout.now self.new) }
         ensures fits { IfOk result (λ next. NextFits layout.now (length self.old.objects) next self.new.tasks) }
-        ensures fewer { IfOk result (λ next. next ≡ None → weight self.new.tasks < weight (task ∷ self.old.tasks)) }
+        ensures fewer { IfOk result (λ next. next ≡ None → weight self.new.tasks < weight (task.entry ∷ self.old.tasks)) }
     {
         match task {
-            Task::Items(items) => self.first_item(items),
+            Task::Items(items) => Ok(self.first_item(items)?),
             Task::Begins(tree) => Ok(Some(Next::Begins(tree))),
-            Task::Declares(locals) => self.first_local(locals),
+            Task::Declares(locals) => Ok(self.first_local(locals)?),
             Task::Initials(at, kind, initial) => Ok(Some(Next::Initials(at, kind, initial))),
-            Task::Parts(at, kind, number, items) => self.first_part(alloc, layout, (at, kind), number, items),
+            Task::Parts(at, kind, number, items) => {
+                let next = self.first_part(alloc, layout, (at, kind), number, items)?;
+                Ok(next)
+            }
             Task::Again(alive, repeated) => Ok(Some(Next::Again(alive, repeated))),
             Task::Tests(alive, repeated) => Ok(Some(Next::Tests(alive, repeated))),
             Task::Ends(alive) => Ok(Some(Next::Ends(alive))),
@@ -99,7 +102,7 @@ impl<'a> Frame<'a> {
         };
         self.tasks.push(Task::Items(rest))?;
         match &first.form {
-            Form::Declare(_, locals) => self.first_local(locals.items()),
+            Form::Declare(_, locals) => Ok(self.first_local(locals.items())?),
             _ => Ok(Some(Next::Begins(first))),
         }
     }
@@ -131,7 +134,7 @@ impl<'a> Frame<'a> {
         requires { IsKnownType layout.now whole.1 }
         ensures objects { self.new.objects ≡ self.old.objects }
         ensures function { self.new.function ≡ self.old.function }
-        ensures same { IfOk result (λ next. view_of_task layout.now self.old.objects (Task.Parts whole.0 whole.1 number items) ++ tasks_of layout.now self.old
+        ensures same { IfOk result (λ next. view_of_task layout.now self.old.objects (Task.Parts whole.0 whole.1 number items.entry) ++ tasks_of layout.now self.old
             ≡ view_of_next layout.now self.old.objects next ++ tasks_of layout.now self.new) }
         ensures fits { FrameFits layout.now self.old → InitialsFit layout.now items.now → IfOk result (λ next. NextFits layout.now (length self.old.objects) next self.new.tasks) }
         ensures fewer { IfOk result (λ next. next ≡ None → weight self.new.tasks ≤ weight self.old.tasks) }

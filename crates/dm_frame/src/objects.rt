@@ -9,7 +9,7 @@ ghost use Rattle.dm_meaning.specs.Memory as memory;
 ghost use Rattle.dm_meaning.specs.Operations as operations;
 ghost use Rattle.dm_meaning.specs.Statements as statements;
 ghost use Rattle.dm_program.specs.Sources.{meant};
-ghost use Rattle.dm_frame.specs.Entering.{IsEntered};
+ghost use Rattle.dm_frame.specs.Entering.{automatic_one, IsEntered};
 
 use crate::stack::Stack;
 use crate::stand_ins::all_unset;
@@ -88,7 +88,7 @@ fn enter_local(
     local: &Local,
 ) -> Result<(), Memory>
     requires { AreKnown program.now.table blocks.old }
-    ensures { OnOk result (IsEntered (meant program.now) (statements.automatic_in (meant program.now) ((view_of_local program.now.table local.now).declarator ∷ [])) objects.old blocks.old objects.new blocks.new) }
+    ensures { OnOk result (IsEntered (meant program.now) (automatic_one (meant program.now) (view_of_local program.now.table local.now).declarator) objects.old blocks.old objects.new blocks.new) }
 {
     match automatic(program, local) {
         Some(kind) => {

@@ -16,7 +16,9 @@ pub(crate) fn all_unset(alloc: Global, layout: &Layout, kind: &ObjectType) -> Re
     requires { IsKnownType layout.now kind.now }
     ensures { IfOk result (λ value. view_of_value value ≡ objects.all_unset (laid_out layout.now) (type_of_object layout.now kind.now)) }
 {
-    let _ = (alloc, layout, kind);
+    let _ = alloc;
+    let _ = layout;
+    let _ = kind;
     Err(Memory)
 }
 
@@ -25,6 +27,8 @@ pub(crate) fn all_zero(alloc: Global, layout: &Layout, kind: &ObjectType) -> Res
     requires { IsKnownType layout.now kind.now }
     ensures { IfOk result (λ value. view_of_value value ≡ objects.all_zero (laid_out layout.now) (type_of_object layout.now kind.now)) }
 {
-    let _ = (alloc, layout, kind);
+    let _ = alloc;
+    let _ = layout;
+    let _ = kind;
     Err(Memory)
 }

@@ -92,7 +92,7 @@ fn begin_for<'a>(
     requires start { OptionFits program.now.table start }
     requires repeated { LoopFits program.now.table repeated }
     ensures { let before = view_of_blocks program.now.table blocks.old in IfOk result (λ begun. IsBegun program.now.table begun frame.new blocks.new
-        (statements.begin_for (meant program.now) (in_order before) frame.old.objects (tasks_of program.now.table frame.old) before (tree_or_none program.now.table start) (view_of_loop program.now.table repeated))) }
+        (statements.begin_for (meant program.now) (in_order before) frame.old.objects (tasks_of program.now.table frame.old) before (tree_or_none program.now.table start.entry) (view_of_loop program.now.table repeated.entry))) }
 {
     frame.ends()?;
     let Some(start) = start else {

@@ -47,6 +47,12 @@ pub opened-For : (types : Table) (a b c : Option Core) (body : Core) → opened_
     (if_there (option_map (view types) a) ++ (if_there (option_map (view types) b) ++ (if_there (option_map (view types) c) ++ view types body ∷ [])))
 opened-For types a b c body = search (rules, q.the_lemmas)
 
+pub opened-Break : (types : Table) → opened_form types form.Break ≡ opened label.break []
+opened-Break types = search (rules, q.the_lemmas)
+
+pub opened-Continue : (types : Table) → opened_form types form.Continue ≡ opened label.continue []
+opened-Continue types = search (rules, q.the_lemmas)
+
 pub opened-Return : (types : Table) (a : Option Core) → opened_form types (form.Return a) ≡ opened label.return (if_there (option_map (view types) a))
 opened-Return types a = search (rules, q.the_lemmas)
 
