@@ -1,5 +1,5 @@
 -- What is left of a frame where statements begin, form by form.
-use Rattle.std.proofs.Common.{◌≡◌, ℕ, List, [], ◌∷◌, ◌++◌, map, length, Option, Some, None, option_map, Bor, refl, ap, sym, ◌∙◌}
+use Rattle.std.proofs.Common.{◌≡◌, ℕ, List, [], ◌∷◌, ◌++◌, map, length, Option, Some, None, option_map, Bor, refl, ap, sym, subst, ◌∙◌}
 use Rattle.dm_type.specs.CTypes.{CType}
 use Rattle.dm_type.specs.Tables.{Table, type_of}
 use Rattle.dm_tree.proofs.ViewLemmas.{view-core}
@@ -9,22 +9,23 @@ use Rattle.dm_tree.specs.declared.tree.Form.TheVariants as form
 use Rattle.dm_tree.specs.declared.tree.Local.{Local}
 use Rattle.dm_tree.specs.Trees as label
 use Rattle.dm_tree.specs.Trees.{Tree, Trees, Spans, listed, node, trees}
-use Rattle.dm_tree.specs.Views.{Opened, opened_form, node_of, view}
+use Rattle.dm_tree.specs.Views.{Opened, opened_form, node_of, if_there, view, view_of_local}
 use Rattle.dm_meaning.specs.Memory.{Memory}
 use Rattle.dm_meaning.specs.Operations.{Objects}
 use Rattle.dm_meaning.specs.Programs.{Program}
 use Rattle.dm_meaning.specs.States as states
-use Rattle.dm_meaning.specs.Statements.{Turned, onward, begin_form, begin_statement, begin_tree, evaluation, unlabelled}
+use Rattle.dm_meaning.specs.Statements.{Turned, onward, begin_form, begin_statement, begin_tree, evaluation, item_tasks, returning, start_tasks, unlabelled}
 use Rattle.dm_frame.specs.declared.frame.Frame.{Frame}
 use Rattle.dm_frame.specs.declared.task.Begun.{Begun}
 use Rattle.dm_frame.specs.declared.task.Loop.{Loop}
 use Rattle.dm_frame.specs.declared.task.Task.{Task}
 use Rattle.dm_frame.specs.declared.task.Task.TheVariants as task
 use Rattle.dm_frame.specs.declared.task.Use.{Use}
-use Rattle.dm_frame.specs.Forms.{IsBegunForm}
+use Rattle.dm_frame.specs.Forms.{IsBegunForm, IsPlain}
 use Rattle.dm_frame.specs.Frames.{tasks_of}
-use Rattle.dm_frame.specs.Tasks.{kept, view_of_begun, view_of_loop, view_of_tasks, view_of_use}
+use Rattle.dm_frame.specs.Tasks.{kept, declares_local, view_of_begun, view_of_loop, view_of_tasks, view_of_use}
 use Rattle.dm_program.proofs.FormLemmas.{opened-Block, opened-Break, opened-Case, opened-Continue, opened-Declare, opened-Default, opened-Do, opened-For, opened-Full, opened-If, opened-Return, opened-Switch, opened-While}
+use Rattle.dm_program.proofs.InitialLemmas.{item-Declare, listed-trees}
 use Rattle.dm_program.proofs.SortLemmas.{Sorted, is-Block, is-Declare, is-Full, is-If, is-Switch, is-Case, is-Default, is-While, is-Do, is-For, is-Break, is-Continue, is-Return, is-inert, sorted}
 use Rattle.dm_frame.proofs.KeptLemmas.{kept-whole}
 
@@ -85,7 +86,7 @@ pub unlabelled-Default : (table : Table) (core a : Core) → (out-Core core).for
 unlabelled-Default table core a is = unlabelled-node table core _ (ap (opened_form table) is ∙ opened-Default table a)
 
 -- a node by its label and parts
-seen-as : (table : Table) (core : Core) (opening : Opened) → opened_form table (out-Core core).form ≡ opening
+pub seen-as : (table : Table) (core : Core) (opening : Opened) → opened_form table (out-Core core).form ≡ opening
     → view table core ≡ node_of opening (type_of table (out-Core core).kind) (out-Core core).inner (out-Core core).outer (out-Core core).place
 seen-as table core opening opens =
     view-core table core ∙ ap (λ (o : Opened). node_of o (type_of table (out-Core core).kind) (out-Core core).inner (out-Core core).outer (out-Core core).place) opens
@@ -117,3 +118,55 @@ module _ (table : Table) (core : Core) (no-case : (a b : Core) → (out-Core cor
 
   pub unlabelled-other : unlabelled (view table core) ≡ view table core
   unlabelled-other = by-sort (sorted table (out-Core core).form)
+
+-- a declaration as the first part of a `for`
+pub start-Declare : (table : Table) (core : Core) (lengths : List Core) (locals : List Local) → (out-Core core).form ≡ form.Declare lengths locals
+    → start_tasks (Some (view table core)) ≡ map declares_local (map (view_of_local table) locals)
+start-Declare table core lengths locals is =
+    let seen = seen-as table core _ (ap (opened_form table) is ∙ opened-Declare table lengths locals) in
+    ap (λ tree. start_tasks (Some tree)) seen ∙ (ap item_tasks (sym seen) ∙ item-Declare table core lengths locals is)
+
+-- ---- each form
+
+module _ (program : Program) (names : ℕ → ℕ) (objects : Objects) (rest : List states.Task) (memory : Memory) where
+  pub if-meant : (condition first : Tree) (second : Option Tree)
+      → onward objects (evaluation condition (states.chooses first second) ∷ states.ends objects ∷ rest) memory
+      ≡ begin_form program names objects rest memory label.if_statement (listed (trees (condition ∷ first ∷ if_there second)))
+  if-meant condition first None = refl
+  if-meant condition first (Some second) = refl
+
+  pub switch-meant : (operand : Tree) (items : List Tree)
+      → onward objects (evaluation operand (states.selects items) ∷ states.ends_switch objects ∷ rest) memory
+      ≡ begin_form program names objects rest memory label.switch (listed (trees (operand ∷ items)))
+  switch-meant operand items = ap (λ all. onward objects (evaluation operand (states.selects all) ∷ states.ends_switch objects ∷ rest) memory) (sym (listed-trees items))
+
+  pub return-meant : (value : Option Tree) → returning objects memory value ≡ begin_form program names objects rest memory label.return (listed (trees (if_there value)))
+  return-meant None = refl
+  return-meant (Some tree) = refl
+
+-- what none of these forms has
+module _ (table : Table) (one : Form) (program : Program) (names : ℕ → ℕ) (objects : Objects) (rest : List states.Task) (memory : Memory)
+    (plain : IsPlain one) (no-full : (a : Core) → one ≡ form.Full a → ⊥) (no-if : (a b : Core) (c : Option Core) → one ≡ form.If a b c → ⊥)
+    (no-switch : (a : Core) (items : List Core) → one ≡ form.Switch a items → ⊥) (no-while : (a b : Core) → one ≡ form.While a b → ⊥)
+    (no-do : (a b : Core) → one ≡ form.Do a b → ⊥) (no-break : one ≡ form.Break → ⊥) (no-continue : one ≡ form.Continue → ⊥) (no-return : (a : Option Core) → one ≡ form.Return a → ⊥) where
+  abbrev Ends : Opened → Type 0
+  Ends opening = onward objects (states.ends objects ∷ rest) memory ≡ begin_form program names objects rest memory opening.label (listed (trees opening.parts))
+
+  other-sort : Sorted table one → Ends (opened_form table one)
+  other-sort (is-Block items is) = absurd (plain.no_block items is)
+  other-sort (is-Declare lengths locals is) = subst Ends (sym (ap (opened_form table) is ∙ opened-Declare table lengths locals)) refl
+  other-sort (is-Full a is) = absurd (no-full a is)
+  other-sort (is-If a b c is) = absurd (no-if a b c is)
+  other-sort (is-Switch a items is) = absurd (no-switch a items is)
+  other-sort (is-Case a b is) = subst Ends (sym (ap (opened_form table) is ∙ opened-Case table a b)) refl
+  other-sort (is-Default a is) = subst Ends (sym (ap (opened_form table) is ∙ opened-Default table a)) refl
+  other-sort (is-While a b is) = absurd (no-while a b is)
+  other-sort (is-Do a b is) = absurd (no-do a b is)
+  other-sort (is-For a b c body is) = absurd (plain.no_for a b c body is)
+  other-sort (is-Break is) = absurd (no-break is)
+  other-sort (is-Continue is) = absurd (no-continue is)
+  other-sort (is-Return a is) = absurd (no-return a is)
+  other-sort (is-inert inert) = sym (inert.begun program names objects rest memory (listed (trees (opened_form table one).parts)))
+
+  pub other-meant : onward objects (states.ends objects ∷ rest) memory ≡ begin_form program names objects rest memory (opened_form table one).label (listed (trees (opened_form table one).parts))
+  other-meant = other-sort (sorted table one)

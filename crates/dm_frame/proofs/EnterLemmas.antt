@@ -2,6 +2,10 @@
 use Rattle.std.proofs.Common.{◌≡◌, ℕ, zero, suc, ◌+◌, List, [], ◌∷◌, ◌++◌, length, length-append, refl, ap, sym, ◌∙◌, arith}
 use Rattle.dm_type.specs.CTypes.{CType}
 use Rattle.dm_type.specs.Tables.{Table, type_of}
+use Rattle.dm_tree.specs.declared.tree.Core.{Core, out-Core}
+use Rattle.dm_tree.specs.declared.tree.Form.TheVariants as form
+use Rattle.dm_tree.specs.declared.tree.Local.{Local}
+use Rattle.dm_tree.specs.Views.{Opened, opened_form, view}
 use Rattle.dm_layout.specs.LaidOut.{laid_out}
 use Rattle.dm_memory.proofs.ChangedLemmas.{more-view}
 use Rattle.dm_memory.specs.declared.blocks.Block.{Block}
@@ -10,7 +14,10 @@ use Rattle.dm_meaning.specs.Choices.{in_order}
 use Rattle.dm_meaning.specs.Memory.{Memory, new_block}
 use Rattle.dm_meaning.specs.Operations.{Objects}
 use Rattle.dm_meaning.specs.Programs.{Program, layout}
-use Rattle.dm_meaning.specs.Statements.{type_declared, named_from, made_from}
+use Rattle.dm_meaning.specs.Statements.{declared_by, declared_by_label, type_declared, named_from, made_from}
+use Rattle.dm_program.proofs.FormLemmas.{opened-Block, opened-Break, opened-Case, opened-Continue, opened-Default, opened-Do, opened-For, opened-Full, opened-If, opened-Return, opened-Switch, opened-While}
+use Rattle.dm_program.proofs.SortLemmas.{Sorted, is-Block, is-Declare, is-Full, is-If, is-Switch, is-Case, is-Default, is-While, is-Do, is-For, is-Break, is-Continue, is-Return, is-inert, sorted}
+use Rattle.dm_frame.proofs.BeginLemmas.{seen-as}
 use Rattle.dm_frame.specs.Entering.{named_on, made_on, IsEntered}
 
 -- ---- numbers in order are those of new objects
@@ -93,3 +100,32 @@ in-order program ds objects named blocks made entered =
       named-order (view_of_blocks program.table blocks) 0 (length blocks) ds objects e ∙ sym entered.names,
       made-order program (view_of_blocks program.table blocks) 0 (length blocks) ds (view_of_blocks program.table blocks) e ∙ sym entered.memory,
     )
+
+-- ---- items that declare nothing
+
+module _ (program : Program) (table : Table) (core : Core) (no-declaration : (lengths : List Core) (locals : List Local) → (out-Core core).form ≡ form.Declare lengths locals → ⊥) where
+  plainly : (opening : Opened) → opened_form table (out-Core core).form ≡ opening → declared_by_label program opening.label ≡ [] → declared_by program (view table core) ≡ []
+  plainly opening opens none = ap (declared_by program) (seen-as table core opening opens) ∙ none
+
+  declared-sort : Sorted table (out-Core core).form → declared_by program (view table core) ≡ []
+  declared-sort (is-Block items is) = plainly _ (ap (opened_form table) is ∙ opened-Block table items) refl
+  declared-sort (is-Declare lengths locals is) = absurd (no-declaration lengths locals is)
+  declared-sort (is-Full a is) = plainly _ (ap (opened_form table) is ∙ opened-Full table a) refl
+  declared-sort (is-If a b c is) = plainly _ (ap (opened_form table) is ∙ opened-If table a b c) refl
+  declared-sort (is-Switch a items is) = plainly _ (ap (opened_form table) is ∙ opened-Switch table a items) refl
+  declared-sort (is-Case a b is) = plainly _ (ap (opened_form table) is ∙ opened-Case table a b) refl
+  declared-sort (is-Default a is) = plainly _ (ap (opened_form table) is ∙ opened-Default table a) refl
+  declared-sort (is-While a b is) = plainly _ (ap (opened_form table) is ∙ opened-While table a b) refl
+  declared-sort (is-Do a b is) = plainly _ (ap (opened_form table) is ∙ opened-Do table a b) refl
+  declared-sort (is-For a b c body is) = plainly _ (ap (opened_form table) is ∙ opened-For table a b c body) refl
+  declared-sort (is-Break is) = plainly _ (ap (opened_form table) is ∙ opened-Break table) refl
+  declared-sort (is-Continue is) = plainly _ (ap (opened_form table) is ∙ opened-Continue table) refl
+  declared-sort (is-Return a is) = plainly _ (ap (opened_form table) is ∙ opened-Return table a) refl
+  declared-sort (is-inert inert) = plainly _ refl (inert.declared program)
+
+  pub declared-other : declared_by program (view table core) ≡ []
+  declared-other = declared-sort (sorted table (out-Core core).form)
+
+pub empty : {A : Type 0} (xs : List A) → length xs ≡ 0 → xs ≡ []
+empty [] none = refl
+empty (x ∷ xs) none = absurd (omega (arith, none))

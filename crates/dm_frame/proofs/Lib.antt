@@ -1,4 +1,7 @@
 pub mod BeginLemmas
+pub mod BlockLemmas
 pub mod EnterLemmas
+pub mod JumpLemmas
 pub mod KeptLemmas
+pub mod PartLemmas
 pub mod TaskLemmas

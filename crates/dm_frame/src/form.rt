@@ -1,8 +1,9 @@
 //! How statements begin that make no objects.
 
-ghost use Rattle.std.specs.Prelude.{◌≡◌, ◌∷◌, [], ◌++◌, length, IfOk, OnOk, None, Some, option_map};
+ghost use Rattle.std.specs.Prelude.{◌≡◌, ◌∷◌, [], ◌++◌, length, IsTrue, IfOk, OnOk, None, Some, option_map};
 ghost use Rattle.dm_type.specs.Tables.{Table};
 ghost use Rattle.dm_tree.specs.Trees.{listed, trees};
+ghost use Rattle.dm_tree.specs.TypeNumbers.{are_known, passes_if_there};
 ghost use Rattle.dm_tree.specs.Views.{opened_form, view};
 ghost use Rattle.dm_meaning.specs.Memory.{Memory as AllMemory};
 ghost use Rattle.dm_meaning.specs.Operations.{Objects};
@@ -21,7 +22,8 @@ use dm_value::Value;
 
 /// A part of a form that may be left out.
 pub(crate) fn inside(tree: &Option<Boxed<Core>>) -> Option<&Core>
-    ensures { (table : Table) → tree_or_none table result ≡ option_map (view table) tree.now }
+    ensures same { (table : Table) → tree_or_none table result ≡ option_map (view table) tree.now }
+    ensures fits { (table : Table) → IsTrue (passes_if_there (option_map (are_known (length table.shapes)) tree.now)) → OptionFits table result }
 {
     match tree {
         Some(tree) => Some(tree.get()),
@@ -32,6 +34,7 @@ pub(crate) fn inside(tree: &Option<Boxed<Core>>) -> Option<&Core>
 impl<'a> Frame<'a> {
     /// A statement is to end behind what is put in front of this: only the objects that are alive now stay so.
     pub(crate) fn ends(&mut self) -> Result<(), Memory>
+        ensures function { self.new.function ≡ self.old.function }
         ensures objects { self.new.objects ≡ self.old.objects }
         ensures tasks { OnOk result (self.new.tasks ≡ Task.Ends (length self.old.objects) ∷ self.old.tasks) }
     {
@@ -42,6 +45,7 @@ impl<'a> Frame<'a> {
 
     /// A loop is to go on at its condition.
     pub(crate) fn tests(&mut self, repeated: Loop<'a>) -> Result<(), Memory>
+        ensures function { self.new.function ≡ self.old.function }
         ensures objects { self.new.objects ≡ self.old.objects }
         ensures tasks { OnOk result (self.new.tasks ≡ Task.Tests (length self.old.objects) repeated.entry ∷ self.old.tasks) }
     {
@@ -53,6 +57,7 @@ impl<'a> Frame<'a> {
     /// A statement of this form begins, which is no block and no `for`.
     pub(crate) fn begin_form(&mut self, form: &'a Form) -> Result<Option<Begun<'a>>, Memory>
         requires plain { IsPlain form.now }
+        ensures function { self.new.function ≡ self.old.function }
         ensures objects { self.new.objects ≡ self.old.objects }
         ensures same { (table : Table) → IfOk result (λ begun. IsBegunForm table (opened_form table form.now) self.old begun self.new) }
         ensures fits { (table : Table) → FrameFits table self.old → FormFits table form.now → IfOk result (λ begun. FrameFits table self.new × BegunFits table begun) }
@@ -64,8 +69,9 @@ impl<'a> Frame<'a> {
             }
             Form::If(condition, first, second) => {
                 self.ends()?;
-                let second = inside(second);
-                Ok(begun(condition.get(), Use::Chooses(first.get(), second)))
+                let other = inside(second);
+                let chosen = first.get();
+                Ok(begun(condition.get(), Use::Chooses(chosen, other)))
             }
             Form::Switch(operand, items) => {
                 let alive = self.objects.len();
@@ -106,6 +112,7 @@ impl<'a> Frame<'a> {
 
     /// The first part of a `for` begins: a declaration or an expression.
     pub(crate) fn begin_start(&mut self, start: &'a Core) -> Result<Option<Begun<'a>>, Memory>
+        ensures function { self.new.function ≡ self.old.function }
         ensures objects { self.new.objects ≡ self.old.objects }
         ensures same { (table : Table) → IfOk result (λ begun. view_of_begun table begun ++ tasks_of table self.new ≡ statements.start_tasks (Some (view table start.now)) ++ tasks_of table self.old) }
         ensures fits { (table : Table) → FrameFits table self.old → TreeFits table start.now → IfOk result (λ begun. FrameFits table self.new × BegunFits table begun) }
@@ -121,6 +128,7 @@ impl<'a> Frame<'a> {
 
     /// A `do` begins with its body.
     fn begin_do(&mut self, body: &'a Core, condition: &'a Core) -> Result<(), Memory>
+        ensures function { self.new.function ≡ self.old.function }
         ensures objects { self.new.objects ≡ self.old.objects }
         ensures same { (table : Table) → OnOk result (tasks_of table self.new ≡ states.begins (view table body.now)
             ∷ states.again self.old.objects (statements.loop_with (Some (view table condition.now)) None (view table body.now)) ∷ states.ends self.old.objects ∷ tasks_of table self.old) }
@@ -140,6 +148,7 @@ impl<'a> Frame<'a> {
 
     /// `return` leaves nothing else to do in the frame (6.8.6.4).
     fn begin_return(&mut self, value: Option<&'a Core>) -> Result<Option<Begun<'a>>, Memory>
+        ensures function { self.new.function ≡ self.old.function }
         ensures objects { self.new.objects ≡ self.old.objects }
         ensures same { (table : Table) → IfOk result (λ begun. (objects : Objects) (memory : AllMemory) →
             onward objects (view_of_begun table begun ++ tasks_of table self.new) memory ≡ statements.returning objects memory (tree_or_none table value.entry)) }

@@ -29,7 +29,8 @@ pub(crate) fn end_objects(objects: &mut Stack<(u32, u64)>, blocks: &mut Blocks, 
 impl<'a> Frame<'a> {
     /// Control goes behind the innermost loop or switch (6.8.6.3p2).
     pub(crate) fn leave(&mut self, blocks: &mut Blocks) -> Result<(), Memory>
-        ensures { (table : Table) → FrameFits table self.old → AreKnown table blocks.old → OnOk result (IsLeft table self.new blocks.new
+        ensures function { self.new.function ≡ self.old.function }
+        ensures left { (table : Table) → FrameFits table self.old → AreKnown table blocks.old → OnOk result (IsLeft table self.new blocks.new
             (statements.after_break self.old.objects (view_of_blocks table blocks.old) (tasks_of table self.old))) }
     {
         while let Some(task) = self.tasks.pop() {
@@ -51,7 +52,8 @@ impl<'a> Frame<'a> {
 
     /// Control goes to the end of the body of the innermost loop (6.8.6.2p2).
     pub(crate) fn skip(&mut self, blocks: &mut Blocks) -> Result<(), Memory>
-        ensures { (table : Table) → FrameFits table self.old → AreKnown table blocks.old → OnOk result (IsLeft table self.new blocks.new
+        ensures function { self.new.function ≡ self.old.function }
+        ensures left { (table : Table) → FrameFits table self.old → AreKnown table blocks.old → OnOk result (IsLeft table self.new blocks.new
             (statements.after_continue self.old.objects (view_of_blocks table blocks.old) (tasks_of table self.old))) }
     {
         while let Some(task) = self.tasks.pop() {

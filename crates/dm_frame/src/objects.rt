@@ -1,7 +1,7 @@
 //! The objects that declarations name in a frame (6.2.4p5, p6).
 
 ghost use Rattle.std.specs.Prelude.{◌≡◌, ◌∷◌, ◌++◌, [], false, true, length, map, MatchOption, IfOk, OnOk};
-ghost use Rattle.dm_type.specs.Tables.{IsId, type_of};
+ghost use Rattle.dm_type.specs.Tables.{IsId, Table, type_of};
 ghost use Rattle.dm_tree.specs.Views.{declarators_of, view, view_of_local};
 ghost use Rattle.dm_layout.specs.LaidOut.{laid_out};
 ghost use Rattle.dm_memory.specs.Blocks.{view_of_block, view_of_blocks, AreKnown};
@@ -139,6 +139,7 @@ pub(crate) fn make(
 ) -> Result<(), Memory>
     ensures objects { OnOk result (objects.new ≡ (declared, length blocks.old) ∷ objects.old) }
     ensures blocks { OnOk result (blocks.new ≡ blocks.old ++ block ∷ []) }
+    ensures known { (table : Table) → AreKnown table blocks.old → IsId table block.kind → OnOk result (AreKnown table blocks.new) }
 {
     let number = blocks.add(block)?;
     objects.push((declared, number))?;

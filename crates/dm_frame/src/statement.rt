@@ -1,6 +1,6 @@
 //! How statements begin (6.8.2 to 6.8.6).
 
-ghost use Rattle.std.specs.Prelude.{IfOk, OnOk, None, map};
+ghost use Rattle.std.specs.Prelude.{◌≡◌, IfOk, OnOk, None, map};
 ghost use Rattle.dm_tree.specs.Trees.{block};
 ghost use Rattle.dm_tree.specs.Views.{view};
 ghost use Rattle.dm_memory.specs.Blocks.{view_of_blocks, AreKnown};
@@ -33,7 +33,8 @@ pub fn begin_statement<'a>(
     requires frame { FrameFits program.now.table frame.old }
     requires blocks { AreKnown program.now.table blocks.old }
     requires tree { TreeFits program.now.table tree.now }
-    ensures { let before = view_of_blocks program.now.table blocks.old in IfOk result (λ begun. IsBegun program.now.table begun frame.new blocks.new
+    ensures function { frame.new.function ≡ frame.old.function }
+    ensures left { let before = view_of_blocks program.now.table blocks.old in IfOk result (λ begun. IsBegun program.now.table begun frame.new blocks.new
         (statements.begin_statement (meant program.now) (in_order before) frame.old.objects (tasks_of program.now.table frame.old) before (view program.now.table tree.now))) }
 {
     let statement = unlabelled(tree);
@@ -69,7 +70,8 @@ fn begin_block<'a>(
     requires frame { FrameFits program.now.table frame.old }
     requires blocks { AreKnown program.now.table blocks.old }
     requires items { TreesFit program.now.table items.now }
-    ensures { let before = view_of_blocks program.now.table blocks.old in OnOk result (IsBegun program.now.table None frame.new blocks.new
+    ensures function { frame.new.function ≡ frame.old.function }
+    ensures left { let before = view_of_blocks program.now.table blocks.old in OnOk result (IsBegun program.now.table None frame.new blocks.new
         (statements.begin_form (meant program.now) (in_order before) frame.old.objects (tasks_of program.now.table frame.old) before block (map (view program.now.table) items.now))) }
 {
     frame.ends()?;
@@ -91,7 +93,8 @@ fn begin_for<'a>(
     requires blocks { AreKnown program.now.table blocks.old }
     requires start { OptionFits program.now.table start }
     requires repeated { LoopFits program.now.table repeated }
-    ensures { let before = view_of_blocks program.now.table blocks.old in IfOk result (λ begun. IsBegun program.now.table begun frame.new blocks.new
+    ensures function { frame.new.function ≡ frame.old.function }
+    ensures left { let before = view_of_blocks program.now.table blocks.old in IfOk result (λ begun. IsBegun program.now.table begun frame.new blocks.new
         (statements.begin_for (meant program.now) (in_order before) frame.old.objects (tasks_of program.now.table frame.old) before (tree_or_none program.now.table start.entry) (view_of_loop program.now.table repeated.entry))) }
 {
     frame.ends()?;

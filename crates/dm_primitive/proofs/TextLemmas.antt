@@ -23,10 +23,10 @@ behind-more bytes byte (Err cause) = refl
 -- ---- a string by its first character
 
 module _ (layout : Layout) (memory : Memory) (left : ℕ) (at : At) (some : 0 < left) where
-  abbrev Later : Text
+  abbrev pub Later : Text
   Later = text_on (moved_pointer layout memory (integer Char) (to at) (pos 1)) (text_at layout memory (left - 1))
 
-  abbrev Reads : Character → Type 0
+  abbrev pub Reads : Character → Type 0
   Reads one = (later : Text) → unless_cause (earliest (read_causes layout memory [] (integer Char) at)) (contents_at memory at) later ≡ and_character one later
 
   one-more : text_at layout memory left at ≡ unless_cause (earliest (read_causes layout memory [] (integer Char) at)) (contents_at memory at) Later

@@ -14,6 +14,7 @@ ghost use Rattle.dm_meaning.specs.Primitives as primitives;
 ghost use Rattle.dm_meaning.specs.Values as values;
 ghost use Rattle.dm_primitive.specs.Texts.{Text, and_character, text_at_next};
 ghost use Rattle.dm_value.specs.Places.{view_of_at, view_of_name};
+ghost use Rattle.dm_value.specs.Views.{view_of_value};
 
 use crate::byte::byte_in;
 use dm_layout::{Layout, size};
@@ -91,9 +92,17 @@ fn read(
     if let Some(cause) = to_read(layout, blocks, &[], character, at) {
         return Ok(Character::Refused(cause));
     }
-    match blocks.contents(alloc, at)? {
-        Value::Integer(integer) => Ok(character_of(integer.value())),
-        _ => Ok(Character::Refused(Cause::OtherType)),
+    let value = blocks.contents(alloc, at)?;
+    Ok(character_in(&value))
+}
+
+/// The character that a value is.
+fn character_in(value: &Value) -> Character
+    ensures { (later : Text) → primitives.and_text (view_of_value value.now) later ≡ and_character result later }
+{
+    match value {
+        Value::Integer(integer) => character_of(integer.value()),
+        _ => Character::Refused(Cause::OtherType),
     }
 }
 

@@ -112,3 +112,13 @@ module _ (table : Table) where
   declared-Declare program core lengths locals is =
       ap (declared_by program) (view-core table core)
       ∙ ap (λ (o : Opened). declared_by program (node_of o (type_of table (out-Core core).kind) (out-Core core).inner (out-Core core).outer (out-Core core).place)) (ap (opened_form table) is ∙ opened-Declare table lengths locals)
+
+  -- what a declarator declares
+  declared-by-initial : (declared : ℕ) (defines : Bool) (initial : Option Initial) → (local_seen (record { declared = declared; defines = defines; initial = initial })).declarator.declared ≡ declared
+  declared-by-initial declared defines None = refl
+  declared-by-initial declared defines (Some initial) = refl
+
+  pub local-declared : (local : Local) → (view_of_local table local).declarator.declared ≡ (out-Local local).declared
+  local-declared local =
+      let here : view_of_local table local ≡ local_seen (out-Local local) = folds.fold_out-Local Opened OpenedInitial Tree OpenedLocal (form_layer table) initial_layer (core_layer table) local_layer local in
+      ap (λ (one : OpenedLocal). one.declarator.declared) here ∙ declared-by-initial (out-Local local).declared (out-Local local).defines (out-Local local).initial
