@@ -1,7 +1,7 @@
 -- What is left of a frame where statements begin, form by form.
-use Rattle.std.proofs.Common.{◌≡◌, ℕ, List, [], ◌∷◌, ◌++◌, map, length, Option, Some, None, option_map, Bor, refl, ap, sym, subst, ◌∙◌}
+use Rattle.std.proofs.Common.{◌≡◌, ℕ, List, [], ◌∷◌, ◌++◌, map, length, Option, Some, None, option_map, Bor, refl, ap, sym, subst, arith, ◌∙◌}
 use Rattle.dm_type.specs.CTypes.{CType}
-use Rattle.dm_type.specs.Tables.{Table, type_of}
+use Rattle.dm_type.specs.Tables.{Table, no_type, type_of}
 use Rattle.dm_tree.proofs.ViewLemmas.{view-core}
 use Rattle.dm_tree.specs.declared.tree.Core.{Core, out-Core}
 use Rattle.dm_tree.specs.declared.tree.Form.{Form}
@@ -22,8 +22,8 @@ use Rattle.dm_frame.specs.declared.task.Task.{Task}
 use Rattle.dm_frame.specs.declared.task.Task.TheVariants as task
 use Rattle.dm_frame.specs.declared.task.Use.{Use}
 use Rattle.dm_frame.specs.Forms.{IsBegunForm, IsPlain}
-use Rattle.dm_frame.specs.Frames.{tasks_of}
-use Rattle.dm_frame.specs.Tasks.{kept, declares_local, view_of_begun, view_of_loop, view_of_tasks, view_of_use}
+use Rattle.dm_frame.specs.Frames.{tasks_of, FrameFits}
+use Rattle.dm_frame.specs.Tasks.{kept, declares_local, view_of_begun, view_of_loop, view_of_tasks, view_of_use, TasksFit}
 use Rattle.dm_program.proofs.FormLemmas.{opened-Block, opened-Break, opened-Case, opened-Continue, opened-Declare, opened-Default, opened-Do, opened-For, opened-Full, opened-If, opened-Return, opened-Switch, opened-While}
 use Rattle.dm_program.proofs.InitialLemmas.{item-Declare, listed-trees}
 use Rattle.dm_program.proofs.SortLemmas.{Sorted, is-Block, is-Declare, is-Full, is-If, is-Switch, is-Case, is-Default, is-While, is-Do, is-For, is-Break, is-Continue, is-Return, is-inert, sorted}
@@ -51,6 +51,11 @@ module _ (table : Table) (before after : Frame) (same : after.objects ≡ before
 
   pub task-led : (first : Task) → after.tasks ≡ first ∷ before.tasks → tasks_of table after ≡ view_of_tasks table before.objects (first ∷ before.tasks)
   task-led first is = led first is
+
+-- where a statement is to end
+pub ends-fit : (table : Table) (before after : Frame) → after.objects ≡ before.objects → after.tasks ≡ task.Ends (length before.objects) ∷ before.tasks → FrameFits table before → FrameFits table after
+ends-fit table before after same is fits =
+    subst (λ objects. TasksFit table (length objects) after.tasks) (sym same) (subst (TasksFit table (length before.objects)) (sym is) (omega arith, fits))
 
 -- what is left where a statement begins that makes no objects
 pub form-begun : (table : Table) (before after : Frame) (one : Form) (opening : Opened) (begun : Option Begun) (first rest : List states.Task) → opened_form table one ≡ opening
@@ -138,7 +143,7 @@ module _ (program : Program) (names : ℕ → ℕ) (objects : Objects) (rest : L
   pub switch-meant : (operand : Tree) (items : List Tree)
       → onward objects (evaluation operand (states.selects items) ∷ states.ends_switch objects ∷ rest) memory
       ≡ begin_form program names objects rest memory label.switch (listed (trees (operand ∷ items)))
-  switch-meant operand items = ap (λ all. onward objects (evaluation operand (states.selects all) ∷ states.ends_switch objects ∷ rest) memory) (sym (listed-trees items))
+  switch-meant operand items = ap (λ all. onward objects (evaluation operand (states.selects all) ∷ states.ends_switch objects ∷ rest) memory) (sym (listed-trees no_type items))
 
   pub return-meant : (value : Option Tree) → returning objects memory value ≡ begin_form program names objects rest memory label.return (listed (trees (if_there value)))
   return-meant None = refl

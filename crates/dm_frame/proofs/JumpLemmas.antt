@@ -5,7 +5,9 @@ use Rattle.dm_type.specs.Tables.{Table, type_of}
 use Rattle.dm_tree.specs.declared.tree.Core.{Core, out-Core}
 use Rattle.dm_tree.specs.Trees.{Tree, Initialiser, Initialisers, no_items, more_items}
 use Rattle.dm_tree.specs.Views.{Opened, OpenedLocal, opened_form, items_of, expressions_of_items, view, view_of_local}
+use Rattle.dm_layout.specs.Kinds.{type_of_object}
 use Rattle.dm_layout.specs.LaidOut.{laid_out}
+use Rattle.dm_value.specs.Places.{view_of_at}
 use Rattle.dm_memory.specs.declared.blocks.Block.{Block}
 use Rattle.dm_memory.specs.Blocks.{view_of_blocks, AreKnown}
 use Rattle.dm_meaning.specs.Memory.{Memory, killed}
@@ -20,6 +22,7 @@ use Rattle.dm_program.proofs.SortLemmas.{Sorted, is-Block, is-Declare, is-Full, 
 use Rattle.dm_frame.specs.declared.task.Loop.{Loop}
 use Rattle.dm_frame.specs.declared.task.Task.{Task}
 use Rattle.dm_frame.specs.declared.task.Task.TheVariants as task
+use Rattle.dm_frame.specs.Frames.{IsLeft}
 use Rattle.dm_frame.specs.Tasks.{declares_local, initials_at, kept, view_of_loop, view_of_task, view_of_tasks, TasksFit}
 use Rattle.dm_frame.proofs.BeginLemmas.{seen-as}
 use Rattle.dm_frame.proofs.KeptLemmas.{length-kept}
@@ -87,7 +90,7 @@ module _ (table : Table) (objects : Objects) (memory : Memory) where
   break-passes (task.Declares locals) rest no-loop no-switch = locals-pass table Broken (λ tree rest. refl) (λ local rest. refl) (λ at kind initialiser expressions rest. refl) (map (view_of_local table) locals.now) rest
   break-passes (task.Initials at kind initial) rest no-loop no-switch = refl
   break-passes (task.Parts at kind next items) rest no-loop no-switch =
-      parts-pass table Broken (λ tree rest. refl) (λ local rest. refl) (λ at kind initialiser expressions rest. refl) (laid_out table) _ _ next (items_of (initials_at table items.now)) _ rest
+      parts-pass table Broken (λ tree rest. refl) (λ local rest. refl) (λ at kind initialiser expressions rest. refl) (laid_out table) (view_of_at at) (type_of_object table kind) next (items_of (initials_at table items.now)) (expressions_of_items (initials_at table items.now)) rest
   break-passes (task.Again n loop) rest no-loop no-switch = absurd (no-loop n loop refl)
   break-passes (task.Tests n loop) rest no-loop no-switch = refl
   break-passes (task.Ends n) rest no-loop no-switch = refl
@@ -106,7 +109,7 @@ module _ (table : Table) (objects : Objects) (memory : Memory) where
   continue-passes (task.Declares locals) rest no-loop = locals-pass table Skipped (λ tree rest. refl) (λ local rest. refl) (λ at kind initialiser expressions rest. refl) (map (view_of_local table) locals.now) rest
   continue-passes (task.Initials at kind initial) rest no-loop = refl
   continue-passes (task.Parts at kind next items) rest no-loop =
-      parts-pass table Skipped (λ tree rest. refl) (λ local rest. refl) (λ at kind initialiser expressions rest. refl) (laid_out table) _ _ next (items_of (initials_at table items.now)) _ rest
+      parts-pass table Skipped (λ tree rest. refl) (λ local rest. refl) (λ at kind initialiser expressions rest. refl) (laid_out table) (view_of_at at) (type_of_object table kind) next (items_of (initials_at table items.now)) (expressions_of_items (initials_at table items.now)) rest
   continue-passes (task.Again n loop) rest no-loop = absurd (no-loop n loop refl)
   continue-passes (task.Tests n loop) rest no-loop = refl
   continue-passes (task.Ends n) rest no-loop = refl
@@ -126,3 +129,14 @@ left-kept table n objects named blocks made rest within fits is ends =
     ap (λ all. onward all (view_of_tasks table all rest) (view_of_blocks table made)) is
     ∙ (ap (λ tasks. onward (kept n objects) tasks (view_of_blocks table made)) (older-objects table n objects rest within fits)
     ∙ ap (onward (kept n objects) (view_of_tasks table objects rest)) ends)
+
+-- what a jump leaves, where the tasks behind it are these
+pub jumped : (table : Table) (n : ℕ) (objects : Objects) (function : ℕ) (named : Objects) (blocks made : List Block) (rest : List Task) → n ≤ length objects → TasksFit table n rest
+    → named ≡ kept n objects → view_of_blocks table made ≡ killed (named_since (kept n objects) objects) (view_of_blocks table blocks) → AreKnown table made → (turned : Turned)
+    → onward (kept n objects) (view_of_tasks table objects rest) (killed (named_since (kept n objects) objects) (view_of_blocks table blocks)) ≡ turned
+    → IsLeft table (record { function = function; objects = named; tasks = rest }) made turned
+jumped table n objects function named blocks made rest within fits is ends known turned meant = record {
+  same = left-kept table n objects named blocks made rest within fits is ends ∙ meant;
+  fits = subst (λ count. TasksFit table count rest) (sym (ap length is ∙ length-kept n objects within)) fits;
+  known = known;
+}

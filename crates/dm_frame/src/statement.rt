@@ -98,12 +98,16 @@ fn begin_for<'a>(
         (statements.begin_for (meant program.now) (in_order before) frame.old.objects (tasks_of program.now.table frame.old) before (tree_or_none program.now.table start.entry) (view_of_loop program.now.table repeated.entry))) }
 {
     frame.ends()?;
-    let Some(start) = start else {
-        frame.tests(repeated)?;
-        return Ok(None);
-    };
-    enter_item(alloc, program, &mut frame.objects, blocks, start)?;
-    frame.tests(repeated)?;
-    let begun = frame.begin_start(start)?;
-    Ok(begun)
+    match start {
+        None => {
+            frame.tests(repeated)?;
+            Ok(None)
+        }
+        Some(start) => {
+            enter_item(alloc, program, &mut frame.objects, blocks, start)?;
+            frame.tests(repeated)?;
+            let begun = frame.begin_start(start)?;
+            Ok(begun)
+        }
+    }
 }

@@ -18,7 +18,7 @@ loop-number-preserved c =
       sym (kept-more alive entry rest within) ∙ (ap (kept alive) (sym is) ∙ c.loop-number.invariant.0),
       λ table.
           ap (λ memory. killed (named_since (kept alive rest) rest) memory) (c.end.ensures.view table)
-          ∙ (sym (ending alive entry rest _ more)
-          ∙ (ap (λ objects. killed (named_since (kept alive objects) objects) _) (sym is) ∙ c.loop-number.invariant.1 table)),
+          ∙ (sym (ending alive entry rest (view_of_blocks table c.loop-number.blocks) more)
+          ∙ (ap (λ objects. killed (named_since (kept alive objects) objects) (view_of_blocks table c.loop-number.blocks)) (sym is) ∙ c.loop-number.invariant.1 table)),
       λ table known. c.end.ensures.known table (c.loop-number.invariant.2 table known),
     )

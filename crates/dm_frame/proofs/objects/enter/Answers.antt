@@ -15,7 +15,7 @@ loop-item-preserved c =
     let e : c.loop-item.left.now ≡ c.in-Some.item.now ∷ c.in-Some.rest.now = search rules in (
       c.in_ok-enter_item.ensures.known,
       λ named made more. c.loop-item.invariant.1 named made
-          (subst (λ (left : List Core). IsEntered program (declared_in program (map (view table) left)) _ _ named made) (sym e)
+          (subst (λ (left : List Core). IsEntered program (declared_in program (map (view table) left)) c.loop-item.objects c.loop-item.blocks named made) (sym e)
           (both-entered program (declared_by program (view table c.in-Some.item.now)) _ _ _ _ _ _ _ c.in_ok-enter_item.ensures more)),
     )
 
@@ -25,5 +25,5 @@ returns c =
     let table = c.args.program.now.table in
     let none : length c.loop-item.left.now ≡ 0 = search rules in
     c.loop-item.invariant.1 _ _
-    (subst (λ (left : List Core). IsEntered program (declared_in program (map (view table) left)) _ _ _ _) (sym (empty c.loop-item.left.now none))
+    (subst (λ (left : List Core). IsEntered program (declared_in program (map (view table) left)) c.loop-item.objects c.loop-item.blocks c.loop-item.objects c.loop-item.blocks) (sym (empty c.loop-item.left.now none))
     (none-entered program _ _ c.loop-item.invariant.0))

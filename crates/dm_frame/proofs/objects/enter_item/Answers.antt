@@ -13,7 +13,7 @@ pub returns-in_ok-enter_locals-in-Declare : goal.returns-in_ok-enter_locals-in-D
 returns-in_ok-enter_locals-in-Declare c =
     let program = meant c.args.program.now in
     let table = c.args.program.now.table in
-    subst (λ ds. IsEntered program ds _ _ _ _)
+    subst (λ ds. IsEntered program ds c.args.objects.now c.args.blocks.now c.enter_locals.new.objects c.enter_locals.new.blocks)
     (ap (λ (locals : List Local). automatic_in program (declarators_of (map (view_of_local table) locals))) c.items.ensures
     ∙ sym (declared-Declare table program c.args.item.now _ c.in-Declare.locals c.in-Declare.is))
     c.in_ok-enter_locals-in-Declare.ensures
@@ -21,4 +21,4 @@ returns-in_ok-enter_locals-in-Declare c =
 pub returns-in_default : goal.returns-in_default
 returns-in_default c =
     let program = meant c.args.program.now in
-    subst (λ ds. IsEntered program ds _ _ _ _) (sym (declared-other program c.args.program.now.table c.args.item.now c.in_default.not-Declare)) (none-entered program _ _ c.requires)
+    subst (λ ds. IsEntered program ds c.args.objects.now c.args.blocks.now c.args.objects.now c.args.blocks.now) (sym (declared-other program c.args.program.now.table c.args.item.now c.in_default.not-Declare)) (none-entered program _ _ c.requires)

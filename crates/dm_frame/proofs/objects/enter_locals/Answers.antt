@@ -15,7 +15,7 @@ loop-local-preserved c =
     let e : c.loop-local.left.now ≡ c.in-Some.local.now ∷ c.in-Some.rest.now = search rules in (
       c.in_ok-enter_local.ensures.known,
       λ named made more. c.loop-local.invariant.1 named made
-          (subst (λ (left : List Local). IsEntered program (automatic_in program (declarators_of (map (view_of_local table) left))) _ _ named made) (sym e)
+          (subst (λ (left : List Local). IsEntered program (automatic_in program (declarators_of (map (view_of_local table) left))) c.loop-local.objects c.loop-local.blocks named made) (sym e)
           (both-entered program (automatic_one program (view_of_local table c.in-Some.local.now).declarator) _ _ _ _ _ _ _ c.in_ok-enter_local.ensures more)),
     )
 
@@ -25,5 +25,5 @@ returns c =
     let table = c.args.program.now.table in
     let none : length c.loop-local.left.now ≡ 0 = search rules in
     c.loop-local.invariant.1 _ _
-    (subst (λ (left : List Local). IsEntered program (automatic_in program (declarators_of (map (view_of_local table) left))) _ _ _ _) (sym (empty c.loop-local.left.now none))
+    (subst (λ (left : List Local). IsEntered program (automatic_in program (declarators_of (map (view_of_local table) left))) c.loop-local.objects c.loop-local.blocks c.loop-local.objects c.loop-local.blocks) (sym (empty c.loop-local.left.now none))
     (none-entered program _ _ c.loop-local.invariant.0))
