@@ -23,7 +23,7 @@ use Rattle.dm_frame.specs.declared.task.Task.TheVariants as task
 use Rattle.dm_frame.specs.declared.task.Use.{Use}
 use Rattle.dm_frame.specs.Forms.{IsBegunForm, IsPlain}
 use Rattle.dm_frame.specs.Frames.{tasks_of, FrameFits}
-use Rattle.dm_frame.specs.Tasks.{kept, declares_local, view_of_begun, view_of_loop, view_of_tasks, view_of_use, TasksFit}
+use Rattle.dm_frame.specs.Tasks.{kept, declares_local, view_of_begun, view_of_loop, view_of_tasks, view_of_use, LoopFits, TasksFit}
 use Rattle.dm_program.proofs.FormLemmas.{opened-Block, opened-Break, opened-Case, opened-Continue, opened-Declare, opened-Default, opened-Do, opened-For, opened-Full, opened-If, opened-Return, opened-Switch, opened-While}
 use Rattle.dm_program.proofs.InitialLemmas.{item-Declare, listed-trees}
 use Rattle.dm_program.proofs.SortLemmas.{Sorted, is-Block, is-Declare, is-Full, is-If, is-Switch, is-Case, is-Default, is-While, is-Do, is-For, is-Break, is-Continue, is-Return, is-inert, sorted}
@@ -56,6 +56,12 @@ module _ (table : Table) (before after : Frame) (same : after.objects ≡ before
 pub ends-fit : (table : Table) (before after : Frame) → after.objects ≡ before.objects → after.tasks ≡ task.Ends (length before.objects) ∷ before.tasks → FrameFits table before → FrameFits table after
 ends-fit table before after same is fits =
     subst (λ objects. TasksFit table (length objects) after.tasks) (sym same) (subst (TasksFit table (length before.objects)) (sym is) (omega arith, fits))
+
+-- where a loop is to go on at its condition
+pub tests-fit : (table : Table) (before after : Frame) (loop : Loop) → after.objects ≡ before.objects → after.tasks ≡ task.Tests (length before.objects) loop ∷ before.tasks
+    → LoopFits table loop → FrameFits table before → FrameFits table after
+tests-fit table before after loop same is known fits =
+    subst (λ objects. TasksFit table (length objects) after.tasks) (sym same) (subst (TasksFit table (length before.objects)) (sym is) ((omega arith, known), fits))
 
 -- what is left where a statement begins that makes no objects
 pub form-begun : (table : Table) (before after : Frame) (one : Form) (opening : Opened) (begun : Option Begun) (first rest : List states.Task) → opened_form table one ≡ opening
