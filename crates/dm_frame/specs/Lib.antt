@@ -3,3 +3,4 @@ pub mod Frames
 pub mod Forms
 pub mod Entering
 pub mod Nexts
+pub mod Calling

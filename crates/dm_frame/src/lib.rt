@@ -2,6 +2,7 @@
 //! expression.
 #![tactic(auto)]
 
+mod calling;
 mod form;
 mod frame;
 mod jump;
@@ -9,10 +10,10 @@ mod label;
 mod next;
 mod objects;
 mod stack;
-mod stand_ins;
 mod statement;
 mod task;
 
+pub use calling::open;
 pub use frame::Frame;
 pub use next::Next;
 pub use stack::Stack;

@@ -12,8 +12,8 @@ ghost use Rattle.dm_program.specs.Sources.{meant};
 ghost use Rattle.dm_frame.specs.Entering.{automatic_one, IsEntered};
 
 use crate::stack::Stack;
-use crate::stand_ins::all_unset;
-use dm_layout::{Layout, ObjectType, is_const};
+use dm_first::{Scalars, first_value};
+use dm_layout::{Layout, is_const};
 use dm_memory::{Block, Blocks};
 use dm_program::Program;
 use dm_token::Memory;
@@ -121,7 +121,7 @@ pub(crate) fn new_block(alloc: Global, layout: &Layout, kind: TypeId) -> Result<
     requires { IsId layout.now kind }
     ensures { IfOk result (λ block. (view_of_block layout.now block ≡ memory.new_block (laid_out layout.now) (type_of layout.now kind)) × (block.kind ≡ kind)) }
 {
-    let contents = all_unset(alloc, layout, &ObjectType::Known(kind))?;
+    let contents = first_value(alloc, layout, Scalars::Unset, kind)?;
     Ok(Block {
         kind,
         contents,

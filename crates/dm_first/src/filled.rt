@@ -1,12 +1,16 @@
 //! First values of objects (6.7.9p10).
 
-ghost use Rattle.std.specs.Prelude.{◌≡◌, ◌∷◌, [], ℕ, replicate, map, IfOk};
-ghost use Rattle.dm_type.specs.Tables.{IsId, type_of};
+ghost use Rattle.std.specs.Prelude.{◌≡◌, replicate, map, IfOk};
+ghost use Rattle.dm_type.specs.CTypes as ctypes;
+ghost use Rattle.dm_type.specs.CTypes.{CType};
+ghost use Rattle.dm_type.specs.Tables.{Has, IsId, type_of};
 ghost use Rattle.dm_layout.specs.LaidOut.{laid_out};
 ghost use Rattle.dm_meaning.specs.Objects as objects;
 ghost use Rattle.dm_value.specs.Views.{view_of_value};
-ghost use Rattle.dm_frame.specs.Firsts.{scalar_of};
+ghost use Rattle.dm_meaning.specs.Values as values;
+ghost use Rattle.dm_first.specs.Firsts.{scalar_of};
 
+use dm_int::Kind;
 use dm_layout::{Element, Layout};
 use dm_token::{List, Memory};
 use dm_type::{Shape, TypeId};
@@ -16,15 +20,37 @@ use std::rc::Rc;
 
 /// The first value of the scalars of an object.
 #[derive(Clone, Copy)]
-pub(crate) enum Scalars {
+pub enum Scalars {
     /// They aren't set.
     Unset,
     /// Each is 0 or a null pointer.
     Zero,
 }
 
+impl Scalars {
+    /// That of an integer.
+    fn integer(self, kind: Kind) -> Value
+        ensures { view_of_value result ≡ scalar_of self (ctypes.integer kind) }
+    {
+        match self {
+            Scalars::Unset => Value::Unset,
+            Scalars::Zero => Value::Integer(Integer::new(kind, 0)),
+        }
+    }
+
+    /// That of a pointer.
+    fn pointer(self) -> Value
+        ensures { (type : CType) → view_of_value result ≡ scalar_of self (ctypes.pointer type) }
+    {
+        match self {
+            Scalars::Unset => Value::Unset,
+            Scalars::Zero => Value::Pointer(Pointer::Null),
+        }
+    }
+}
+
 /// The first value of an object of a type.
-pub(crate) fn first_value(alloc: Global, layout: &Layout, scalars: Scalars, kind: TypeId) -> Result<Value, Memory>
+pub fn first_value(alloc: Global, layout: &Layout, scalars: Scalars, kind: TypeId) -> Result<Value, Memory>
     requires { IsId layout.now kind }
     ensures { IfOk result (λ value. view_of_value value ≡ objects.filled_with (laid_out layout.now) (scalar_of scalars) (type_of layout.now kind)) }
 {
@@ -46,31 +72,32 @@ fn filled(alloc: Global, layout: &Layout, scalars: Scalars, depth: usize, kind: 
             let value = repeated(alloc, first, *count)?;
             Ok(value)
         }
-        Shape::Struct(_) => {
-            let value = filled_struct(alloc, layout, scalars, depth, kind)?;
+        Shape::Struct(structure) => {
+            let value = filled_struct(alloc, layout, scalars, depth, kind, *structure)?;
             Ok(value)
         }
         Shape::Const(inner) => {
             let value = filled(alloc, layout, scalars, depth, *inner)?;
             Ok(value)
         }
-        Shape::Integer(kind) => Ok(match scalars {
-            Scalars::Unset => Value::Unset,
-            Scalars::Zero => Value::Integer(Integer::new(*kind, 0)),
-        }),
-        Shape::Pointer(_) => Ok(match scalars {
-            Scalars::Unset => Value::Unset,
-            Scalars::Zero => Value::Pointer(Pointer::Null),
-        }),
+        Shape::Integer(kind) => Ok(scalars.integer(*kind)),
+        Shape::Pointer(_) => Ok(scalars.pointer()),
         _ => Ok(Value::Unset),
     }
 }
 
 /// The first value of a struct.
 #[cycle(first)]
-fn filled_struct(alloc: Global, layout: &Layout, scalars: Scalars, depth: usize, kind: TypeId) -> Result<Value, Memory>
-    requires { IsStruct layout.now kind }
-    ensures { IfOk result (λ value. view_of_value value ≡ objects.filled_struct (laid_out layout.now) (scalar_of scalars) depth (struct_of layout.now kind)) }
+fn filled_struct(
+    alloc: Global,
+    layout: &Layout,
+    scalars: Scalars,
+    depth: usize,
+    kind: TypeId,
+    structure: u32,
+) -> Result<Value, Memory>
+    requires { Has layout.now kind (ctypes.struct structure) }
+    ensures { IfOk result (λ value. view_of_value value ≡ objects.filled_struct (laid_out layout.now) (scalar_of scalars) depth structure) }
 {
     if depth == 0 {
         return Ok(Value::Unset);
