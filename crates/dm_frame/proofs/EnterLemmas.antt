@@ -31,12 +31,12 @@ length-from table n (block ∷ blocks) older =
 pub length-view : (table : Table) (blocks : List Block) → length (view_of_blocks table blocks) ≡ length blocks
 length-view table blocks = length-from table 0 blocks [] ∙ omega arith
 
-named-order : (memory : Memory) (i n : ℕ) (ds : List ℕ) (objects : Objects) → length memory + i ≡ n → named_from (in_order memory) i ds objects ≡ named_on n ds objects
+pub named-order : (memory : Memory) (i n : ℕ) (ds : List ℕ) (objects : Objects) → length memory + i ≡ n → named_from (in_order memory) i ds objects ≡ named_on n ds objects
 named-order memory i n [] objects e = refl
 named-order memory i n (d ∷ ds) objects e =
     named-order memory (suc i) (suc n) ds ((d, length memory + i) ∷ objects) (omega (arith, e)) ∙ ap (λ k. named_on (suc n) ds ((d, k) ∷ objects)) e
 
-made-order : (program : Program) (memory : Memory) (i n : ℕ) (ds : List ℕ) (after : Memory) → length memory + i ≡ n → made_from program (in_order memory) i ds after ≡ made_on program n ds after
+pub made-order : (program : Program) (memory : Memory) (i n : ℕ) (ds : List ℕ) (after : Memory) → length memory + i ≡ n → made_from program (in_order memory) i ds after ≡ made_on program n ds after
 made-order program memory i n [] after e = refl
 made-order program memory i n (d ∷ ds) after e =
     made-order program memory (suc i) (suc n) ds ((length memory + i, new_block (layout program) (type_declared program d)) ∷ after) (omega (arith, e))

@@ -1,5 +1,6 @@
 pub mod BeginLemmas
 pub mod BlockLemmas
+pub mod CallLemmas
 pub mod EnterLemmas
 pub mod JumpLemmas
 pub mod KeptLemmas
