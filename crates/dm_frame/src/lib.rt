@@ -5,6 +5,7 @@
 mod calling;
 mod form;
 mod frame;
+mod initial;
 mod jump;
 mod label;
 mod next;
@@ -15,6 +16,7 @@ mod task;
 
 pub use calling::open;
 pub use frame::Frame;
+pub use jump::end_objects;
 pub use next::Next;
 pub use stack::Stack;
 pub use statement::begin_statement;

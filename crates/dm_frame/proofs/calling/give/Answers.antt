@@ -23,9 +23,9 @@ loop-parameter-preserved c =
       (subst (AllByRecursion (λ d. IsSome (declaration_of program d))) e c.loop-parameter.invariant.1).1,
       λ named made more. c.loop-parameter.invariant.2 named made
           (subst (λ (left : List ℕ). IsGiven program left (map view_of_value c.loop-parameter.values.now) c.loop-parameter.objects c.loop-parameter.blocks named made) (sym e)
-          (one-given program c.in-Some.parameter.now c.in-Some.others.now (map view_of_value c.loop-parameter.values.now) (map view_of_value c.others_behind.result.now) c.in_ok-block.block
+          (one-given program c.in-Some.parameter.now c.in-Some.others.now (map view_of_value c.loop-parameter.values.now) (map view_of_value c.others_behind-values.result.now) c.in_ok-block.block
           c.loop-parameter.objects c.make.new.objects named c.loop-parameter.blocks c.make.new.blocks made
-          c.in_ok-block.ensures.0 c.in_ok-make.ensures.objects c.in_ok-make.ensures.blocks c.others_behind.ensures more)),
+          c.in_ok-block.ensures.0 c.in_ok-make.ensures.objects c.in_ok-make.ensures.blocks c.others_behind-values.ensures more)),
     )
 
 pub returns : goal.returns

@@ -22,10 +22,34 @@ abbrev framed : ℕ → Objects → List states.Task → states.Frame
 framed function objects tasks = record { function = function; objects = objects; tasks = tasks }
 
 pub returns-clause-frame : goal.returns-clause-frame
-returns-clause-frame c = ?
+returns-clause-frame c =
+    let program = meant c.args.program.now in
+    let table = c.args.program.now.table in
+    let one = c.args.function in
+    let names = in_order (view_of_blocks table c.args.blocks.now) in
+    let trees = map (view table) one.items.now in
+    let given = subst (λ (objects : Objects). IsGiven program one.parameters.now (map view_of_value c.args.arguments.now) objects c.args.blocks.now c.give.new.objects c.give.new.blocks) c.new-objects.ensures c.in_ok-give.ensures in
+    let made = opened-so program one.parameters.now (declared_in program trees) (map view_of_value c.args.arguments.now) c.args.blocks.now c.give.new.blocks c.enter.new.blocks c.give.new.objects c.enter.new.objects given c.in_ok-enter.ensures in
+    let left : c.push.new.self ≡ task.Items one.items ∷ [] = c.in_ok-push.ensures.ok ∙ ap (λ (rest : List Task). task.Items one.items ∷ rest) c.new-tasks.ensures in
+    ap (λ (tasks : List Task). framed one.number c.enter.new.objects (view_of_tasks table c.enter.new.objects tasks)) left
+    ∙ (ap (framed one.number c.enter.new.objects) (append-nil (items_tasks trees))
+    ∙ (ap (λ (objects : Objects). framed one.number objects (items_tasks trees)) (sym made.0)
+    ∙ ap (λ (items : List Tree). framed one.number (named_from names (length one.parameters.now) (declared_in program items) (named_from names 0 one.parameters.now [])) (items_tasks items)) c.requires.function.items))
 
 pub returns-clause-memory : goal.returns-clause-memory
-returns-clause-memory c = ?
+returns-clause-memory c =
+    let program = meant c.args.program.now in
+    let table = c.args.program.now.table in
+    let one = c.args.function in
+    let memory = view_of_blocks table c.args.blocks.now in
+    let trees = map (view table) one.items.now in
+    let given = subst (λ (objects : Objects). IsGiven program one.parameters.now (map view_of_value c.args.arguments.now) objects c.args.blocks.now c.give.new.objects c.give.new.blocks) c.new-objects.ensures c.in_ok-give.ensures in
+    let made = opened-so program one.parameters.now (declared_in program trees) (map view_of_value c.args.arguments.now) c.args.blocks.now c.give.new.blocks c.enter.new.blocks c.give.new.objects c.enter.new.objects given c.in_ok-enter.ensures in
+    sym made.1
+    ∙ ap (λ (items : List Tree). made_from program (in_order memory) (length one.parameters.now) (declared_in program items) (given_from program (in_order memory) 0 one.parameters.now (map view_of_value c.args.arguments.now) memory)) c.requires.function.items
 
 pub returns-clause-fits : goal.returns-clause-fits
-returns-clause-fits c = ?
+returns-clause-fits c =
+    let one = c.args.function in
+    let left : c.push.new.self ≡ task.Items one.items ∷ [] = c.in_ok-push.ensures.ok ∙ ap (λ (rest : List Task). task.Items one.items ∷ rest) c.new-tasks.ensures in
+    subst (TasksFit c.args.program.now.table (length c.enter.new.objects)) (sym left) (c.requires.function.known_items, tt)
