@@ -50,7 +50,12 @@ impl Scalars {
 }
 
 /// The first value of an object of a type.
-pub fn first_value(alloc: Global, layout: &Layout, scalars: Scalars, kind: TypeId) -> Result<Value, Memory>
+pub fn first_value(
+    alloc: Global,
+    layout: &Layout,
+    scalars: Scalars,
+    kind: TypeId,
+) -> Result<Value, Memory>
     requires { IsId layout.now kind }
     ensures { IfOk result (λ value. view_of_value value ≡ objects.filled_with (laid_out layout.now) (scalar_of scalars) (type_of layout.now kind)) }
 {
@@ -61,7 +66,13 @@ pub fn first_value(alloc: Global, layout: &Layout, scalars: Scalars, kind: TypeI
 
 /// The same, in which so many structs may lie within each other.
 #[cycle(first)]
-fn filled(alloc: Global, layout: &Layout, scalars: Scalars, depth: usize, kind: TypeId) -> Result<Value, Memory>
+fn filled(
+    alloc: Global,
+    layout: &Layout,
+    scalars: Scalars,
+    depth: usize,
+    kind: TypeId,
+) -> Result<Value, Memory>
     requires { IsId layout.now kind }
     ensures { IfOk result (λ value. view_of_value value
         ≡ objects.filled (scalar_of scalars) (objects.filled_struct (laid_out layout.now) (scalar_of scalars) depth) (type_of layout.now kind)) }

@@ -54,7 +54,7 @@ block-begun program items objects named blocks made tasks entered-so fits =
     ap (λ rest. onward named (items_tasks (map (view program.table) items.now) ++ rest) (view_of_blocks program.table made)) (ends-behind program ds objects named blocks made entered-so tasks fits)
     ∙ (ap (λ all. onward all (items_tasks (map (view program.table) items.now) ++ states.ends objects ∷ view_of_tasks program.table objects tasks) (view_of_blocks program.table made)) (sym made-so.0)
     ∙ ap (λ memory. onward (entered program (in_order (view_of_blocks program.table blocks)) (map (view program.table) items.now) objects)
-        (items_tasks (map (view program.table) items.now) ++ states.ends objects ∷ view_of_tasks program.table objects tasks) memory) (sym made-so.1))
+    (items_tasks (map (view program.table) items.now) ++ states.ends objects ∷ view_of_tasks program.table objects tasks) memory) (sym made-so.1))
 
 -- a `for` with a first part
 pub for-begun : (program : Program) (start : Tree) (loop : Loop) (objects named : Objects) (blocks made : List Block) (tasks : List Task) (left : List states.Task)
@@ -73,10 +73,10 @@ for-begun program start loop objects named blocks made tasks left entered-so fit
     ∙ (ap (λ behind. onward named (start_tasks (Some start) ++ states.tests named seen ∷ behind) (view_of_blocks program.table made)) (ends-behind program ds objects named blocks made entered-so tasks fits)
     ∙ (ap (λ all. onward all (start_tasks (Some start) ++ states.tests all seen ∷ states.ends objects ∷ rest) (view_of_blocks program.table made)) (sym made-so.0)
     ∙ (ap (λ memory. onward (named_from (in_order (view_of_blocks program.table blocks)) 0 ds objects)
-        (start_tasks (Some start) ++ states.tests (named_from (in_order (view_of_blocks program.table blocks)) 0 ds objects) seen ∷ states.ends objects ∷ rest) memory) (sym made-so.1)
+    (start_tasks (Some start) ++ states.tests (named_from (in_order (view_of_blocks program.table blocks)) 0 ds objects) seen ∷ states.ends objects ∷ rest) memory) (sym made-so.1)
     ∙ ap (λ all. onward (named_from (in_order (view_of_blocks program.table blocks)) 0 all objects)
-        (start_tasks (Some start) ++ states.tests (named_from (in_order (view_of_blocks program.table blocks)) 0 all objects) seen ∷ states.ends objects ∷ rest)
-        (made_from program (in_order (view_of_blocks program.table blocks)) 0 all (view_of_blocks program.table blocks))) (sym whole)))))
+    (start_tasks (Some start) ++ states.tests (named_from (in_order (view_of_blocks program.table blocks)) 0 all objects) seen ∷ states.ends objects ∷ rest)
+    (made_from program (in_order (view_of_blocks program.table blocks)) 0 all (view_of_blocks program.table blocks))) (sym whole)))))
 
 -- a `for`, by its parts
 pub for-parts : (program : Program) (names : ℕ → ℕ) (objects : Objects) (rest : List states.Task) (memory : Memory) (start condition after : Option Tree) (body : Tree)

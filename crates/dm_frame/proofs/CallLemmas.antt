@@ -26,7 +26,7 @@ one-given program d ds arguments others block objects between named blocks more 
     let l : length (blocks ++ block ∷ []) ≡ length blocks + 1 = length-append blocks (block ∷ []) in
     let count : length more ≡ suc (length blocks) = ap length makes ∙ omega (arith, l) in
     let memory : view_of_blocks program.table more ≡ (length blocks, given_block program d (first_of arguments)) ∷ view_of_blocks program.table blocks =
-        ap (view_of_blocks program.table) makes ∙ (more-view program.table blocks block ∙ ap (λ one. (length blocks, one) ∷ view_of_blocks program.table blocks) seen) in
+    ap (view_of_blocks program.table) makes ∙ (more-view program.table blocks block ∙ ap (λ one. (length blocks, one) ∷ view_of_blocks program.table blocks) seen) in
     let total = later.count in
     record {
       names = later.names ∙ (ap (λ n. named_on n ds between) count ∙ ap (named_on (suc (length blocks)) ds) names);

@@ -27,6 +27,6 @@ parts-first table at kind n first rest =
     let front : take (expressions_in one.initialiser) (one.expressions ++ others) ≡ one.expressions = ap (λ n. take n (one.expressions ++ others)) (sym count) ∙ take-append_seam one.expressions others in
     let back : drop (expressions_in one.initialiser) (one.expressions ++ others) ≡ others = ap (λ n. drop n (one.expressions ++ others)) (sym count) ∙ drop-append_seam one.expressions others in
     ap (λ expressions. initials (part_of at n) (inner_type (laid_out table) (bare kind) n) one.initialiser expressions
-        ∷ part_tasks (laid_out table) at kind (suc n) (items_of (initials_at table rest)) (drop (expressions_in one.initialiser) (one.expressions ++ others))) front
+    ∷ part_tasks (laid_out table) at kind (suc n) (items_of (initials_at table rest)) (drop (expressions_in one.initialiser) (one.expressions ++ others))) front
     ∙ ap (λ expressions. initials (part_of at n) (inner_type (laid_out table) (bare kind) n) one.initialiser one.expressions
-        ∷ part_tasks (laid_out table) at kind (suc n) (items_of (initials_at table rest)) expressions) back
+    ∷ part_tasks (laid_out table) at kind (suc n) (items_of (initials_at table rest)) expressions) back

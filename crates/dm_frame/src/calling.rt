@@ -42,7 +42,14 @@ pub fn open<'a>(
     ensures fits { IfOk result (FrameFits program.now.table) }
 {
     let mut objects = Stack::new(alloc);
-    give(alloc, program, &mut objects, blocks, function.parameters, arguments)?;
+    give(
+        alloc,
+        program,
+        &mut objects,
+        blocks,
+        function.parameters,
+        arguments,
+    )?;
     enter(alloc, program, &mut objects, blocks, function.items)?;
     let mut tasks = Stack::new(alloc);
     tasks.push(Task::Items(function.items))?;

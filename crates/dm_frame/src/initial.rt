@@ -21,7 +21,11 @@ use dm_value::{At, Name};
 impl<'a> Frame<'a> {
     /// A declarator begins: an object of automatic storage duration is to get its first value. An object of static storage
     /// duration has had it from the start (6.2.4p3).
-    pub fn begin_declarator(&mut self, program: &Program<'a>, local: &'a Local) -> Result<(), Memory>
+    pub fn begin_declarator(
+        &mut self,
+        program: &Program<'a>,
+        local: &'a Local,
+    ) -> Result<(), Memory>
         ensures function { self.new.function ≡ self.old.function }
         ensures objects { self.new.objects ≡ self.old.objects }
         ensures left { (memory : AllMemory) → OnOk result (onward self.new.objects (tasks_of program.now.table self.new) memory

@@ -62,7 +62,12 @@ impl<'a> Frame<'a> {
     }
 
     /// The first of the things for which a task stands, if it stands for any. The others are left to do.
-    fn split(&mut self, alloc: Global, layout: &Layout, task: Task<'a>) -> Result<Option<Next<'a>>, Memory>
+    fn split(
+        &mut self,
+        alloc: Global,
+        layout: &Layout,
+        task: Task<'a>,
+    ) -> Result<Option<Next<'a>>, Memory>
         requires { TasksFit layout.now (length self.old.objects) (task ∷ self.old.tasks) }
         ensures objects { self.new.objects ≡ self.old.objects }
         ensures function { self.new.function ≡ self.old.function }

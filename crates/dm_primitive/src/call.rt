@@ -54,7 +54,9 @@ impl Primitive {
         match self {
             Primitive::Putchar => put_character(arguments, streams),
             Primitive::Getchar => Ok(get_character(streams)),
-            Primitive::Puts(character) => put_line(alloc, layout, blocks, character, arguments, streams),
+            Primitive::Puts(character) => put_line(
+                alloc, layout, blocks, character, arguments, streams,
+            ),
             Primitive::Exit => Ok(end_program(arguments)),
         }
     }

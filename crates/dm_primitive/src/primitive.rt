@@ -51,13 +51,22 @@ fn named(types: &Types, name: &[u8], gives: TypeId, parameters: &[TypeId]) -> Op
     ensures over { IfSome result (IsOver types.now) }
 {
     if name == b"putchar".as_slice() {
-        return when(Primitive::Putchar, is_int(types, gives) && takes_int(types, parameters));
+        return when(
+            Primitive::Putchar,
+            is_int(types, gives) && takes_int(types, parameters),
+        );
     }
     if name == b"getchar".as_slice() {
-        return when(Primitive::Getchar, is_int(types, gives) && takes_nothing(types, parameters));
+        return when(
+            Primitive::Getchar,
+            is_int(types, gives) && takes_nothing(types, parameters),
+        );
     }
     if name == b"exit".as_slice() {
-        return when(Primitive::Exit, is_void(types, gives) && takes_int(types, parameters));
+        return when(
+            Primitive::Exit,
+            is_void(types, gives) && takes_int(types, parameters),
+        );
     }
     if name == b"puts".as_slice() && is_int(types, gives) {
         let character = takes_text(types, parameters)?;
@@ -136,7 +145,11 @@ fn takes_text(types: &Types, parameters: &[TypeId]) -> Option<TypeId>
     let parameter = only(parameters)?;
     let target = pointed(types, bare(types, parameter))?;
     let character = unqualified(types, target)?;
-    if is_char(types, character) { Some(character) } else { None }
+    if is_char(types, character) {
+        Some(character)
+    } else {
+        None
+    }
 }
 
 /// What a pointer type points to.

@@ -35,9 +35,10 @@ pub declared-found : (table : Table) (declared items : List Declared) (d : ℕ) 
 declared-found table declared items d None same known found =
     slice_get-map (view_of_declared table) declared d ∙ ap (option_map (view_of_declared table)) (ap (λ all. slice_get all d) (sym same) ∙ found)
 declared-found table declared items d (Some entry) same known found =
-    let at : slice_get declared d ≡ Some entry.now = ap (λ all. slice_get all d) (sym same) ∙ found in
-    (slice_get-map (view_of_declared table) declared d ∙ ap (option_map (view_of_declared table)) at,
-    ltb-true entry.now.kind (length table.shapes) (each-passes (entry_has_known (length table.shapes)) declared d entry.now known at))
+    let at : slice_get declared d ≡ Some entry.now = ap (λ all. slice_get all d) (sym same) ∙ found in (
+      slice_get-map (view_of_declared table) declared d ∙ ap (option_map (view_of_declared table)) at,
+      ltb-true entry.now.kind (length table.shapes) (each-passes (entry_has_known (length table.shapes)) declared d entry.now known at),
+    )
 
 -- the definition of a number fits the program
 pub function-found : (source : Source) (d : ℕ) (result : Option Function) → option_map (view_of_function source.table) result ≡ definition_of (meant source) d

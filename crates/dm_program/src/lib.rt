@@ -2,8 +2,8 @@
 //! static storage duration, found by the numbers of their declarations.
 #![tactic(auto)]
 
-mod function;
 mod fixed;
+mod function;
 mod program;
 
 pub use fixed::Static;

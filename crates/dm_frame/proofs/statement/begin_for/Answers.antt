@@ -24,9 +24,9 @@ returns-in_ok-tests-in-None-clause-left c =
     let loop = c.args.repeated in
     let memory = view_of_blocks table c.args.blocks.now in
     let left : tasks_of table after ≡ states.tests start.objects (view_of_loop table loop) ∷ states.ends start.objects ∷ tasks_of table start =
-        tests-led table middle after c.in_ok-tests-in-None.ensures.objects loop c.in_ok-tests-in-None.ensures.tasks
-        ∙ (ap (λ objects. states.tests objects (view_of_loop table loop) ∷ tasks_of table middle) c.in_ok-ends.ensures.objects
-        ∙ ap (λ tasks. states.tests start.objects (view_of_loop table loop) ∷ tasks) (ends-led table start middle c.in_ok-ends.ensures.objects c.in_ok-ends.ensures.tasks)) in
+    tests-led table middle after c.in_ok-tests-in-None.ensures.objects loop c.in_ok-tests-in-None.ensures.tasks
+    ∙ (ap (λ objects. states.tests objects (view_of_loop table loop) ∷ tasks_of table middle) c.in_ok-ends.ensures.objects
+    ∙ ap (λ tasks. states.tests start.objects (view_of_loop table loop) ∷ tasks) (ends-led table start middle c.in_ok-ends.ensures.objects c.in_ok-ends.ensures.tasks)) in
     record {
       same = ap (λ objects. onward objects (tasks_of table after) memory) (c.in_ok-tests-in-None.ensures.objects ∙ c.in_ok-ends.ensures.objects)
           ∙ (ap (λ tasks. onward start.objects tasks memory) left
@@ -51,17 +51,17 @@ returns-in_ok-begun-in-Some-clause-left c =
     let ds = declared_by program (view table first) in
     let entered = subst (λ objects. IsEntered program ds objects c.args.blocks.now named made) c.in_ok-ends.ensures.objects c.in_ok-enter_item-in-Some.ensures in
     let tasks : tested.tasks ≡ task.Tests (length named) loop ∷ task.Ends (length start.objects) ∷ start.tasks =
-        c.in_ok-tests-in-Some.ensures.tasks ∙ ap (λ rest. task.Tests (length named) loop ∷ rest) c.in_ok-ends.ensures.tasks in
+    c.in_ok-tests-in-Some.ensures.tasks ∙ ap (λ rest. task.Tests (length named) loop ∷ rest) c.in_ok-ends.ensures.tasks in
     let left = view_of_begun table c.in_ok-begun-in-Some.begun ++ tasks_of table c.begin_start.new.self in
     let is : left ≡ start_tasks (Some (view table first)) ++ view_of_tasks table named (task.Tests (length named) loop ∷ task.Ends (length start.objects) ∷ start.tasks) =
-        c.in_ok-begun-in-Some.ensures.same table
-        ∙ (ap (λ objects. start_tasks (Some (view table first)) ++ view_of_tasks table objects tested.tasks) c.in_ok-tests-in-Some.ensures.objects
-        ∙ ap (λ all. start_tasks (Some (view table first)) ++ view_of_tasks table named all) tasks) in
+    c.in_ok-begun-in-Some.ensures.same table
+    ∙ (ap (λ objects. start_tasks (Some (view table first)) ++ view_of_tasks table objects tested.tasks) c.in_ok-tests-in-Some.ensures.objects
+    ∙ ap (λ all. start_tasks (Some (view table first)) ++ view_of_tasks table named all) tasks) in
     let known = subst (OptionFits table) c.in-Some.is c.requires.start in
     let fits = c.in_ok-begun-in-Some.ensures.fits table
-        (subst (λ objects. TasksFit table (length objects) tested.tasks) (sym c.in_ok-tests-in-Some.ensures.objects)
-        (subst (TasksFit table (length named)) (sym tasks)
-        ((omega arith, c.requires.repeated), (none-lost program ds start.objects named c.args.blocks.now made entered, c.requires.frame)))) known in
+    (subst (λ objects. TasksFit table (length objects) tested.tasks) (sym c.in_ok-tests-in-Some.ensures.objects)
+    (subst (TasksFit table (length named)) (sym tasks)
+    ((omega arith, c.requires.repeated), (none-lost program ds start.objects named c.args.blocks.now made entered, c.requires.frame)))) known in
     record {
       same = ap (λ objects. onward objects left (view_of_blocks table made)) (c.in_ok-begun-in-Some.ensures.objects ∙ c.in_ok-tests-in-Some.ensures.objects)
           ∙ (for-begun program (view table first) loop start.objects named c.args.blocks.now made start.tasks left entered c.requires.frame is

@@ -54,7 +54,7 @@ returns-in_ok-begin_block-in-Block-clause-left c =
           ∙ (ap (λ (items : List Core). begin_form program (in_order memory) start.objects (tasks_of table start) memory block (map (view table) items)) c.items.ensures
           ∙ (ap (begin_form program (in_order memory) start.objects (tasks_of table start) memory block) (sym (listed-trees table (map (view table) c.in-Block.items)))
           ∙ statement-form program (in_order memory) start.objects (tasks_of table start) memory table c.unlabelled-statement.result.now (view table c.args.tree.now) _ (c.unlabelled-statement.ensures.same table)
-            (ap (opened_form table) c.in-Block.is ∙ opened-Block table c.in-Block.items)));
+          (ap (opened_form table) c.in-Block.is ∙ opened-Block table c.in-Block.items)));
       frame_fits = left.frame_fits;
       begun_fits = left.begun_fits;
       blocks_fit = left.blocks_fit;
@@ -80,7 +80,7 @@ returns-in_ok-begun-in-For-clause-left c =
           ∙ (ap (λ (tree : Core). begin_for program (in_order memory) start.objects rest memory first (loop_with condition after (view table tree))) c.get.ensures
           ∙ (for-parts program (in_order memory) start.objects rest memory first condition after (view table c.in-For.body)
           ∙ statement-form program (in_order memory) start.objects rest memory table c.unlabelled-statement.result.now (view table c.args.tree.now) _ (c.unlabelled-statement.ensures.same table)
-            (ap (opened_form table) c.in-For.is ∙ opened-For table c.in-For.start c.in-For.condition c.in-For.after c.in-For.body))))));
+          (ap (opened_form table) c.in-For.is ∙ opened-For table c.in-For.start c.in-For.condition c.in-For.after c.in-For.body))))));
       frame_fits = left.frame_fits;
       begun_fits = left.begun_fits;
       blocks_fit = left.blocks_fit;

@@ -12,5 +12,5 @@ returns-in-Some c =
     let is : c.args.parameters.now ≡ c.in_ok-parameter.parameter.now ∷ c.in_ok-parameter.others.now = search rules in
     let behind : c.in_ok-parameter.others.now ≡ second.now ∷ others.now = search rules in
     λ types type.
-        ap (λ all. match_as_parameters (all_of (map types all)) (more_types type no_types)) (is ∙ ap (λ rest. c.in_ok-parameter.parameter.now ∷ rest) behind)
-        ∙ never-one types c.in_ok-parameter.parameter.now second.now others.now type
+    ap (λ all. match_as_parameters (all_of (map types all)) (more_types type no_types)) (is ∙ ap (λ rest. c.in_ok-parameter.parameter.now ∷ rest) behind)
+    ∙ never-one types c.in_ok-parameter.parameter.now second.now others.now type

@@ -16,5 +16,5 @@ returns c =
     let at = view_of_at c.args.at.now in
     let free : earliest (read_causes (laid_out c.args.layout.now) objects [] (integer Char) at) ≡ None = search rules in
     λ later.
-        ap (λ cause. unless_cause cause (contents_at objects at) later) free
-        ∙ (ap (λ value. and_text value later) (sym (c.in_ok-value.ensures c.args.layout.now)) ∙ c.character_in.ensures later)
+    ap (λ cause. unless_cause cause (contents_at objects at) later) free
+    ∙ (ap (λ value. and_text value later) (sym (c.in_ok-value.ensures c.args.layout.now)) ∙ c.character_in.ensures later)

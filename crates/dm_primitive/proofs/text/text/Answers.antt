@@ -51,7 +51,7 @@ returns-in_default c =
     let byte : ℕ = c.in-Byte.byte in
     let reads : Reads layout memory left at some (Byte byte) = subst (λ (place : At). Reads layout memory left (view_of_at place) some (Byte byte)) here (λ later. c.in_ok-byte.ensures later ∙ ap (λ one. and_character one later) c.in-Byte.is) in
     let later : text_on (moved_pointer layout memory (integer Char) (to at) (pos 1)) (text_at layout memory (left - 1)) ≡ Err Bounds =
-        c.in_ok-next.ensures (text_at layout memory (left - 1)) ∙ ap (λ next. text_at_next next (text_at layout memory (left - 1))) c.in_default.is in
+    c.in_ok-next.ensures (text_at layout memory (left - 1)) ∙ ap (λ next. text_at_next next (text_at layout memory (left - 1))) c.in_default.is in
     sym (ap (λ (text : Text). behind c.loop-left.bytes (behind (byte ∷ []) text)) later)
     ∙ (ap (behind c.loop-left.bytes) (sym (by-first layout memory left at some (Byte byte) reads)) ∙ c.loop-left.invariant)
 
@@ -67,7 +67,7 @@ loop-left-preserved c =
     let reads : Reads layout memory left at some (Byte byte) = subst (λ (place : At). Reads layout memory left (view_of_at place) some (Byte byte)) here (λ later. c.in_ok-byte.ensures later ∙ ap (λ one. and_character one later) c.in-Byte.is) in
     let text = text_at layout memory (left - 1) (view_of_at c.in-Some.next.value) in
     let later : text_on (moved_pointer layout memory (integer Char) (to at) (pos 1)) (text_at layout memory (left - 1)) ≡ text =
-        c.in_ok-next.ensures (text_at layout memory (left - 1)) ∙ ap (λ next. text_at_next next (text_at layout memory (left - 1))) c.in-Some.is in
+    c.in_ok-next.ensures (text_at layout memory (left - 1)) ∙ ap (λ next. text_at_next next (text_at layout memory (left - 1))) c.in-Some.is in
     ap (λ bytes. behind bytes text) c.in_ok-push-in-Byte.ensures.ok
     ∙ (behind-more c.loop-left.bytes byte text
     ∙ (sym (ap (λ (text : Text). behind c.loop-left.bytes (behind (byte ∷ []) text)) later)

@@ -34,9 +34,9 @@ returns-in_ok-ends-in-If-clause-same c = λ table.
     c.in_ok-ends-in-If.ensures.objects (begun-seen table c.begun-in-If.result c.get-in-If.result (use_of.Chooses chosen other) c.in-If.condition c.begun-in-If.ensures c.get-in-If.ensures)
     (ends-led table before c.ends-in-If.new.self c.in_ok-ends-in-If.ensures.objects c.in_ok-ends-in-If.ensures.tasks)
     (λ program names memory.
-        ap (λ (first : Core). onward before.objects (evaluation (view table c.in-If.condition) (states.chooses (view table first) (tree_or_none table other)) ∷ behind) memory) c.get-chosen.ensures
-        ∙ (ap (λ second. onward before.objects (evaluation (view table c.in-If.condition) (states.chooses (view table c.in-If.first) second) ∷ behind) memory) (c.inside-other.ensures.same table)
-        ∙ if-meant program names before.objects (tasks_of table before) memory (view table c.in-If.condition) (view table c.in-If.first) (option_map (view table) c.in-If.second)))
+    ap (λ (first : Core). onward before.objects (evaluation (view table c.in-If.condition) (states.chooses (view table first) (tree_or_none table other)) ∷ behind) memory) c.get-chosen.ensures
+    ∙ (ap (λ second. onward before.objects (evaluation (view table c.in-If.condition) (states.chooses (view table c.in-If.first) second) ∷ behind) memory) (c.inside-other.ensures.same table)
+    ∙ if-meant program names before.objects (tasks_of table before) memory (view table c.in-If.condition) (view table c.in-If.first) (option_map (view table) c.in-If.second)))
 
 pub returns-in_ok-ends-in-If-clause-fits : goal.returns-in_ok-ends-in-If-clause-fits
 returns-in_ok-ends-in-If-clause-fits c = λ table fits formed.
@@ -59,8 +59,8 @@ returns-in_ok-push-in-Switch-clause-same c = λ table.
     refl (begun-seen table c.begun-in-Switch.result c.get-in-Switch.result (use_of.Selects c.items.result) c.in-Switch.operand c.begun-in-Switch.ensures c.get-in-Switch.ensures)
     (switch-led table before after refl led)
     (λ program names memory.
-        ap (λ (items : List Core). onward before.objects (evaluation (view table c.in-Switch.operand) (states.selects (map (view table) items)) ∷ states.ends_switch before.objects ∷ tasks_of table before) memory) c.items.ensures
-        ∙ switch-meant program names before.objects (tasks_of table before) memory (view table c.in-Switch.operand) (map (view table) c.in-Switch.items))
+    ap (λ (items : List Core). onward before.objects (evaluation (view table c.in-Switch.operand) (states.selects (map (view table) items)) ∷ states.ends_switch before.objects ∷ tasks_of table before) memory) c.items.ensures
+    ∙ switch-meant program names before.objects (tasks_of table before) memory (view table c.in-Switch.operand) (map (view table) c.in-Switch.items))
 
 pub returns-in_ok-tests-in-While-clause-same : goal.returns-in_ok-tests-in-While-clause-same
 returns-in_ok-tests-in-While-clause-same c = λ table.
@@ -70,14 +70,14 @@ returns-in_ok-tests-in-While-clause-same c = λ table.
     let loop : Loop = record { condition = Some c.get-in-While.result; after = None; body = c.get-in-While-2.result } in
     let same : after.objects ≡ before.objects = c.in_ok-tests-in-While.ensures.objects ∙ c.in_ok-ends-in-While.ensures.objects in
     let left : tasks_of table after ≡ states.tests before.objects (view_of_loop table loop) ∷ states.ends before.objects ∷ tasks_of table before =
-        tests-led table middle after c.in_ok-tests-in-While.ensures.objects loop c.in_ok-tests-in-While.ensures.tasks
-        ∙ (ap (λ objects. states.tests objects (view_of_loop table loop) ∷ tasks_of table middle) c.in_ok-ends-in-While.ensures.objects
-        ∙ ap (λ tasks. states.tests before.objects (view_of_loop table loop) ∷ tasks) (ends-led table before middle c.in_ok-ends-in-While.ensures.objects c.in_ok-ends-in-While.ensures.tasks)) in
+    tests-led table middle after c.in_ok-tests-in-While.ensures.objects loop c.in_ok-tests-in-While.ensures.tasks
+    ∙ (ap (λ objects. states.tests objects (view_of_loop table loop) ∷ tasks_of table middle) c.in_ok-ends-in-While.ensures.objects
+    ∙ ap (λ tasks. states.tests before.objects (view_of_loop table loop) ∷ tasks) (ends-led table before middle c.in_ok-ends-in-While.ensures.objects c.in_ok-ends-in-While.ensures.tasks)) in
     form-begun table before after c.args.form.now _ None [] _ (ap (opened_form table) c.in-While.is ∙ opened-While table c.in-While.condition c.in-While.body)
     same refl left
     (λ program names memory.
-        ap (λ (tree : Core). onward before.objects (states.tests before.objects (record { condition = Some (view table tree); after = None; body = view table c.get-in-While-2.result.now }) ∷ states.ends before.objects ∷ tasks_of table before) memory) c.get-in-While.ensures
-        ∙ ap (λ (tree : Core). onward before.objects (states.tests before.objects (record { condition = Some (view table c.in-While.condition); after = None; body = view table tree }) ∷ states.ends before.objects ∷ tasks_of table before) memory) c.get-in-While-2.ensures)
+    ap (λ (tree : Core). onward before.objects (states.tests before.objects (record { condition = Some (view table tree); after = None; body = view table c.get-in-While-2.result.now }) ∷ states.ends before.objects ∷ tasks_of table before) memory) c.get-in-While.ensures
+    ∙ ap (λ (tree : Core). onward before.objects (states.tests before.objects (record { condition = Some (view table c.in-While.condition); after = None; body = view table tree }) ∷ states.ends before.objects ∷ tasks_of table before) memory) c.get-in-While-2.ensures)
 
 pub returns-in_ok-begun-in-Return-clause-same : goal.returns-in_ok-begun-in-Return-clause-same
 returns-in_ok-begun-in-Return-clause-same c = λ table program names memory.
@@ -99,7 +99,7 @@ returns-in_ok-ends-in_default-clause-same c = λ table.
     form-begun table before c.ends-in_default.new.self c.args.form.now _ None [] _ refl c.in_ok-ends-in_default.ensures.objects refl
     (ends-led table before c.ends-in_default.new.self c.in_ok-ends-in_default.ensures.objects c.in_ok-ends-in_default.ensures.tasks)
     (λ program names memory. other-meant table c.args.form.now program names before.objects (tasks_of table before) memory c.requires.plain
-        c.in_default.not-Full c.in_default.not-If c.in_default.not-Switch c.in_default.not-While c.in_default.not-Do c.in_default.not-Break c.in_default.not-Continue c.in_default.not-Return)
+    c.in_default.not-Full c.in_default.not-If c.in_default.not-Switch c.in_default.not-While c.in_default.not-Do c.in_default.not-Break c.in_default.not-Continue c.in_default.not-Return)
 
 pub returns-in_ok-ends-in_default-clause-fits : goal.returns-in_ok-ends-in_default-clause-fits
 returns-in_ok-ends-in_default-clause-fits c = λ table fits formed.

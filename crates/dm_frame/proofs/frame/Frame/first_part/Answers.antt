@@ -27,9 +27,9 @@ returns-clause-same c =
     ∙ (ap (λ tasks. tasks ++ behind) (parts-first table (view_of_at c.args.whole.0) (type_of_object table c.args.whole.1) c.args.number first rest)
     ∙ (ap (λ at. initials at (inner_type (laid_out table) (bare (type_of_object table c.args.whole.1)) c.args.number) (view_of_initial table first).initialiser (view_of_initial table first).expressions ∷ (part_tasks (laid_out table) (view_of_at c.args.whole.0) (type_of_object table c.args.whole.1) (suc c.args.number) (items_of (initials_at table rest)) (expressions_of_items (initials_at table rest)) ++ behind)) (sym c.in_ok-part.ensures)
     ∙ (ap (λ type. initials (view_of_at c.in_ok-part.part) type (view_of_initial table first).initialiser (view_of_initial table first).expressions
-        ∷ (part_tasks (laid_out table) (view_of_at c.args.whole.0) (type_of_object table c.args.whole.1) (suc c.args.number) (items_of (initials_at table rest)) (expressions_of_items (initials_at table rest)) ++ behind))
-        (sym (c.inner-part_kind.ensures.inner ∙ kind))
+    ∷ (part_tasks (laid_out table) (view_of_at c.args.whole.0) (type_of_object table c.args.whole.1) (suc c.args.number) (items_of (initials_at table rest)) (expressions_of_items (initials_at table rest)) ++ behind))
+    (sym (c.inner-part_kind.ensures.inner ∙ kind))
     ∙ (ap (λ n. initials (view_of_at c.in_ok-part.part) (type_of_object table c.inner-part_kind.result) (view_of_initial table first).initialiser (view_of_initial table first).expressions
-        ∷ (part_tasks (laid_out table) (view_of_at c.args.whole.0) (type_of_object table c.args.whole.1) n (items_of (initials_at table rest)) (expressions_of_items (initials_at table rest)) ++ behind)) (sym next)
+    ∷ (part_tasks (laid_out table) (view_of_at c.args.whole.0) (type_of_object table c.args.whole.1) n (items_of (initials_at table rest)) (expressions_of_items (initials_at table rest)) ++ behind)) (sym next)
     ∙ ap (λ tasks. initials (view_of_at c.in_ok-part.part) (type_of_object table c.inner-part_kind.result) (view_of_initial table first).initialiser (view_of_initial table first).expressions
-        ∷ view_of_tasks table c.args.self.now.objects tasks) (sym c.in_ok-push.ensures.ok)))))
+    ∷ view_of_tasks table c.args.self.now.objects tasks) (sym c.in_ok-push.ensures.ok)))))

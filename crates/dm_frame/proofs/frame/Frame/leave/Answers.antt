@@ -25,14 +25,16 @@ returns-in-EndsSwitch-clause-left c = λ table fits known.
     let whole = c.in-Some.ensures ∙ ap (λ one. one ∷ c.pop.new.self) c.in-EndsSwitch.is in
     let all = subst (TasksFit table (length c.loop-task.self.objects)) whole (c.loop-task.invariant.3 table fits) in
     subst (λ tasks. IsLeft table (record { function = c.loop-task.self.function; objects = named.new.objects; tasks = tasks }) named.new.blocks
-        (after_break c.args.self.now.objects (view_of_blocks table c.args.blocks.now) (tasks_of table c.args.self.now))) (sym c.in_ok-push-in-EndsSwitch.ensures.ok)
+    (after_break c.args.self.now.objects (view_of_blocks table c.args.blocks.now) (tasks_of table c.args.self.now))) (sym c.in_ok-push-in-EndsSwitch.ensures.ok)
     (jumped table alive c.loop-task.self.objects c.loop-task.self.function named.new.objects c.loop-task.blocks named.new.blocks (task.EndsSwitch alive ∷ c.pop.new.self) all.0 (omega arith, all.1)
     named.ensures.objects (named.ensures.blocks table) (named.ensures.known table (subst (AreKnown table) (sym c.loop-task.invariant.2) known)) _
     (ap (λ tasks. after_break c.loop-task.self.objects (view_of_blocks table c.loop-task.blocks) (view_of_tasks table c.loop-task.self.objects tasks)) (sym whole) ∙ c.loop-task.invariant.4 table))
 
 pub loop-task-preserved-in_default-task-3 : goal.loop-task-preserved-in_default-task-3
 loop-task-preserved-in_default-task-3 c = (
-  c.loop-task.invariant.0, c.loop-task.invariant.1, c.loop-task.invariant.2,
+  c.loop-task.invariant.0,
+  c.loop-task.invariant.1,
+  c.loop-task.invariant.2,
   λ table fits. behind-fits table (length c.loop-task.self.objects) c.in-Some.task c.pop.new.self (subst (TasksFit table (length c.loop-task.self.objects)) c.in-Some.ensures (c.loop-task.invariant.3 table fits)),
   λ table.
       sym (break-passes table c.loop-task.self.objects (view_of_blocks table c.loop-task.blocks) c.in-Some.task (view_of_tasks table c.loop-task.self.objects c.pop.new.self) c.in_default-task.not-Again c.in_default-task.not-EndsSwitch)
@@ -41,7 +43,9 @@ loop-task-preserved-in_default-task-3 c = (
 
 pub loop-task-preserved-in_default-task-4 : goal.loop-task-preserved-in_default-task-4
 loop-task-preserved-in_default-task-4 c = (
-  c.loop-task.invariant.0, c.loop-task.invariant.1, c.loop-task.invariant.2,
+  c.loop-task.invariant.0,
+  c.loop-task.invariant.1,
+  c.loop-task.invariant.2,
   λ table fits. behind-fits table (length c.loop-task.self.objects) c.in-Some.task c.pop.new.self (subst (TasksFit table (length c.loop-task.self.objects)) c.in-Some.ensures (c.loop-task.invariant.3 table fits)),
   λ table.
       sym (break-passes table c.loop-task.self.objects (view_of_blocks table c.loop-task.blocks) c.in-Some.task (view_of_tasks table c.loop-task.self.objects c.pop.new.self) c.in_default-task.not-Again c.in_default-task.not-EndsSwitch)
@@ -50,7 +54,9 @@ loop-task-preserved-in_default-task-4 c = (
 
 pub loop-task-preserved : goal.loop-task-preserved
 loop-task-preserved c = (
-  c.loop-task.invariant.0, c.loop-task.invariant.1, c.loop-task.invariant.2,
+  c.loop-task.invariant.0,
+  c.loop-task.invariant.1,
+  c.loop-task.invariant.2,
   λ table fits. behind-fits table (length c.loop-task.self.objects) c.in-Some.task c.pop.new.self (subst (TasksFit table (length c.loop-task.self.objects)) c.in-Some.ensures (c.loop-task.invariant.3 table fits)),
   λ table.
       sym (break-passes table c.loop-task.self.objects (view_of_blocks table c.loop-task.blocks) c.in-Some.task (view_of_tasks table c.loop-task.self.objects c.pop.new.self) c.in_default-task.not-Again c.in_default-task.not-EndsSwitch)
