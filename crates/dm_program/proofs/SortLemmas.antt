@@ -1,7 +1,7 @@
 -- The forms that statements and declarations have, and what all others have in common.
 --     Sorted table one      which of them a form is
 --     sorted      each form is one of them
-use Rattle.std.proofs.Common.{◌≡◌, ℕ, List, [], ◌∷◌, Option, refl, ap, sym, subst, ◌∙◌}
+use Rattle.std.proofs.Common.{◌≡◌, ℕ, ℤ, false, List, [], ◌∷◌, Option, refl, ap, sym, subst, ◌∙◌}
 use Rattle.dm_type.specs.CTypes.{CType}
 use Rattle.dm_type.specs.Tables.{Table, type_of}
 use Rattle.dm_tree.specs.declared.tree.Core.{Core}
@@ -17,7 +17,7 @@ use Rattle.dm_meaning.specs.Memory.{Memory}
 use Rattle.dm_meaning.specs.Operations.{Objects}
 use Rattle.dm_meaning.specs.Programs.{Program}
 use Rattle.dm_meaning.specs.States.{Task, begins, drops, ends}
-use Rattle.dm_meaning.specs.Statements.{Turned, onward, begin_form, declared_by_label, evaluation, item_tasks_by, start_task, unlabelled}
+use Rattle.dm_meaning.specs.Statements.{Turned, onward, begin_form, declared_by_label, evaluation, has_case, has_default, item_tasks_by, start_task, unlabelled}
 
 -- What the definition does with a label that is none of a statement that does something, and of no declaration.
 pub record IsInert (label : Label) : Type 0 where
@@ -26,6 +26,8 @@ pub record IsInert (label : Label) : Type 0 where
   pub declared : (program : Program) → declared_by_label program label ≡ []
   pub begun : (program : Program) (names : ℕ → ℕ) (objects : Objects) (rest : List Task) (memory : Memory) (trees : List Tree)
       → begin_form program names objects rest memory label trees ≡ onward objects (ends objects ∷ rest) memory
+  pub no_case : (program : Program) (z : ℤ) (kind : CType) (spans : Spans) (parts : Trees) → has_case program z (node label kind spans parts) ≡ false
+  pub no_default : (kind : CType) (spans : Spans) (parts : Trees) → has_default (node label kind spans parts) ≡ false
   pub behind : (kind : CType) (spans : Spans) (parts : Trees) → unlabelled (node label kind spans parts) ≡ node label kind spans parts
 
 pub data Sorted (table : Table) (one : Form) : Type 0 where
@@ -57,30 +59,30 @@ module _ (table : Table) where
       (sym (folds.fold-roll-Form Opened OpenedInitial Tree OpenedLocal (form_layer table) initial_layer (core_layer table) local_layer y)) inert)
 
   sorted-layer : (y : Layer) → Sorted table (roll-Form y)
-  sorted-layer (layer.Number value) = by-seen (layer.Number value) (record { item = λ tree trees. refl; start = λ tree. refl; declared = λ program. refl; begun = λ program names objects rest memory trees. refl; behind = λ kind spans parts. refl })
-  sorted-layer (layer.Enumerator at) = by-seen (layer.Enumerator at) (record { item = λ tree trees. refl; start = λ tree. refl; declared = λ program. refl; begun = λ program names objects rest memory trees. refl; behind = λ kind spans parts. refl })
-  sorted-layer (layer.Literal bytes unit) = by-seen (layer.Literal bytes unit) (record { item = λ tree trees. refl; start = λ tree. refl; declared = λ program. refl; begun = λ program names objects rest memory trees. refl; behind = λ kind spans parts. refl })
-  sorted-layer (layer.Object at) = by-seen (layer.Object at) (record { item = λ tree trees. refl; start = λ tree. refl; declared = λ program. refl; begun = λ program names objects rest memory trees. refl; behind = λ kind spans parts. refl })
-  sorted-layer (layer.Function at) = by-seen (layer.Function at) (record { item = λ tree trees. refl; start = λ tree. refl; declared = λ program. refl; begun = λ program names objects rest memory trees. refl; behind = λ kind spans parts. refl })
-  sorted-layer (layer.Read a) = by-seen (layer.Read a) (record { item = λ tree trees. refl; start = λ tree. refl; declared = λ program. refl; begun = λ program names objects rest memory trees. refl; behind = λ kind spans parts. refl })
-  sorted-layer (layer.Decay a) = by-seen (layer.Decay a) (record { item = λ tree trees. refl; start = λ tree. refl; declared = λ program. refl; begun = λ program names objects rest memory trees. refl; behind = λ kind spans parts. refl })
-  sorted-layer (layer.Convert a lengths) = by-seen (layer.Convert a lengths) (record { item = λ tree trees. refl; start = λ tree. refl; declared = λ program. refl; begun = λ program names objects rest memory trees. refl; behind = λ kind spans parts. refl })
-  sorted-layer (layer.Address a) = by-seen (layer.Address a) (record { item = λ tree trees. refl; start = λ tree. refl; declared = λ program. refl; begun = λ program names objects rest memory trees. refl; behind = λ kind spans parts. refl })
-  sorted-layer (layer.Follow a) = by-seen (layer.Follow a) (record { item = λ tree trees. refl; start = λ tree. refl; declared = λ program. refl; begun = λ program names objects rest memory trees. refl; behind = λ kind spans parts. refl })
-  sorted-layer (layer.Member a n) = by-seen (layer.Member a n) (record { item = λ tree trees. refl; start = λ tree. refl; declared = λ program. refl; begun = λ program names objects rest memory trees. refl; behind = λ kind spans parts. refl })
-  sorted-layer (layer.Unary sign a) = by-seen (layer.Unary sign a) (record { item = λ tree trees. refl; start = λ tree. refl; declared = λ program. refl; begun = λ program names objects rest memory trees. refl; behind = λ kind spans parts. refl })
-  sorted-layer (layer.Binary op a b) = by-seen (layer.Binary op a b) (record { item = λ tree trees. refl; start = λ tree. refl; declared = λ program. refl; begun = λ program names objects rest memory trees. refl; behind = λ kind spans parts. refl })
-  sorted-layer (layer.Both a b) = by-seen (layer.Both a b) (record { item = λ tree trees. refl; start = λ tree. refl; declared = λ program. refl; begun = λ program names objects rest memory trees. refl; behind = λ kind spans parts. refl })
-  sorted-layer (layer.Either a b) = by-seen (layer.Either a b) (record { item = λ tree trees. refl; start = λ tree. refl; declared = λ program. refl; begun = λ program names objects rest memory trees. refl; behind = λ kind spans parts. refl })
-  sorted-layer (layer.Choose a b c) = by-seen (layer.Choose a b c) (record { item = λ tree trees. refl; start = λ tree. refl; declared = λ program. refl; begun = λ program names objects rest memory trees. refl; behind = λ kind spans parts. refl })
-  sorted-layer (layer.Comma a b) = by-seen (layer.Comma a b) (record { item = λ tree trees. refl; start = λ tree. refl; declared = λ program. refl; begun = λ program names objects rest memory trees. refl; behind = λ kind spans parts. refl })
-  sorted-layer (layer.Store a b) = by-seen (layer.Store a b) (record { item = λ tree trees. refl; start = λ tree. refl; declared = λ program. refl; begun = λ program names objects rest memory trees. refl; behind = λ kind spans parts. refl })
-  sorted-layer (layer.Update op works a b) = by-seen (layer.Update op works a b) (record { item = λ tree trees. refl; start = λ tree. refl; declared = λ program. refl; begun = λ program names objects rest memory trees. refl; behind = λ kind spans parts. refl })
-  sorted-layer (layer.Count plus before a) = by-seen (layer.Count plus before a) (record { item = λ tree trees. refl; start = λ tree. refl; declared = λ program. refl; begun = λ program names objects rest memory trees. refl; behind = λ kind spans parts. refl })
-  sorted-layer (layer.Call a arguments) = by-seen (layer.Call a arguments) (record { item = λ tree trees. refl; start = λ tree. refl; declared = λ program. refl; begun = λ program names objects rest memory trees. refl; behind = λ kind spans parts. refl })
-  sorted-layer (layer.SizeofTree a) = by-seen (layer.SizeofTree a) (record { item = λ tree trees. refl; start = λ tree. refl; declared = λ program. refl; begun = λ program names objects rest memory trees. refl; behind = λ kind spans parts. refl })
-  sorted-layer (layer.SizeofKind type lengths) = by-seen (layer.SizeofKind type lengths) (record { item = λ tree trees. refl; start = λ tree. refl; declared = λ program. refl; begun = λ program names objects rest memory trees. refl; behind = λ kind spans parts. refl })
-  sorted-layer layer.Empty = by-seen layer.Empty (record { item = λ tree trees. refl; start = λ tree. refl; declared = λ program. refl; begun = λ program names objects rest memory trees. refl; behind = λ kind spans parts. refl })
+  sorted-layer (layer.Number value) = by-seen (layer.Number value) (record { item = λ tree trees. refl; start = λ tree. refl; declared = λ program. refl; begun = λ program names objects rest memory trees. refl; no_case = λ program z kind spans parts. refl; no_default = λ kind spans parts. refl; behind = λ kind spans parts. refl })
+  sorted-layer (layer.Enumerator at) = by-seen (layer.Enumerator at) (record { item = λ tree trees. refl; start = λ tree. refl; declared = λ program. refl; begun = λ program names objects rest memory trees. refl; no_case = λ program z kind spans parts. refl; no_default = λ kind spans parts. refl; behind = λ kind spans parts. refl })
+  sorted-layer (layer.Literal bytes unit) = by-seen (layer.Literal bytes unit) (record { item = λ tree trees. refl; start = λ tree. refl; declared = λ program. refl; begun = λ program names objects rest memory trees. refl; no_case = λ program z kind spans parts. refl; no_default = λ kind spans parts. refl; behind = λ kind spans parts. refl })
+  sorted-layer (layer.Object at) = by-seen (layer.Object at) (record { item = λ tree trees. refl; start = λ tree. refl; declared = λ program. refl; begun = λ program names objects rest memory trees. refl; no_case = λ program z kind spans parts. refl; no_default = λ kind spans parts. refl; behind = λ kind spans parts. refl })
+  sorted-layer (layer.Function at) = by-seen (layer.Function at) (record { item = λ tree trees. refl; start = λ tree. refl; declared = λ program. refl; begun = λ program names objects rest memory trees. refl; no_case = λ program z kind spans parts. refl; no_default = λ kind spans parts. refl; behind = λ kind spans parts. refl })
+  sorted-layer (layer.Read a) = by-seen (layer.Read a) (record { item = λ tree trees. refl; start = λ tree. refl; declared = λ program. refl; begun = λ program names objects rest memory trees. refl; no_case = λ program z kind spans parts. refl; no_default = λ kind spans parts. refl; behind = λ kind spans parts. refl })
+  sorted-layer (layer.Decay a) = by-seen (layer.Decay a) (record { item = λ tree trees. refl; start = λ tree. refl; declared = λ program. refl; begun = λ program names objects rest memory trees. refl; no_case = λ program z kind spans parts. refl; no_default = λ kind spans parts. refl; behind = λ kind spans parts. refl })
+  sorted-layer (layer.Convert a lengths) = by-seen (layer.Convert a lengths) (record { item = λ tree trees. refl; start = λ tree. refl; declared = λ program. refl; begun = λ program names objects rest memory trees. refl; no_case = λ program z kind spans parts. refl; no_default = λ kind spans parts. refl; behind = λ kind spans parts. refl })
+  sorted-layer (layer.Address a) = by-seen (layer.Address a) (record { item = λ tree trees. refl; start = λ tree. refl; declared = λ program. refl; begun = λ program names objects rest memory trees. refl; no_case = λ program z kind spans parts. refl; no_default = λ kind spans parts. refl; behind = λ kind spans parts. refl })
+  sorted-layer (layer.Follow a) = by-seen (layer.Follow a) (record { item = λ tree trees. refl; start = λ tree. refl; declared = λ program. refl; begun = λ program names objects rest memory trees. refl; no_case = λ program z kind spans parts. refl; no_default = λ kind spans parts. refl; behind = λ kind spans parts. refl })
+  sorted-layer (layer.Member a n) = by-seen (layer.Member a n) (record { item = λ tree trees. refl; start = λ tree. refl; declared = λ program. refl; begun = λ program names objects rest memory trees. refl; no_case = λ program z kind spans parts. refl; no_default = λ kind spans parts. refl; behind = λ kind spans parts. refl })
+  sorted-layer (layer.Unary sign a) = by-seen (layer.Unary sign a) (record { item = λ tree trees. refl; start = λ tree. refl; declared = λ program. refl; begun = λ program names objects rest memory trees. refl; no_case = λ program z kind spans parts. refl; no_default = λ kind spans parts. refl; behind = λ kind spans parts. refl })
+  sorted-layer (layer.Binary op a b) = by-seen (layer.Binary op a b) (record { item = λ tree trees. refl; start = λ tree. refl; declared = λ program. refl; begun = λ program names objects rest memory trees. refl; no_case = λ program z kind spans parts. refl; no_default = λ kind spans parts. refl; behind = λ kind spans parts. refl })
+  sorted-layer (layer.Both a b) = by-seen (layer.Both a b) (record { item = λ tree trees. refl; start = λ tree. refl; declared = λ program. refl; begun = λ program names objects rest memory trees. refl; no_case = λ program z kind spans parts. refl; no_default = λ kind spans parts. refl; behind = λ kind spans parts. refl })
+  sorted-layer (layer.Either a b) = by-seen (layer.Either a b) (record { item = λ tree trees. refl; start = λ tree. refl; declared = λ program. refl; begun = λ program names objects rest memory trees. refl; no_case = λ program z kind spans parts. refl; no_default = λ kind spans parts. refl; behind = λ kind spans parts. refl })
+  sorted-layer (layer.Choose a b c) = by-seen (layer.Choose a b c) (record { item = λ tree trees. refl; start = λ tree. refl; declared = λ program. refl; begun = λ program names objects rest memory trees. refl; no_case = λ program z kind spans parts. refl; no_default = λ kind spans parts. refl; behind = λ kind spans parts. refl })
+  sorted-layer (layer.Comma a b) = by-seen (layer.Comma a b) (record { item = λ tree trees. refl; start = λ tree. refl; declared = λ program. refl; begun = λ program names objects rest memory trees. refl; no_case = λ program z kind spans parts. refl; no_default = λ kind spans parts. refl; behind = λ kind spans parts. refl })
+  sorted-layer (layer.Store a b) = by-seen (layer.Store a b) (record { item = λ tree trees. refl; start = λ tree. refl; declared = λ program. refl; begun = λ program names objects rest memory trees. refl; no_case = λ program z kind spans parts. refl; no_default = λ kind spans parts. refl; behind = λ kind spans parts. refl })
+  sorted-layer (layer.Update op works a b) = by-seen (layer.Update op works a b) (record { item = λ tree trees. refl; start = λ tree. refl; declared = λ program. refl; begun = λ program names objects rest memory trees. refl; no_case = λ program z kind spans parts. refl; no_default = λ kind spans parts. refl; behind = λ kind spans parts. refl })
+  sorted-layer (layer.Count plus before a) = by-seen (layer.Count plus before a) (record { item = λ tree trees. refl; start = λ tree. refl; declared = λ program. refl; begun = λ program names objects rest memory trees. refl; no_case = λ program z kind spans parts. refl; no_default = λ kind spans parts. refl; behind = λ kind spans parts. refl })
+  sorted-layer (layer.Call a arguments) = by-seen (layer.Call a arguments) (record { item = λ tree trees. refl; start = λ tree. refl; declared = λ program. refl; begun = λ program names objects rest memory trees. refl; no_case = λ program z kind spans parts. refl; no_default = λ kind spans parts. refl; behind = λ kind spans parts. refl })
+  sorted-layer (layer.SizeofTree a) = by-seen (layer.SizeofTree a) (record { item = λ tree trees. refl; start = λ tree. refl; declared = λ program. refl; begun = λ program names objects rest memory trees. refl; no_case = λ program z kind spans parts. refl; no_default = λ kind spans parts. refl; behind = λ kind spans parts. refl })
+  sorted-layer (layer.SizeofKind type lengths) = by-seen (layer.SizeofKind type lengths) (record { item = λ tree trees. refl; start = λ tree. refl; declared = λ program. refl; begun = λ program names objects rest memory trees. refl; no_case = λ program z kind spans parts. refl; no_default = λ kind spans parts. refl; behind = λ kind spans parts. refl })
+  sorted-layer layer.Empty = by-seen layer.Empty (record { item = λ tree trees. refl; start = λ tree. refl; declared = λ program. refl; begun = λ program names objects rest memory trees. refl; no_case = λ program z kind spans parts. refl; no_default = λ kind spans parts. refl; behind = λ kind spans parts. refl })
   sorted-layer (layer.Block items) = is-Block items (form.rolls-Block items)
   sorted-layer (layer.Declare lengths locals) = is-Declare lengths locals (form.rolls-Declare lengths locals)
   sorted-layer (layer.Full a) = is-Full a (form.rolls-Full a)

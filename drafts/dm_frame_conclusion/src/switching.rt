@@ -1,10 +1,13 @@
 //! Which items of a switch are executed (6.8.4.2).
 
 ghost use Rattle.std.specs.Prelude.{◌≡◌, MatchOption, None, Some, map};
+ghost use Rattle.dm_type.specs.Tables.{Table};
 ghost use Rattle.dm_tree.specs.Views.{view};
+ghost use Rattle.dm_meaning.specs.Programs as programs;
 ghost use Rattle.dm_meaning.specs.Statements as statements;
 ghost use Rattle.dm_value.specs.Views.{view_of_value};
 ghost use Rattle.dm_program.specs.Sources.{meant};
+ghost use Rattle.dm_frame.specs.Selecting.{IsFound};
 ghost use Rattle.dm_frame.specs.Tasks.{TreeFits, TreesFit};
 
 use dm_program::Program;
@@ -32,8 +35,7 @@ pub(crate) fn selected<'a>(program: &Program, value: &Value, items: &'a [Core]) 
 /// The items from the first that has the label `case` with a value.
 fn from_case<'a>(program: &Program, value: i128, items: &'a [Core]) -> Option<&'a [Core]>
     requires { TreesFit program.now.table items.now }
-    ensures { let test = statements.has_case (meant program.now) value in MatchOption result (statements.from_first test (map (view program.now.table) items.now) ≡ None)
-        (λ found. (statements.from_first test (map (view program.now.table) items.now) ≡ Some (map (view program.now.table) found.now)) × TreesFit program.now.table found.now) }
+    ensures { IsFound program.now.table (statements.has_case (meant program.now) value) items.now result }
 {
     let mut left = items;
     while let Some((item, rest)) = left.split_first() {
@@ -47,8 +49,7 @@ fn from_case<'a>(program: &Program, value: i128, items: &'a [Core]) -> Option<&'
 
 /// The items from the first that has the label `default`.
 fn from_default(items: &[Core]) -> Option<&[Core]>
-    ensures { (table : Table) → TreesFit table items.now → MatchOption result (statements.from_first statements.has_default (map (view table) items.now) ≡ None)
-        (λ found. (statements.from_first statements.has_default (map (view table) items.now) ≡ Some (map (view table) found.now)) × TreesFit table found.now) }
+    ensures { (table : Table) → TreesFit table items.now → IsFound table statements.has_default items.now result }
 {
     let mut left = items;
     while let Some((item, rest)) = left.split_first() {
@@ -69,7 +70,7 @@ fn has_case(program: &Program, value: i128, item: &Core) -> bool
     loop {
         match &at.form {
             Form::Case(label, statement) => {
-                if program.constant(label.get()) == Some(value) {
+                if is_number(program, value, label.get()) {
                     return true;
                 }
                 at = statement.get();
@@ -80,7 +81,18 @@ fn has_case(program: &Program, value: i128, item: &Core) -> bool
     }
 }
 
-/// Whether it has the label `default`.
+/// Whether the value of a label is this one.
+fn is_number(program: &Program, value: i128, label: &Core) -> bool
+    requires { TreeFits program.now.table label.now }
+    ensures { result ≡ statements.is_number value (programs.constant_of (meant program.now) (view program.now.table label.now)) }
+{
+    match program.constant(label) {
+        Some(other) => value == other,
+        None => false,
+    }
+}
+
+/// Whether a statement has the label `default`.
 fn has_default(item: &Core) -> bool
     ensures { (table : Table) → result ≡ statements.has_default (view table item.now) }
 {
