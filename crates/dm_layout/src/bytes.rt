@@ -42,7 +42,7 @@ pub fn byte_of(layout: &Layout, kind: ObjectType, steps: &[Part]) -> Result<u64,
 }
 
 /// The bytes of an object of a type, 0 where it has no size.
-fn size(layout: &Layout, kind: &ObjectType) -> u64
+pub fn size(layout: &Layout, kind: &ObjectType) -> u64
     requires { IsKnownType layout.now kind.now }
     ensures { result ≡ or_zero (size_of layout.now (type_of_object layout.now kind.now)) }
 {

@@ -95,7 +95,7 @@ fn is_array_shape(types: &Types, id: TypeId) -> bool
 }
 
 /// A type without its own const.
-pub(crate) fn bare_kind(layout: &Layout, kind: &ObjectType) -> ObjectType
+pub fn bare_kind(layout: &Layout, kind: &ObjectType) -> ObjectType
     requires { IsKnownType layout.now kind.now }
     ensures bare { type_of_object layout.now result ≡ ctypes.bare (type_of_object layout.now kind.now) }
     ensures known { IsKnownType layout.now result }
@@ -109,7 +109,7 @@ pub(crate) fn bare_kind(layout: &Layout, kind: &ObjectType) -> ObjectType
 }
 
 /// The type of a part of an object that isn't const itself, where it doesn't matter whether an element is there.
-pub(crate) fn inner(layout: &Layout, whole: &ObjectType, number: u32) -> ObjectType
+pub fn inner(layout: &Layout, whole: &ObjectType, number: u32) -> ObjectType
     requires { IsKnownType layout.now whole.now }
     ensures inner { type_of_object layout.now result ≡ objects.inner_type (laid_out layout.now) (type_of_object layout.now whole.now) number }
     ensures known { IsKnownType layout.now result }

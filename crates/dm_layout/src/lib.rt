@@ -10,7 +10,7 @@ mod layout;
 mod moves;
 
 pub use apart::distance;
-pub use bytes::byte_of;
-pub use kinds::{ObjectType, is_char, is_text};
+pub use bytes::{byte_of, size};
+pub use kinds::{ObjectType, bare_kind, inner, is_char, is_text};
 pub use layout::{Element, Field, Layout, Reached, bare, is_const};
 pub use moves::{Tail, moved};

@@ -12,5 +12,5 @@ mod uses;
 pub use access::{to_read, to_store, to_update};
 pub use blocks::{Block, Blocks};
 pub use compare::{are_equal, byte_pointed, pointer_distance, to_compare, to_subtract};
-pub use pointers::{byte_at, distance_at, moved_pointer, to_move};
+pub use pointers::{byte_at, distance_at, kind_of, moved_pointer, to_move};
 pub use uses::{to_follow, to_order, to_use, truth};

@@ -26,7 +26,7 @@ use std::alloc::Global;
 use std::rc::Rc;
 
 /// The type of an object that is there.
-fn kind_of(layout: &Layout, blocks: &Blocks, name: &Name) -> Option<ObjectType>
+pub fn kind_of(layout: &Layout, blocks: &Blocks, name: &Name) -> Option<ObjectType>
     requires { AreKnown layout.now blocks.now }
     ensures { IsKindOf layout.now result (look (view_of_blocks layout.now blocks.now) (view_of_name name.now)) }
 {

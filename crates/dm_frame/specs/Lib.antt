@@ -1,0 +1,6 @@
+pub mod Tasks
+pub mod Frames
+pub mod Forms
+pub mod Entering
+pub mod Nexts
+pub mod Calling

@@ -1,0 +1,23 @@
+//! Statements, declarations and function frames of a run (ISO/IEC 9899:2011, 6.7 to 6.9): all of a step that isn't in an
+//! expression.
+#![tactic(auto)]
+
+mod calling;
+mod form;
+mod frame;
+mod initial;
+mod jump;
+mod label;
+mod next;
+mod objects;
+mod stack;
+mod statement;
+mod task;
+
+pub use calling::open;
+pub use frame::Frame;
+pub use jump::end_objects;
+pub use next::Next;
+pub use stack::Stack;
+pub use statement::begin_statement;
+pub use task::{Begun, Loop, Task, Use};

@@ -1,0 +1,4 @@
+pub mod FormLemmas
+pub mod InitialLemmas
+pub mod ProgramLemmas
+pub mod SortLemmas

@@ -1,0 +1,5 @@
+pub mod Functions
+pub mod Initials
+pub mod Sources
+pub mod Statics
+pub mod Tables
