@@ -99,7 +99,7 @@ declares-on a b c first second = record {
 
 -- ---- two answers
 
-abbrev LeadsTo : {A : Type 0} → Known → Outcome A → Type 0
+abbrev pub LeadsTo : {A : Type 0} → Known → Outcome A → Type 0
 LeadsTo known (given behind it) = Declares known behind
 LeadsTo known (broken rule at) = Unit {0}
 
