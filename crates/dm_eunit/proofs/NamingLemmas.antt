@@ -18,7 +18,8 @@ use Rattle.dm_typing.specs.Known.{Known, Setting, Outcome, given}
 use Rattle.dm_typing.specs.Conversions.{is_complete}
 use Rattle.dm_typing.specs.Typing.{TypedParameter, entered, is_no_parameters, parameter_of, parameter_at}
 use Rattle.dm_edecl.specs.Units.{is_only, defined_parameter, defined_parameters, innermost}
-use Rattle.dm_eunit.specs.Naming.{key_of, Numbered, is_number, names_in, with_name, with_names}
+use Rattle.dm_eunit.specs.declared.naming.Numbered.{Numbered}
+use Rattle.dm_eunit.specs.Naming.{key_of, is_number, names_in, with_name, with_names}
 use Rattle.dm_eunit.proofs.SettingLemmas.{IsNamed, Declares, Both, LeadsTo, after-both, with-both, obeys-both, there, parameter-both}
 
 -- ---- what the parameters declare

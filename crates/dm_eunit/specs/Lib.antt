@@ -1,1 +1,4 @@
+pub mod Bare
+pub mod Headings
 pub mod Naming
+pub mod Parts

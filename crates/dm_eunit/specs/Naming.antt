@@ -9,6 +9,7 @@ use Rattle.dm_tree.specs.declared.unit.Sort.{Sort}
 use Rattle.dm_tree.specs.declared.unit.Sort.TheVariants.{Tag}
 use Rattle.dm_tree.specs.Units.{Declaration}
 use Rattle.dm_typing.specs.Known.{tag_key}
+use Rattle.dm_eunit.specs.declared.naming.Numbered.{Numbered}
 
 -- tags have a name space of their own (6.2.3)
 abbrev pub key_by : Sort → List ℕ → List ℕ
@@ -17,11 +18,6 @@ key_by sort name = name
 
 abbrev pub key_of : Declaration → List ℕ
 key_of entry = key_by entry.sort entry.name
-
--- a name with the number of its entry
-pub record Numbered : Type 0 where
-  pub name : List ℕ
-  pub number : ℕ
 
 abbrev pub is_number : Option ℕ → ℕ → Bool
 is_number None number = false

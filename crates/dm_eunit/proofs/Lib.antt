@@ -1,0 +1,4 @@
+pub mod SettingLemmas
+pub mod SameLemmas
+pub mod NamingLemmas
+pub mod ParameterLemmas
