@@ -2,3 +2,4 @@ pub mod SettingLemmas
 pub mod SameLemmas
 pub mod NamingLemmas
 pub mod ParameterLemmas
+pub mod NameLemmas

@@ -1,4 +1,5 @@
 pub mod Bare
+pub mod Elaborated
 pub mod Headings
 pub mod Naming
 pub mod Parts

@@ -2,7 +2,7 @@
 --     key_of entry      the name under which an entry stands in the scopes
 --     names_in scope n entries      the entries, from a number on, that a scope has, with their numbers
 --     with_names scope names      a scope in which these are declared
-use Rattle.std.specs.Prelude.{ℕ, ◌+◌, ◌==◌, Bool, false, List, [], ◌∷◌, Option, Some, None, if◌then◌else◌}
+use Rattle.std.specs.Prelude.{ℕ, ◌+◌, ◌==◌, Bool, false, List, [], ◌∷◌, ◌++◌, Option, Some, None, if◌then◌else◌}
 use Rattle.std.specs.FinMap as finite
 use Rattle.dm_scope.specs.Scopes.{Numbers}
 use Rattle.dm_tree.specs.declared.unit.Sort.{Sort}
@@ -22,6 +22,11 @@ key_of entry = key_by entry.sort entry.name
 abbrev pub is_number : Option ℕ → ℕ → Bool
 is_number None number = false
 is_number (Some other) number = other == number
+
+-- the name of an entry behind others, if the scope has it with this number
+abbrev pub with_name_of : Numbers → List Numbered → ℕ → Declaration → List Numbered
+with_name_of scope names n entry =
+    if is_number (finite.get scope (key_of entry)) n then names ++ record { name = key_of entry; number = n } ∷ [] else names
 
 abbrev pub names_in : Numbers → ℕ → List Declaration → List Numbered
 names_in scope n [] = []

@@ -1,12 +1,11 @@
 //! The names of a scope, which may open again.
 
-ghost use Rattle.std.specs.Prelude.{◌≡◌, ◌≤◌, List, Some, None, IfOk, length, drop, if◌then◌else◌};
+ghost use Rattle.std.specs.Prelude.{◌≡◌, IfOk, OnOk, drop};
 ghost use Rattle.std.specs.FinMap as finite;
 ghost use Rattle.dm_type.specs.Tables.{Table};
 ghost use Rattle.dm_tree.specs.Views.{view_of_declared, entries_of};
 ghost use Rattle.dm_edecl.specs.Units.{innermost};
-ghost use Rattle.dm_eunit.specs.Naming.{key_of, is_number, names_in};
-ghost use Rattle.dm_eunit.specs.declared.naming.Numbered.{Numbered as OneName};
+ghost use Rattle.dm_eunit.specs.Naming.{key_of, is_number, names_in, with_name_of};
 
 use dm_token::{Memory, Text};
 use dm_tree::{Declared, Sort};
@@ -37,24 +36,34 @@ fn key_of(typer: &Typer<'_>, entry: &Declared) -> Result<Text, Memory>
     }
 }
 
-/// The name of an entry, if the innermost scope has it with this number.
+/// Whether the innermost scope has a name with this number.
+fn is_here(known: &Known, name: &Text, number: u32) -> bool
+    ensures { result ≡ is_number (finite.get (innermost known.now.scopes) name.now) number }
+{
+    if !known.scopes.is_declared(name) {
+        return false;
+    }
+    match known.scopes.resolve(name) {
+        Some(other) => other == number,
+        None => false,
+    }
+}
+
+/// The name of an entry behind others, if the innermost scope has it with this number.
 fn name_here(
     typer: &Typer<'_>,
     known: &Known,
+    names: &mut Vec<Numbered>,
     number: u32,
     entry: &Declared,
-) -> Result<Option<Numbered>, Memory>
-    ensures { IfOk result (λ found. (types : Table) → found ≡ (if is_number (finite.get (innermost known.now.scopes) (key_of (view_of_declared types entry.now))) number
-        then Some (record { name = key_of (view_of_declared types entry.now); number = number }) else None)) }
+) -> Result<(), Memory>
+    ensures { OnOk result ((types : Table) → names.new.items ≡ with_name_of (innermost known.now.scopes) names.old.items number (view_of_declared types entry.now)) }
 {
     let name = key_of(typer, entry)?;
-    if !known.scopes.is_declared(&name) {
-        return Ok(None);
+    if is_here(known, &name, number) {
+        names.push(Numbered { name, number })?;
     }
-    if known.scopes.resolve(&name) != Some(number) {
-        return Ok(None);
-    }
-    Ok(Some(Numbered { name, number }))
+    Ok(())
 }
 
 /// The names that the innermost scope has for the entries from a number on. More than 4,294,967,295 entries count as want of
@@ -72,10 +81,7 @@ pub(crate) fn names_since(
     };
     let mut names = Vec::new(typer.alloc);
     for number in from..count {
-        let found = name_here(typer, known, number, &entries[number as usize])?;
-        if let Some(one) = found {
-            names.push(one)?;
-        }
+        name_here(typer, known, &mut names, number, &entries[number as usize])?;
     }
     Ok(names)
 }
