@@ -10,7 +10,7 @@ abbrev mutual
   is_bare (tree.enclosed declarator) = is_bare_declarator declarator
   is_bare (tree.array direct) = false
   is_bare (tree.sized direct length) = false
-  is_bare (tree.function direct parameters) = false
+  is_bare (tree.function direct others) = false
 
   pub is_bare_declarator : Declarator → Bool
   is_bare_declarator (tree.shaped span [] direct) = is_bare direct
