@@ -5,3 +5,5 @@ pub mod ParameterLemmas
 pub mod NameLemmas
 pub mod HeadingLemmas
 pub mod HeadingSteps
+pub mod LackingLemmas
+pub mod ReopeningLemmas

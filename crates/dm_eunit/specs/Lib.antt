@@ -1,5 +1,7 @@
 pub mod Bare
 pub mod Elaborated
 pub mod Headings
+pub mod Lacking
 pub mod Naming
 pub mod Parts
+pub mod Reopening

@@ -2,6 +2,8 @@
 #![tactic(auto)]
 
 mod heading;
+mod lacking;
 mod naming;
 mod parameters;
+mod reopening;
 mod stand_ins;
