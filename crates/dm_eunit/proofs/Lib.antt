@@ -7,3 +7,4 @@ pub mod HeadingLemmas
 pub mod HeadingSteps
 pub mod LackingLemmas
 pub mod ReopeningLemmas
+pub mod BodyLemmas

@@ -1,5 +1,6 @@
 pub mod Bare
 pub mod Elaborated
+pub mod Functions
 pub mod Headings
 pub mod Lacking
 pub mod Naming

@@ -1,6 +1,7 @@
 //! The types of function definitions and of translation units (ISO/IEC 9899:2011, 6.9).
 #![tactic(auto)]
 
+mod bodies;
 mod heading;
 mod lacking;
 mod naming;

@@ -29,6 +29,7 @@ pub(crate) fn reopened(standing: &mut Standing, names: &[Numbered]) -> Result<Ma
     ensures retyped { IfOk result (λ mark. mark.retyped ≡ length standing.new.retyped.items) }
     ensures scopes { OnOk result (standing.new.known.scopes ≡ with_names finite.empty names.now ∷ standing.old.known.scopes) }
     ensures unlinked { OnOk result (AreUnlinked standing.old.known.declared names.now) }
+    ensures types { standing.new.known.types ≡ standing.old.known.types }
 {
     let mark = standing.open()?;
     declare_again(&mut standing.known, names)?;
