@@ -8,3 +8,4 @@ pub mod HeadingSteps
 pub mod LackingLemmas
 pub mod ReopeningLemmas
 pub mod BodyLemmas
+pub mod DefinableLemmas

@@ -2,6 +2,7 @@
 #![tactic(auto)]
 
 mod bodies;
+mod definable;
 mod heading;
 mod lacking;
 mod naming;
