@@ -68,15 +68,15 @@ both-by : {A : Type 0} (first second : Option (ℕ × ℕ)) (next : Progress A) 
 both-by None second next = refl
 both-by (Some fault) second next = refl
 
-definition-by : (said : Specified) (s : Standing) (declarator : Declarator) (entry : Declaration)
-    → function_declared said s declarator entry
-    ≡ by_rule (definition_broken said s (declarator_span declarator).first (name_at declarator) entry) (goes_on (function_here s entry) (number_here s entry))
-definition-by said s declarator entry =
+pub definition-by : {A : Type 0} (said : Specified) (s : Standing) (declarator : Declarator) (entry : Declaration) (next : Progress A)
+    → keeps (not (is_defined (number_here s entry) s.linked)) 2 (name_at declarator)
+    (declarable said s false (declarator_span declarator).first (name_at declarator) entry (keeps (fits_main entry) 36 (name_at declarator) next))
+    ≡ by_rule (definition_broken said s (declarator_span declarator).first (name_at declarator) entry) next
+definition-by said s declarator entry next =
     let here = (declarator_span declarator).first in
     let name = name_at declarator in
     let fresh = not (is_defined (number_here s entry) s.linked) in
     let last = broken_unless (fits_main entry) 36 name None in
-    let next : Progress ℕ = goes_on (function_here s entry) (number_here s entry) in
     let inner = rule_broken said s false here name entry in
     ap (λ p. keeps fresh 2 name (declarable said s false here name entry p)) (keeps-by (fits_main entry) 36 name None next)
     ∙ ap (keeps fresh 2 name) (declarable-by said s false here name entry (by_rule last next))
@@ -104,7 +104,7 @@ module _ (setting : Setting) (now : Held) (said : Specification) (declarator : D
   function-by later on before stands =
       ap (function_declared (specified_over later said) before declarator)
       (ap₂ (λ known name. entry_of setting known (storage_seen said.storage) name (type_over later kind)) stands.known (sym at-is) ∙ sym (entry-is later on))
-      ∙ definition-by (specified_over later said) before declarator (entry_over later entry)
+      ∙ definition-by (specified_over later said) before declarator (entry_over later entry) (function-next later before)
       ∙ ap (λ rule. by_rule rule (function-next later before))
       (ap₂ (λ one other. definition_broken (specified_over later said) before one other (entry_over later entry)) (sym here-is) (sym at-is))
 

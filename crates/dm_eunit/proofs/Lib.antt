@@ -9,3 +9,4 @@ pub mod LackingLemmas
 pub mod ReopeningLemmas
 pub mod BodyLemmas
 pub mod DefinableLemmas
+pub mod FunctionLemmas

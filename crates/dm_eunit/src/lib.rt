@@ -3,6 +3,7 @@
 
 mod bodies;
 mod definable;
+mod functions;
 mod heading;
 mod lacking;
 mod naming;
