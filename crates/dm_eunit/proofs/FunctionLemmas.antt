@@ -111,7 +111,7 @@ heading-keeps setting known base declarator = go (own_defined setting known (own
 
 -- ---- behind the declarator
 
-list-known : (types : Table) (trees : List Core) → AreNumbered types trees → list_all (are_known (length types.shapes)) trees ≡ true
+pub list-known : (types : Table) (trees : List Core) → AreNumbered types trees → list_all (are_known (length types.shapes)) trees ≡ true
 list-known types [] all = refl
 list-known types (tree ∷ trees) all =
     and_from (are_known (length types.shapes) tree) (list_all (are_known (length types.shapes)) trees) (All-head (IsNumbered types) tree trees all)

@@ -10,3 +10,4 @@ pub mod ReopeningLemmas
 pub mod BodyLemmas
 pub mod DefinableLemmas
 pub mod FunctionLemmas
+pub mod ExternalLemmas

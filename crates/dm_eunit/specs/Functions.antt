@@ -4,8 +4,8 @@
 --     definition_broken said standing here name entry      the rule that a definition breaks first, and its token
 --     function_declared said standing declarator entry      the function of a definition: its number
 --     function_headed, function_defined      a function definition, behind its specifiers and behind its declarator
---     external_over later one      an external declaration
-use Rattle.std.specs.Prelude.{ℕ, false, not, IsTrue, List, [], ◌++◌, length, Option, Some, None}
+--     external_over later one      an external declaration, and `externals_over later all` several
+use Rattle.std.specs.Prelude.{ℕ, false, not, IsTrue, List, [], ◌++◌, length, map, All, Option, Some, None}
 use Rattle.dm_token.specs.declared.place.Span.{Span}
 use Rattle.dm_type.specs.declared.shape.Shape.{Shape}
 use Rattle.dm_type.specs.CTypes.{CType, function as function_type, bare}
@@ -93,3 +93,9 @@ external_over later one = view_of_external (record { shapes = later; structs = [
 
 abbrev pub ExternalFits : Table → CoreExternal → Type 0
 ExternalFits types one = IsTrue (external_has_known (length types.shapes) one)
+
+abbrev pub externals_over : List Shape → List CoreExternal → List External
+externals_over later all = map (external_over later) all
+
+abbrev pub ExternalsFit : Table → List CoreExternal → Type 0
+ExternalsFit types all = All (ExternalFits types) all

@@ -3,6 +3,7 @@
 
 mod bodies;
 mod definable;
+mod externals;
 mod functions;
 mod heading;
 mod lacking;
