@@ -11,3 +11,4 @@ pub mod BodyLemmas
 pub mod DefinableLemmas
 pub mod FunctionLemmas
 pub mod ExternalLemmas
+pub mod UnitLemmas

@@ -11,3 +11,6 @@ mod naming;
 mod parameters;
 mod reopening;
 mod stand_ins;
+mod unit;
+
+pub use unit::elaborate;
