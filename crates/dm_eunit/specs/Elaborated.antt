@@ -32,8 +32,7 @@ ElaboratesBy source typed (Ok made) =
     × (typed later ≡ given known (view_of_unit (table_over later made.1) made.0))
 ElaboratesBy source typed (Err stop.Memory) = Unit {0}
 ElaboratesBy source typed (Err (stop.Refused refusal)) =
-    (rule : ℕ) × (at : ℕ) × (refusal ≡ refusal_at source rule at)
-    × (shapes : List Shape) × ((later : List Shape) → Begins shapes later → typed later ≡ broken rule at)
+    (shapes : List Shape) × ((later : List Shape) → Begins shapes later → (rule : ℕ) × (at : ℕ) × (typed later ≡ broken rule at) × (refusal ≡ refusal_at source rule at))
 ElaboratesBy source typed (Err other) = ⊥
 
 abbrev pub Elaborates : List CToken → List External → Result (CoreUnit × Table) Stop → Type 0
