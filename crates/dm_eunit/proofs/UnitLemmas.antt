@@ -1,5 +1,5 @@
 -- What the typing of a whole unit gives.
-use Rattle.std.specs.Prelude.{◌≡◌, ℕ, zero, suc, ◌<◌, ◌≤◌, ◌+◌, Bool, true, false, ◌&&◌, not, nat_lt, IsTrue, List, [], ◌∷◌, ◌++◌, length, map, All, Option, Some, None, Result, Ok, Err, IfOk, IfErr, slice_index_or, refl}
+use Rattle.std.specs.Prelude.{◌≡◌, ℕ, zero, suc, ◌<◌, ◌≤◌, ◌+◌, Bool, true, false, ◌&&◌, not, nat_lt, IsTrue, List, [], ◌∷◌, ◌++◌, length, map, All, Option, Some, None, Result, Ok, Err, IfOk, IfErr, IsErrAnd, slice_index_or, refl}
 use Rattle.std.specs.List.{list_all}
 use Rattle.std.proofs.Common.{rules, sym, ap, ap₂, ◌∙◌, subst, arith}
 use Rattle.std.proofs.lemmas.Bool.{and_from, and_parts, lt-ltb}
@@ -246,3 +246,18 @@ module _ (tokens : List CToken) (externals : List syn.External) where
       (g.0, g.1, g.3, inside.0, inside.1)
   unit-inside (Err (stop.Limit limit)) e are = absurd e
   unit-inside (Err (stop.ReadFault file)) e are = absurd e
+
+-- faults that are handed on
+pub fails-on : (source : Source) (typed : List Shape → Outcome TypedUnit) (result : Result (CoreUnit × Table) Stop) (fault : Stop) → IsErrAnd result (λ e. e ≡ fault)
+    → ElaboratesBy source typed (Err fault) → ElaboratesBy source typed result
+fails-on source typed (Ok made) fault handed e = absurd handed
+fails-on source typed (Err other) fault handed e = subst (λ it. ElaboratesBy source typed (Err it)) (sym handed) e
+
+pub unit-numbered : (types : Table) (made : List CoreExternal) (unit : CoreUnit × Table) → unit.0.externals ≡ made → unit.1 ≡ types → ExternalsFit types made
+    → IsTrue (list_all (entry_has_known (length types.shapes)) unit.0.declared) → IsNumberedUnit unit.1 unit.0
+unit-numbered types made unit same is fit entries = record {
+  entries = subst (λ (table : Table). IsTrue (list_all (entry_has_known (length table.shapes)) unit.0.declared)) (sym is) entries;
+  trees =
+      subst (λ (table : Table). IsTrue (list_all (external_has_known (length table.shapes)) unit.0.externals)) (sym is)
+      (subst (λ all. IsTrue (list_all (external_has_known (length types.shapes)) all)) (sym same) (list-fits types made fit));
+}
