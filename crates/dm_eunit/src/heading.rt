@@ -13,11 +13,11 @@ ghost use Rattle.dm_eunit.specs.Parts as parts;
 
 use crate::naming::{Numbered, names_since};
 use crate::parameters::{defined_parameters, numbers_of};
-use crate::stand_ins::{array_with, calling};
 use dm_edeclarator::declarators::{
     PlacedStep, derived, direct_at, with_function, with_pointers,
 };
 use dm_edeclarator::places::{enter, leave};
+use dm_eexpr::syntax::{array_with, calling};
 use dm_syn::{Declarator, Direct, Expr, Parameter};
 use dm_token::{Boxed, List, Memory, Stop};
 use dm_type::TypeId;

@@ -7,7 +7,7 @@ ghost use Rattle.dm_typing.specs.Views.{source_of};
 ghost use Rattle.dm_edecl.specs.Units as units;
 ghost use Rattle.dm_eunit.specs.Lacking.{IsSet, has};
 
-use crate::stand_ins::name_at;
+use dm_edeclaration::declarable::name_at;
 use dm_scope::Scopes;
 use dm_syn::{External, ExternalForm};
 use dm_token::{Memory, Text};

@@ -10,7 +10,6 @@ mod lacking;
 mod naming;
 mod parameters;
 mod reopening;
-mod stand_ins;
 mod unit;
 
 pub use unit::elaborate;

@@ -9,8 +9,8 @@ ghost use Rattle.dm_edeclarator.specs.Steps.{parameter_over, ParameterFits, para
 ghost use Rattle.dm_edecl.specs.Units as units;
 ghost use Rattle.dm_eunit.specs.Parts as parts;
 
-use crate::stand_ins::parameter_of;
 use dm_edeclarator::declarators::{TypedParameter, parameter_at};
+use dm_eexpr::syntax::parameter_of;
 use dm_syn::Parameter;
 use dm_token::{List, Memory, Stop};
 use dm_typing::looks::{is_complete, is_void};

@@ -15,8 +15,8 @@ use Rattle.dm_search.specs.Loaded.{Loaded}
 use Rattle.dm_unit.specs.States.{Setting}
 use Rattle.dm_unit.specs.Units.{IsReadAs}
 use Rattle.dm_eunit.specs.Elaborated.{Elaborates}
-use Rattle.dm_read.specs.declared.layers.Layers.{Layers}
-use Rattle.dm_read.specs.declared.reading.Reading.{Reading}
+use Rattle.dm_read.specs.declared.behind.Layers.{Layers}
+use Rattle.dm_read.specs.declared.unit.Reading.{Reading}
 use Rattle.dm_read.specs.Syntax.{IsSyntax, Refuses}
 
 -- the tokens of phase 7, or their stop

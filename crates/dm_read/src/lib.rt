@@ -2,12 +2,12 @@
 #![tactic(auto)]
 
 mod laws;
-mod layers;
-mod reading;
-mod steps;
+mod behind;
+mod unit;
+mod count;
 mod syntax;
 
 pub use laws::{no_refusal_of_syntax, one_refusal, one_syntax};
-pub use reading::{Reading, read_unit};
-pub use steps::Steps;
+pub use unit::{Reading, read_unit};
+pub use count::Steps;
 pub use syntax::unit_syntax;

@@ -6,8 +6,8 @@ ghost use Rattle.dm_io.specs.Files.{Files};
 ghost use Rattle.dm_unit.specs.Units.{setting_of};
 ghost use Rattle.dm_read.specs.Reading.{IsReading};
 
-use crate::layers::{Layers, layers};
-use crate::steps::Steps;
+use crate::behind::{Layers, typed_tokens};
+use crate::count::Steps;
 use dm_io::Folder;
 use dm_search::Loader;
 use dm_syn::External;
@@ -51,7 +51,7 @@ pub fn read_unit<F: Folder, L: Ledger>(
 {
     readings.tick();
     let pp = unit_tokens(alloc, folder, loader, &unit)?;
-    let made = layers(alloc, pp.tokens.items())?;
+    let made = typed_tokens(alloc, pp.tokens.items())?;
     let Layers {
         tokens,
         syntax,

@@ -24,7 +24,7 @@ pub struct Layers {
 }
 
 /// Each layer of preprocessing tokens, or the first stop.
-pub(crate) fn layers(alloc: Global, tokens: &[Token]) -> Result<Layers, Stop>
+pub(crate) fn typed_tokens(alloc: Global, tokens: &[Token]) -> Result<Layers, Stop>
     ensures { HasLayers tokens.now result }
 {
     let made = ctokens(alloc, tokens)?;

@@ -2,6 +2,7 @@
 
 ghost use Rattle.std.specs.Prelude.{◌≡◌, ◌+◌, ◌<◌, ℕ};
 
+use std::marker::Model;
 use std::sync::ledger::{Book, Ledger, Share};
 
 /// How many readings were begun. It takes no bytes, and only the reading of a unit changes it.
