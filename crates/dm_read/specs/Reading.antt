@@ -1,7 +1,7 @@
 -- The reading of a unit: what each layer gives, and the first stop.
 --     HasLayers tokens result      what is given of preprocessing tokens is what each layer says, and a stop is that of the first layer that stops
 --     IsReading setting unit old result new      the same of a unit
-use Rattle.std.specs.Prelude.{◌≡◌, List, map, Result, Ok, Err}
+use Rattle.std.specs.Prelude.{◌≡◌, ◌⊎◌, List, map, Result, Ok, Err}
 use Rattle.dm_token.specs.declared.stop.Stop.{Stop}
 use Rattle.dm_token.specs.declared.token.CToken.{CToken}
 use Rattle.dm_token.specs.declared.token.Token.{Token}
