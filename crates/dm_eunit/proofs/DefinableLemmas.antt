@@ -156,10 +156,11 @@ module _ (setting : Setting) (now : Held) (said : Specification) (declarator : D
         gives = λ later on before stands lawful.
             let on-mid = begins-on mid.known.types.shapes new.known.types.shapes later within.shapes on in
             let on-now = begins-on now.known.types.shapes mid.known.types.shapes later grows.shapes on-mid in
-            let p = permits later on-mid before stands lawful in
-            (function_here before (entry_over later entry),
-            function-by later on-now before stands ∙ ap (λ rule. by_rule rule (function-next later before)) p.0
-            ∙ ap (goes_on (function_here before (entry_over later entry)))
-            (sym (counted later before (stands-grown later now.known mid.known now.links mid.links before grows links stands) lawful)),
-            function-reached later on before stands lawful p.1 p.2);
+            let p = permits later on-mid before stands lawful in (
+              function_here before (entry_over later entry),
+              function-by later on-now before stands ∙ ap (λ rule. by_rule rule (function-next later before)) p.0
+                  ∙ ap (goes_on (function_here before (entry_over later entry)))
+                  (sym (counted later before (stands-grown later now.known mid.known now.links mid.links before grows links stands) lawful)),
+              function-reached later on before stands lawful p.1 p.2,
+            );
       }

@@ -175,6 +175,6 @@ pub scope-again : (known inside : Known) (h : Declares (entered known) inside)
     → with_names finite.empty (names_in (innermost inside.scopes) (length known.declared) h.more) ≡ innermost inside.scopes
 scope-again known inside h = names-again (innermost inside.scopes) (length known.declared) h.more (λ name number e.
     let is : IsNamed inside.declared (length known.declared) number name =
-        ⊎_elim (λ old. absurd (let f = sym (finite.get-empty (slice_cmp nat_cmp) name) ∙ old in cc)) (λ new. new) (h.named name number e) in
+    ⊎_elim (λ old. absurd (let f = sym (finite.get-empty (slice_cmp nat_cmp) name) ∙ old in cc)) (λ new. new) (h.named name number e) in
     let it = get-behind known.declared h.more number is.entry is.from_there (sym (ap (λ (entries : List Declaration). slice_get entries number) h.declared) ∙ is.at) in
     (it.0, is.entry, it.1, is.key, it.2))

@@ -509,7 +509,7 @@ module _ (source : Source) (la lb : List ℕ → Bool) (alike : (at : ℕ) → l
         let number = struct_begun known found in
         let begun = beginning (with_new_struct a known tag found) number in
         let ended = λ (setting : Setting) (it : Known) (inside : Option Declaration). after (fields_of setting used (beginning it (struct_begun known inside)) [] members)
-            (λ behind typed_members. struct_ended behind span (struct_begun known inside) known.begun typed_members) in
+        (λ behind typed_members. struct_ended behind span (struct_begun known inside) known.begun typed_members) in
         with-both known _ _ _ _
         (subst (λ inside. Both known (ended a (with_new_struct a known tag found) found) (ended b (with_new_struct b known tag inside) inside)) (inside-same known tag)
         (subst (λ it. Both known (ended a (with_new_struct a known tag found) found) (ended b it found)) (with-new-same known tag found)

@@ -194,20 +194,24 @@ module _ (setting : Setting) (externals : List syn.External) (start new : Held) 
       let then_on = subst (λ (table : Table). Begins table.shapes later) types on in
       let g = p.gives later then_on (beginning later) (begins later) (beginning-lawful later) in
       let behind = g.0 in
-      let known = g.2.stands.known in
-      (behind.known,
-      ap (λ (k : Known). k.types) known ∙ ap (table_over later) (sym types),
-      ap unit_of g.1
-      ∙ ap (given behind.known)
-      (ap₂ (λ declared all. typed_unit_of declared all)
-      (ap (with_whole_kinds behind.linked 0) (ap (λ (k : Known). k.declared) known) ∙ sym (whole later behind.known.declared behind.linked g.2.stands.links))
-      (sym (externals-alone new.known.types later made p.numbered) ∙ ap₂ (λ table all. map (view_of_external (table_over later table)) all) (sym types) (sym same))))
+      let known = g.2.stands.known in (
+        behind.known,
+        ap (λ (k : Known). k.types) known ∙ ap (table_over later) (sym types),
+        ap unit_of g.1
+            ∙ ap (given behind.known)
+            (ap₂ (λ declared all. typed_unit_of declared all)
+            (ap (with_whole_kinds behind.linked 0) (ap (λ (k : Known). k.declared) known) ∙ sym (whole later behind.known.declared behind.linked g.2.stands.links))
+            (sym (externals-alone new.known.types later made p.numbered) ∙ ap₂ (λ table all. map (view_of_external (table_over later table)) all) (sym types) (sym same))),
+      )
 
   pub unit-fails : (fault : Stop) → Proceeds ExternalsFit externals_over setting.source start new (Err fault) unit-run → ElaboratesBy setting.source unit-typed (Err fault)
   unit-fails stop.Memory p = tt
-  unit-fails (stop.Refused refusal) p = (new.known.types.shapes, λ later on.
-      let g = p.gives later on (beginning later) (begins later) (beginning-lawful later) in
-      (g.0, g.1, ap unit_of g.2, g.3))
+  unit-fails (stop.Refused refusal) p = (
+    new.known.types.shapes,
+    λ later on.
+        let g = p.gives later on (beginning later) (begins later) (beginning-lawful later) in
+        (g.0, g.1, ap unit_of g.2, g.3),
+  )
   unit-fails (stop.Limit limit) p = absurd (p.gives new.known.types.shapes (begins-itself new.known.types.shapes) (beginning new.known.types.shapes) (begins new.known.types.shapes) (beginning-lawful new.known.types.shapes))
   unit-fails (stop.ReadFault file) p = absurd (p.gives new.known.types.shapes (begins-itself new.known.types.shapes) (beginning new.known.types.shapes) (begins new.known.types.shapes) (beginning-lawful new.known.types.shapes))
 

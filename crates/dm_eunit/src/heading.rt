@@ -13,9 +13,7 @@ ghost use Rattle.dm_eunit.specs.Parts as parts;
 
 use crate::naming::{Numbered, names_since};
 use crate::parameters::{defined_parameters, numbers_of};
-use dm_edeclarator::declarators::{
-    PlacedStep, derived, direct_at, with_function, with_pointers,
-};
+use dm_edeclarator::declarators::{PlacedStep, derived, direct_at, with_function, with_pointers};
 use dm_edeclarator::places::{enter, leave};
 use dm_eexpr::syntax::{array_with, calling};
 use dm_syn::{Declarator, Direct, Expr, Parameter};

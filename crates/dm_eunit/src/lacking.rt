@@ -49,11 +49,7 @@ fn defined(typer: &Typer<'_>, externals: &[External]) -> Result<Scopes, Memory>
 }
 
 /// The name of a function behind others, if this is its definition.
-fn add_definition(
-    typer: &Typer<'_>,
-    names: &mut Scopes,
-    external: &External,
-) -> Result<(), Memory>
+fn add_definition(typer: &Typer<'_>, names: &mut Scopes, external: &External) -> Result<(), Memory>
     requires { IsSet names.old }
     ensures set { OnOk result (IsSet names.new) }
     ensures has { OnOk result ((name : Sequence ℕ) → has names.new name ≡ (has names.old name || units.is_definition_of typer.now.tokens.now name (syntax.external external.now))) }

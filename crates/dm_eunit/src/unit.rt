@@ -95,10 +95,7 @@ fn beginning(typer: &Typer<'_>) -> Result<Standing, Memory>
 }
 
 /// The unit of these external declarations, with the types that all declarations of its entries say.
-fn finished(
-    standing: Standing,
-    externals: List<CoreExternal>,
-) -> Result<(CoreUnit, Types), Memory>
+fn finished(standing: Standing, externals: List<CoreExternal>) -> Result<(CoreUnit, Types), Memory>
     ensures whole { IfOk result (λ made. (later : Sequence OneShape) (declared : Sequence Entry) (linked : Sequence Linked) → Summarises later standing.links declared linked
         → map (entry_over later) made.0.declared ≡ linkages.with_whole_kinds linked 0 (map (entry_over later) standing.known.declared)) }
     ensures externals { IfOk result (λ made. made.0.externals ≡ externals) }

@@ -7,10 +7,12 @@ use Rattle.dm_eunit.proofs.LackingLemmas.{begun, gone-on, all-done}
 use Rattle.dm_eunit.proofs.lacking.others.Goals as goal
 
 pub loop-token-init : goal.loop-token-init
-loop-token-init c =
-    (c.in_ok-add_unless.ensures.set, begun c.args.defined.now c.args.typer.now.tokens.now c.in_ok-names.names c.add_unless.new.names c.in_ok-names.ensures
-    (λ other. c.in_ok-add_unless.ensures.has other
-    ∙ ap (λ empty. has c.in_ok-names.names other || (bytes_eq empty other && not (has c.args.defined.now other))) c.in_ok-empty.ensures))
+loop-token-init c = (
+  c.in_ok-add_unless.ensures.set,
+  begun c.args.defined.now c.args.typer.now.tokens.now c.in_ok-names.names c.add_unless.new.names c.in_ok-names.ensures
+      (λ other. c.in_ok-add_unless.ensures.has other
+      ∙ ap (λ empty. has c.in_ok-names.names other || (bytes_eq empty other && not (has c.args.defined.now other))) c.in_ok-empty.ensures),
+)
 
 pub add_unless-requires-in-loop-token : goal.add_unless-requires-in-loop-token
 add_unless-requires-in-loop-token c = c.loop-token.invariant.0

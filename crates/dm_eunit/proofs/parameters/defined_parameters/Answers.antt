@@ -21,11 +21,11 @@ loop-parameter-init c =
     let setting = setting_of c.args.typer.now in
     let all = syntax.parameters (map syntax.parameter c.args.parameters.now) in (
       begins c.args.known.now (λ later. units.defined_parameters setting true (known_over later c.args.known.now) all)
-      (λ later. onward (parameters_over later c.new-typed.result) (all_defined setting (length c.args.parameters.now == 1) (known_over later c.args.known.now) all))
-      (λ later. all-defined setting (known_over later c.args.known.now) all
-      ∙ ap (λ alone. all_defined setting alone (known_over later c.args.known.now) all) (sym (one-by-length c.args.parameters.now))
-      ∙ onward-none (all_defined setting (length c.args.parameters.now == 1) (known_over later c.args.known.now) all)
-      ∙ ap (λ list. onward (parameters_over later list) (all_defined setting (length c.args.parameters.now == 1) (known_over later c.args.known.now) all)) (sym c.new-typed.ensures)),
+          (λ later. onward (parameters_over later c.new-typed.result) (all_defined setting (length c.args.parameters.now == 1) (known_over later c.args.known.now) all))
+          (λ later. all-defined setting (known_over later c.args.known.now) all
+          ∙ ap (λ alone. all_defined setting alone (known_over later c.args.known.now) all) (sym (one-by-length c.args.parameters.now))
+          ∙ onward-none (all_defined setting (length c.args.parameters.now == 1) (known_over later c.args.known.now) all)
+          ∙ ap (λ list. onward (parameters_over later list) (all_defined setting (length c.args.parameters.now == 1) (known_over later c.args.known.now) all)) (sym c.new-typed.ensures)),
       subst (ParametersFit c.args.known.now.types) (sym c.new-typed.ensures) (All-nil (ParameterFits c.args.known.now.types)),
     )
 
@@ -58,18 +58,18 @@ loop-parameter-preserved c =
     let whole = λ (later : List Shape). units.defined_parameters setting true (known_over later c.args.known.now) (syntax.parameters (map syntax.parameter c.args.parameters.now)) in
     let rest = λ (known : Known). all_defined setting alone known (syntax.parameters (map syntax.parameter (drop (c.loop-parameter.parameter-index + 1) c.args.parameters.now))) in
     let passed = passes ParameterFits parameter_over (source_of c.args.typer.now) c.args.known.now c.loop-parameter.known new whole
-        (λ later. units.defined_parameter setting alone (known_over later c.loop-parameter.known) (syntax.parameter c.parameter-item.result))
-        (λ later then_known made. onward (parameters_over later c.loop-parameter.typed ++ made ∷ []) (rest then_known)) c.in_ok-one.one
-        (says c.args.known.now c.loop-parameter.known whole
-        (λ later. onward (parameters_over later c.loop-parameter.typed) (all_defined setting alone (known_over later c.loop-parameter.known) (syntax.parameters (map syntax.parameter (drop c.loop-parameter.parameter-index c.args.parameters.now)))))
-        (λ later. after (units.defined_parameter setting alone (known_over later c.loop-parameter.known) (syntax.parameter c.parameter-item.result))
-        (λ then_known made. onward (parameters_over later c.loop-parameter.typed ++ made ∷ []) (rest then_known)))
-        c.loop-parameter.invariant.0
-        (λ later on. ap (λ items. onward (parameters_over later c.loop-parameter.typed) (all_defined setting alone (known_over later c.loop-parameter.known) (syntax.parameters (map syntax.parameter items))))
-        (cut c.args.parameters.now c.loop-parameter.parameter-index c.parameter-item.result c.loop-parameter-test.true c.parameter-item.is)
-        ∙ all-next setting alone (known_over later c.loop-parameter.known) (parameters_over later c.loop-parameter.typed) (syntax.parameter c.parameter-item.result)
-        (syntax.parameters (map syntax.parameter (drop (c.loop-parameter.parameter-index + 1) c.args.parameters.now)))))
-        c.in_ok-one.ensures in (
+    (λ later. units.defined_parameter setting alone (known_over later c.loop-parameter.known) (syntax.parameter c.parameter-item.result))
+    (λ later then_known made. onward (parameters_over later c.loop-parameter.typed ++ made ∷ []) (rest then_known)) c.in_ok-one.one
+    (says c.args.known.now c.loop-parameter.known whole
+    (λ later. onward (parameters_over later c.loop-parameter.typed) (all_defined setting alone (known_over later c.loop-parameter.known) (syntax.parameters (map syntax.parameter (drop c.loop-parameter.parameter-index c.args.parameters.now)))))
+    (λ later. after (units.defined_parameter setting alone (known_over later c.loop-parameter.known) (syntax.parameter c.parameter-item.result))
+    (λ then_known made. onward (parameters_over later c.loop-parameter.typed ++ made ∷ []) (rest then_known)))
+    c.loop-parameter.invariant.0
+    (λ later on. ap (λ items. onward (parameters_over later c.loop-parameter.typed) (all_defined setting alone (known_over later c.loop-parameter.known) (syntax.parameters (map syntax.parameter items))))
+    (cut c.args.parameters.now c.loop-parameter.parameter-index c.parameter-item.result c.loop-parameter-test.true c.parameter-item.is)
+    ∙ all-next setting alone (known_over later c.loop-parameter.known) (parameters_over later c.loop-parameter.typed) (syntax.parameter c.parameter-item.result)
+    (syntax.parameters (map syntax.parameter (drop (c.loop-parameter.parameter-index + 1) c.args.parameters.now)))))
+    c.in_ok-one.ensures in (
       says c.args.known.now new whole (λ later. onward (parameters_over later c.loop-parameter.typed ++ parameter_over later c.in_ok-one.one ∷ []) (rest (known_over later new)))
           (λ later. onward (parameters_over later c.push.new.self) (rest (known_over later new))) passed
           (λ later on. ap (λ values. onward values (rest (known_over later new)))
