@@ -1,15 +1,12 @@
 -- The body of a function definition.
-use Rattle.std.specs.Prelude.{◌≡◌, ℕ, ◌<◌, Bool, true, ◌&&◌, nat_lt, List, [], ◌∷◌, length, map, All, Option, Some, None, option_map, IfSome, Result, Ok, Err, IsErrAnd, slice_get, refl}
-use Rattle.std.specs.FinMap as finite
-use Rattle.std.proofs.Common.{sym, ap, ◌∙◌, subst}
+use Rattle.std.specs.Prelude.{◌≡◌, ℕ, ◌&&◌, nat_lt, List, [], length, map, Option, Some, None, Result, Ok, Err, IsErrAnd, refl}
+use Rattle.std.proofs.Common.{sym, ap, ◌∙◌}
 use Rattle.dm_token.specs.declared.place.Span.{Span}
 use Rattle.dm_token.specs.declared.stop.Stop.{Stop}
 use Rattle.dm_type.specs.declared.shape.Shape.{Shape}
-use Rattle.dm_type.specs.declared.shape.Shape.TheVariants.{Void}
 use Rattle.dm_type.specs.CTypes.{CType, void, function as function_type, bare}
 use Rattle.dm_type.specs.Tables.{Table, IsId, type_of}
 use Rattle.dm_type.specs.TableLaws.{injected}
-use Rattle.dm_scope.specs.Scopes.{Numbers}
 use Rattle.dm_syn.specs.Trees.{BlockItems}
 use Rattle.dm_tree.specs.declared.tree.Core.{Core}
 use Rattle.dm_tree.specs.Trees.{Tree}
@@ -20,12 +17,12 @@ use Rattle.dm_typing.specs.Conversions.{made}
 use Rattle.dm_typing.specs.Fitting.{IsNumbered, AreNumbered}
 use Rattle.dm_typing.specs.Known.{Setting}
 use Rattle.dm_typing.specs.Typing.{extent}
-use Rattle.dm_typing.specs.Views.{Begins, type_over, view_over, IsNumberOf}
-use Rattle.dm_typing.proofs.LaterLemmas.{begins-on, begins-itself, type-later, trees-known}
+use Rattle.dm_typing.specs.Views.{Begins, type_over, view_over}
+use Rattle.dm_typing.proofs.LaterLemmas.{begins-on, type-later, trees-known}
 use Rattle.dm_typing.proofs.ValueLemmas.{node-known}
 use Rattle.dm_edeclarator.proofs.FitLemmas.{id-later}
 use Rattle.dm_edecl.specs.Standing.{Standing, Progress, goes_on, further}
-use Rattle.dm_edecl.specs.Statements.{Within as WithinSeen, statement, typed_items_in}
+use Rattle.dm_edecl.specs.Statements.{statement, typed_items_in}
 use Rattle.dm_edecl.specs.Units.{result_of}
 use Rattle.dm_estanding.specs.declared.standing.Standing.{Standing as Held}
 use Rattle.dm_estanding.specs.Proceeding.{Proceeds}

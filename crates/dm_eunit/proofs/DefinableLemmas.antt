@@ -1,9 +1,8 @@
 -- The steps of the code through the declarator of a function definition, where it declares the function.
-use Rattle.std.specs.Prelude.{◌≡◌, ℕ, ◌<◌, Bool, true, false, ◌&&◌, ◌||◌, ◌==◌, not, if◌then◌else◌, List, [], ◌∷◌, length, Option, Some, None, is_some, unwrap_or, Result, Ok, Err, refl}
+use Rattle.std.specs.Prelude.{◌≡◌, ℕ, Bool, true, false, ◌&&◌, ◌||◌, ◌==◌, not, if◌then◌else◌, List, [], ◌∷◌, length, Option, Some, None, is_some, unwrap_or, Ok, Err, refl}
 use Rattle.std.proofs.Common.{sym, ap, ap₂, ◌∙◌, subst, arith}
 use Rattle.dm_token.specs.declared.stop.Stop.{Stop}
 use Rattle.dm_type.specs.declared.shape.Shape.{Shape}
-use Rattle.dm_type.specs.CTypes.{CType}
 use Rattle.dm_syn.specs.Sources.{Source}
 use Rattle.dm_syn.specs.Spans.{declarator_span}
 use Rattle.dm_syn.specs.Trees.{Declarator}

@@ -1,7 +1,7 @@
 -- The steps of the code through the external declarations of a unit.
-use Rattle.std.specs.Prelude.{◌≡◌, ℕ, ◌<◌, Bool, true, ◌&&◌, IsTrue, List, [], ◌∷◌, ◌++◌, length, map, All, Result, Ok, Err, slice_index_or, refl}
+use Rattle.std.specs.Prelude.{◌≡◌, true, List, [], ◌∷◌, ◌++◌, length, map, All, Ok, Err, slice_index_or, refl}
 use Rattle.std.specs.List.{list_all}
-use Rattle.std.proofs.Common.{sym, ap, ◌∙◌, subst, arith, append-nil, append_assoc}
+use Rattle.std.proofs.Common.{sym, ap, ◌∙◌, append-nil, append_assoc}
 use Rattle.std.proofs.lemmas.Bool.{and_from, and_parts}
 use Rattle.std.proofs.lemmas.List.{map-append}
 use Rattle.std.proofs.lemmas.List.Elements.{All-head, All-tail, All-push}
@@ -9,7 +9,6 @@ use Rattle.dm_token.specs.declared.place.Span.{Span}
 use Rattle.dm_token.specs.declared.stop.Stop.{Stop}
 use Rattle.dm_type.specs.declared.shape.Shape.{Shape}
 use Rattle.dm_type.specs.Tables.{Table}
-use Rattle.dm_syn.specs.declared.declaration.Declaration.{Declaration as DeclarationNode}
 use Rattle.dm_syn.specs.declared.statement.External.{External as Node}
 use Rattle.dm_syn.specs.Trees.{Declaration}
 use Rattle.dm_syn.specs.Trees as tree
@@ -19,12 +18,11 @@ use Rattle.dm_tree.specs.declared.tree.Local.{Local}
 use Rattle.dm_tree.specs.declared.unit.CoreExternal.{CoreExternal}
 use Rattle.dm_tree.specs.declared.unit.CoreExternalForm.{CoreExternalForm}
 use Rattle.dm_tree.specs.declared.unit.CoreExternalForm.TheVariants.{Declaration as DeclarationForm, Function}
-use Rattle.dm_tree.specs.TypeNumbers.{are_known, are_known_in_local, form_has_known, external_has_known}
+use Rattle.dm_tree.specs.TypeNumbers.{are_known, are_known_in_local, form_has_known}
 use Rattle.dm_tree.specs.Units.{External, declares}
 use Rattle.dm_typing.specs.Known.{Setting}
-use Rattle.dm_typing.specs.Views.{Begins, view_over}
-use Rattle.dm_typing.proofs.LaterLemmas.{known-later, trees-later}
-use Rattle.dm_typing.specs.Fitting.{IsNumbered, AreNumbered}
+use Rattle.dm_typing.specs.Views.{Begins}
+use Rattle.dm_typing.proofs.LaterLemmas.{known-later}
 use Rattle.dm_edecl.specs.Standing.{Standing, Progress, goes_on, stops, further}
 use Rattle.dm_edecl.specs.Declaring.{Declared, declarators_of, expressions_of, typed_declaration}
 use Rattle.dm_edecl.specs.Units.{external_of, typed_external, typed_externals}

@@ -1,8 +1,8 @@
 -- The steps of the code through a function definition.
-use Rattle.std.specs.Prelude.{◌≡◌, ℕ, Bool, true, false, ◌&&◌, not, IsTrue, List, [], ◌∷◌, ◌++◌, length, map, All, Option, Some, None, Result, Ok, Err, slice_index_or, refl}
+use Rattle.std.specs.Prelude.{◌≡◌, ℕ, true, false, List, [], ◌∷◌, ◌++◌, length, map, Option, Some, None, Result, Ok, Err, slice_index_or, refl}
 use Rattle.std.specs.FinMap as finite
 use Rattle.std.specs.List.{list_all}
-use Rattle.std.proofs.Common.{sym, ap, ap₂, ◌∙◌, subst}
+use Rattle.std.proofs.Common.{sym, ap, ◌∙◌, subst}
 use Rattle.std.proofs.lemmas.Bool.{and_from}
 use Rattle.std.proofs.lemmas.List.{map-append}
 use Rattle.std.proofs.lemmas.List.Elements.{All-head, All-tail, All-append}
@@ -31,7 +31,7 @@ use Rattle.dm_typing.specs.Specifiers.{of_definition}
 use Rattle.dm_typing.specs.Typing.{TypedParameter, without_void}
 use Rattle.dm_syn.specs.Statements.{own_parameters}
 use Rattle.dm_eexpr.proofs.KeepLemmas.{KeepsIn, with-keeps}
-use Rattle.dm_edecl.specs.Standing.{Standing, Progress, goes_on, stops, further, knowing, collecting}
+use Rattle.dm_edecl.specs.Standing.{Standing, Progress, goes_on, further, knowing, collecting}
 use Rattle.dm_edecl.specs.Linkages.{entry_of, number_here, function_here}
 use Rattle.dm_edecl.specs.Declaring.{Specified, specified, typed_declarator, name_at}
 use Rattle.dm_edecl.specs.Units.{own_defined, Heading, innermost, typed_heading, body_within, typed_body, external_of, typed_external}

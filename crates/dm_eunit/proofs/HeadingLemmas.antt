@@ -1,6 +1,6 @@
 -- The declarator of a function definition, part by part.
-use Rattle.std.specs.Prelude.{◌≡◌, ℕ, Bool, true, false, ◌&&◌, not, is_some, if◌then◌else◌, List, [], ◌∷◌, ◌++◌, map, Option, Some, None, refl}
-use Rattle.std.proofs.Common.{sym, ap, ◌∙◌, subst}
+use Rattle.std.specs.Prelude.{◌≡◌, ℕ, Bool, true, false, ◌&&◌, not, is_some, if◌then◌else◌, List, [], ◌∷◌, ◌++◌, Option, Some, None, refl}
+use Rattle.std.proofs.Common.{ap, ◌∙◌}
 use Rattle.dm_token.specs.declared.place.Span.{Span}
 use Rattle.dm_type.specs.CTypes.{CType, void}
 use Rattle.dm_scope.specs.Scopes.{Numbers}
@@ -10,14 +10,13 @@ use Rattle.dm_syn.specs.Trees as tree
 use Rattle.dm_syn.specs.Views as syntax
 use Rattle.dm_typing.specs.Known.{Known, Setting, Outcome, given, broken, after, with_it}
 use Rattle.dm_typing.specs.Conversions.{is_same}
-use Rattle.dm_typing.specs.Typing.{Step, calling, pointers, direct_at, TypedParameter, is_no_parameters, without_void, entered, left, steps_of, direct_steps, parameters_of, derived}
+use Rattle.dm_typing.specs.Typing.{Step, calling, pointers, direct_at, TypedParameter, without_void, entered, left, steps_of, direct_steps, parameters_of, derived}
 use Rattle.dm_eexpr.specs.Parts.{array_steps, calling_steps}
 use Rattle.dm_eexpr.proofs.SplitLemmas.{shaped-parts, absent-parts, named-parts, enclosed-parts, array-view-parts, function-parts}
-use Rattle.dm_edecl.specs.Declaring.{typed_declarator}
 use Rattle.dm_edecl.specs.Units.{defined_parameters, own_defined, Heading, typed_heading, innermost, numbers_of, put_before}
 use Rattle.dm_edecl.proofs.ParameterLemmas.{SameAs, list-same}
 use Rattle.dm_eunit.specs.Bare.{is_bare, is_bare_declarator}
-use Rattle.dm_eunit.specs.Parts.{Begun, begun_by, declarator_begun, direct_begun, stepped, pointed, own_begun, Headed, headed_by, headed}
+use Rattle.dm_eunit.specs.Parts.{Begun, begun_by, declarator_begun, direct_begun, stepped, pointed, own_begun, Headed, headed}
 
 -- ---- more steps
 

@@ -1,5 +1,5 @@
 -- The steps of the code through the declarator of a function definition.
-use Rattle.std.specs.Prelude.{◌≡◌, ℕ, ◌<◌, true, is_some, List, [], ◌∷◌, ◌++◌, length, map, drop, Result, Ok, Err, IfOk, refl}
+use Rattle.std.specs.Prelude.{◌≡◌, ℕ, ◌<◌, true, is_some, List, [], ◌∷◌, ◌++◌, length, map, drop, Result, Ok, Err, IfOk}
 use Rattle.std.specs.FinMap as finite
 use Rattle.std.proofs.Common.{sym, ap, ◌∙◌, subst}
 use Rattle.std.proofs.Math.Seq.{drop-append_seam}
@@ -15,8 +15,8 @@ use Rattle.dm_tree.specs.Units.{Declaration}
 use Rattle.dm_tree.specs.Views.{entries_of}
 use Rattle.dm_typing.specs.declared.known.Known.{Known as Held}
 use Rattle.dm_typing.specs.declared.typer.Typer.{Typer}
-use Rattle.dm_typing.specs.Known.{Known, Setting, Outcome, given, broken, after, with_it}
-use Rattle.dm_typing.specs.Typing.{Step, calling, TypedParameter, without_void, entered, parameters_of, derived}
+use Rattle.dm_typing.specs.Known.{Known, Setting, Outcome, given, after, with_it}
+use Rattle.dm_typing.specs.Typing.{Step, calling, without_void, entered, parameters_of, derived}
 use Rattle.dm_typing.specs.Views.{Begins, type_over, table_over, known_over, source_of, setting_of, Gives, Grows}
 use Rattle.dm_typing.proofs.LaterLemmas.{begins-itself}
 use Rattle.dm_edeclarator.specs.declared.declarators.PlacedStep.{PlacedStep}

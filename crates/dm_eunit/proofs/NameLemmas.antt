@@ -1,9 +1,9 @@
 -- The names that a scope has, as the code finds them.
-use Rattle.std.specs.Prelude.{◌≡◌, ℕ, suc, ◌+◌, ◌<◌, ◌≤◌, ◌==◌, Bool, true, false, not, if◌then◌else◌, List, [], ◌∷◌, ◌++◌, length, map, drop, Option, Some, None, is_some, slice_get, refl}
+use Rattle.std.specs.Prelude.{◌≡◌, ℕ, suc, ◌+◌, ◌<◌, ◌≤◌, Bool, true, false, if◌then◌else◌, List, [], ◌∷◌, ◌++◌, length, map, drop, Option, Some, None, is_some, refl}
 use Rattle.std.specs.Cmp.Lexicographic.{slice_cmp}
 use Rattle.std.specs.FinMap as finite
 use Rattle.std.specs.Ordering.{nat_cmp}
-use Rattle.std.proofs.Common.{sym, ap, ◌∙◌, append_assoc, append-nil, drop-cons, drop_of_length-le, add-one, get_or, eq-eqb, eqb-true}
+use Rattle.std.proofs.Common.{sym, ap, ◌∙◌, append_assoc, append-nil, drop-cons, drop_of_length-le, add-one, get_or}
 use Rattle.std.proofs.lemmas.List.{drop-map}
 use Rattle.dm_type.specs.Tables.{Table}
 use Rattle.dm_scope.specs.Scopes.{Numbers, Scopes, number_of, is_declared, or_else}

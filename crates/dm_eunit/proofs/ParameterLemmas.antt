@@ -1,18 +1,18 @@
 -- The parameters of a function definition, as the code goes through them.
-use Rattle.std.specs.Prelude.{◌≡◌, ℕ, suc, ◌+◌, ◌<◌, ◌≤◌, ◌==◌, Bool, true, false, ◌&&◌, not, if◌then◌else◌, List, [], ◌∷◌, ◌++◌, length, map, drop, Option, Some, None, is_some, refl}
+use Rattle.std.specs.Prelude.{◌≡◌, ℕ, ◌==◌, Bool, true, false, ◌&&◌, not, if◌then◌else◌, List, [], ◌∷◌, ◌++◌, length, map, Some, is_some, refl}
 use Rattle.std.proofs.Common.{sym, ap, ◌∙◌, append_assoc, ne_eqb, arith}
 use Rattle.dm_type.specs.declared.shape.Shape.{Shape}
 use Rattle.dm_type.specs.CTypes.{CType}
-use Rattle.dm_type.specs.Tables.{Table, IsId, type_of}
+use Rattle.dm_type.specs.Tables.{Table, type_of}
 use Rattle.dm_syn.specs.declared.declaration.Parameter.{Parameter as ParameterHeld}
 use Rattle.dm_syn.specs.Trees.{Parameters, Parameter}
 use Rattle.dm_syn.specs.Trees as tree
 use Rattle.dm_syn.specs.Views as syntax
 use Rattle.dm_tree.specs.Scenes.{is_void}
 use Rattle.dm_typing.specs.declared.known.Known.{Known as Held}
-use Rattle.dm_typing.specs.Known.{Known, Setting, Outcome, given, broken, after, with_it, obeys}
+use Rattle.dm_typing.specs.Known.{Known, Setting, Outcome, given, broken, after, with_it}
 use Rattle.dm_typing.specs.Conversions.{is_complete}
-use Rattle.dm_typing.specs.Typing.{TypedParameter, is_no_parameters, parameter_at, parameter_of}
+use Rattle.dm_typing.specs.Typing.{TypedParameter, is_no_parameters}
 use Rattle.dm_typing.specs.Views.{Begins, type_over, known_over, seen}
 use Rattle.dm_typing.proofs.GivesLemmas.{obeyed, disobeyed, complete-later}
 use Rattle.dm_typing.proofs.LaterLemmas.{type-later}
@@ -21,7 +21,7 @@ use Rattle.dm_edeclarator.specs.Steps.{parameter_over, ParameterFits, parameter_
 use Rattle.dm_edeclarator.proofs.DeclaratorStepLemmas.{void-alone}
 use Rattle.dm_eexpr.proofs.LoopLemmas.{onward, onward-end}
 use Rattle.dm_eexpr.proofs.SyntaxViewLemmas.{view-parameter}
-use Rattle.dm_edecl.specs.Units.{is_only, may_be_defined, defined_parameter, defined_parameters, put_before, numbers_of}
+use Rattle.dm_edecl.specs.Units.{is_only, may_be_defined, defined_parameter, defined_parameters, numbers_of}
 use Rattle.dm_eunit.specs.Parts.{parameter_behind}
 
 -- ---- one parameter

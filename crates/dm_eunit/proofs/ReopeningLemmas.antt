@@ -1,5 +1,5 @@
 -- What is known where a scope opens again.
-use Rattle.std.specs.Prelude.{◌≡◌, ℕ, ◌<◌, Bool, true, false, not, List, [], ◌∷◌, length, map, if◌then◌else◌, Option, Some, None, option_map, slice_get, All, refl}
+use Rattle.std.specs.Prelude.{◌≡◌, ℕ, ◌<◌, Bool, true, false, not, List, [], ◌∷◌, length, map, if◌then◌else◌, Option, Some, None, option_map, slice_get, refl}
 use Rattle.std.specs.Cmp.Lexicographic.{slice_cmp}
 use Rattle.std.specs.FinMap as finite
 use Rattle.std.specs.Ordering.{nat_cmp, eq_by_cmp}
@@ -20,9 +20,7 @@ use Rattle.dm_edeclarator.specs.Steps.{SameBesideScopes}
 use Rattle.dm_edeclarator.proofs.OpenLemmas.{scopes-over}
 use Rattle.dm_edecl.specs.Standing.{Standing, opened}
 use Rattle.dm_estanding.specs.declared.links.Links.{Links}
-use Rattle.dm_estanding.specs.declared.standing.Standing.{Standing as HeldStanding}
 use Rattle.dm_estanding.specs.Summaries.{entry_over, StandsFor}
-use Rattle.dm_estanding.specs.Undoing.{Opens}
 use Rattle.dm_eunit.specs.declared.naming.Numbered.{Numbered}
 use Rattle.dm_eunit.specs.Naming.{with_name, with_names}
 use Rattle.dm_eunit.specs.Reopening.{is_unlinked, AreUnlinked}

@@ -1,16 +1,15 @@
 -- Two settings that say the same of each name that stands in the tokens give the same typing of declarations, statements and units.
-use Rattle.std.specs.Prelude.{◌≡◌, ℕ, ◌+◌, Bool, true, false, ◌&&◌, not, if◌then◌else◌, List, [], ◌∷◌, ◌++◌, length, Option, Some, None, is_some, unwrap_or, refl}
+use Rattle.std.specs.Prelude.{◌≡◌, ℕ, ◌+◌, Bool, true, false, ◌&&◌, not, if◌then◌else◌, List, [], ◌∷◌, ◌++◌, Option, Some, None, refl}
 use Rattle.std.proofs.Common.{ap, ◌∙◌}
 use Rattle.dm_token.specs.declared.place.Span.{Span}
 use Rattle.dm_int.specs.declared.Kind.{Kind}
 use Rattle.dm_type.specs.CTypes.{CType, array as array_type}
 use Rattle.dm_scope.specs.Scopes.{Numbers}
 use Rattle.dm_syn.specs.Sources.{Source, spelling_at}
-use Rattle.dm_syn.specs.Spans.{expr_span, declarator_span, declaration_span}
+use Rattle.dm_syn.specs.Spans.{expr_span, declarator_span}
 use Rattle.dm_syn.specs.Statements.{own_parameters}
 use Rattle.dm_syn.specs.Trees.{Expr, Initialiser, Initialisers, Specifiers, Declarator, Parameters, Parameter, Item, ForStart, Stmt, BlockItems, BlockItem, SwitchItems, SwitchItem, External}
 use Rattle.dm_syn.specs.Trees as tree
-use Rattle.dm_tree.specs.Constants.{integer_kind}
 use Rattle.dm_tree.specs.Initialisers.{is_fixed}
 use Rattle.dm_tree.specs.Scenes.{is_scalar, part_type}
 use Rattle.dm_tree.specs.Trees.{Tree, kind_of}
@@ -19,14 +18,14 @@ use Rattle.dm_tree.specs.Units as unit
 use Rattle.dm_typing.specs.Known.{Known, Setting, Outcome, given, broken, after, with_it, obeys, if_given}
 use Rattle.dm_typing.specs.Conversions.{as_value}
 use Rattle.dm_typing.specs.Specifiers.{Where, of_declaration, of_definition, nothing_said}
-use Rattle.dm_typing.specs.Typing.{TypedParameter, entered, is_no_parameters, typed, words_said, steps_of, parameter_of, derived}
+use Rattle.dm_typing.specs.Typing.{entered, typed, words_said, steps_of, parameter_of}
 use Rattle.dm_edecl.specs.Standing.{Standing, Progress, goes_on, stops, further, typing, collecting, keeps, closed, opened, in_scope}
 use Rattle.dm_edecl.specs.Linkages.{entry_of, function_here, number_here, is_defined, declared_here, kind_seen}
-use Rattle.dm_edecl.specs.Initialising.{Initial, Initials, is_string_for, initialised_by, scalar_initialised, is_zero_token, completed, expressions_alone, all_expressions_alone, misplaced, scalar_in_braces, is_zero_list, all_zero, if_part, typed_initialiser, typed_initialisers, first_scalar, zero_initialised}
-use Rattle.dm_edecl.specs.Declaring.{Specified, specified, is_alone, typed_declarator, name_at, may_be_initialised, object_defined, initialised, item_plain, item_initialised, declarable, item_with, typed_item, typed_items, Local, Declared, typed_declaration, fits_main, declarators_of, expressions_of}
+use Rattle.dm_edecl.specs.Initialising.{is_string_for, initialised_by, scalar_initialised, is_zero_token, completed, expressions_alone, all_expressions_alone, misplaced, scalar_in_braces, is_zero_list, all_zero, if_part, typed_initialiser, typed_initialisers}
+use Rattle.dm_edecl.specs.Declaring.{Specified, specified, is_alone, typed_declarator, name_at, may_be_initialised, object_defined, initialised, declarable, item_with, typed_item, typed_items, typed_declaration, fits_main}
 use Rattle.dm_edecl.specs.Statements.{statement, for_statement, Within, in_loop, in_switch, typed_value, typed_optional, typed_condition, typed_optional_condition, typed_subject, typed_case, full_statement, returned, typed_return, declared_in, typed_start, typed_stmt, typed_items_in, typed_item_in, typed_switch_items, typed_switch_item, is_label_among}
-use Rattle.dm_edecl.specs.Units.{is_only, may_be_defined, defined_parameter, defined_parameters, own_defined, Heading, typed_heading, typed_body, body_within, function_defined, typed_external, typed_externals}
-use Rattle.dm_eunit.proofs.SettingLemmas.{Both, expr-both, words-both, steps-both, parameter-both}
+use Rattle.dm_edecl.specs.Units.{is_only, defined_parameter, defined_parameters, own_defined, Heading, typed_heading, typed_body, body_within, function_defined, typed_external, typed_externals}
+use Rattle.dm_eunit.proofs.SettingLemmas.{expr-both, words-both, steps-both, parameter-both}
 
 -- ---- what follows
 

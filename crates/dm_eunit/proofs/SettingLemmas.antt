@@ -1,6 +1,6 @@
 -- What the typing of expressions and type names asks of a unit, and what it declares. Where two settings say the same of each name that
 -- stands in the tokens, it gives the same; and a name that is new in the innermost scope is that of its entry.
-use Rattle.std.specs.Prelude.{◌≡◌, ℕ, zero, suc, ◌≤◌, ◌⊎◌, ◌+◌, ℤ, pos, ◌+ℤ◌, negsuc, Bool, true, false, if◌then◌else◌, List, [], ◌∷◌, ◌++◌, length, Option, Some, None, is_some, refl, ◌&&◌, option_and_then, unwrap_or, bytes_eq, codes, not, slice_get}
+use Rattle.std.specs.Prelude.{◌≡◌, ℕ, zero, suc, ◌≤◌, ◌⊎◌, ℤ, pos, ◌+ℤ◌, negsuc, Bool, true, false, if◌then◌else◌, List, [], ◌∷◌, ◌++◌, length, Option, Some, None, is_some, refl, ◌&&◌, option_and_then, unwrap_or, bytes_eq, codes, not, slice_get}
 use Rattle.std.specs.Cmp.Lexicographic.{slice_cmp, texts_ties}
 use Rattle.std.specs.FinMap as finite
 use Rattle.std.specs.Ordering.{nat_cmp, eq_by_cmp}
@@ -16,7 +16,7 @@ use Rattle.dm_type.specs.Layouts.{contained, struct_layout}
 use Rattle.dm_type.specs.CTypes.{CType, integer, struct, bare}
 use Rattle.dm_type.specs.TableLaws.{injected}
 use Rattle.dm_type.specs.Tables.{with_struct, with_content}
-use Rattle.dm_scope.specs.Scopes.{Numbers, Scopes, number_of, is_declared, declared as declared_in}
+use Rattle.dm_scope.specs.Scopes.{Scopes, number_of, is_declared, declared as declared_in}
 use Rattle.dm_syn.specs.declared.symbol.Symbol.{Symbol}
 use Rattle.dm_syn.specs.declared.symbol.Symbol.TheVariants as symbol
 use Rattle.dm_syn.specs.Sources.{Source, spelling_at, symbol_at}
@@ -35,7 +35,7 @@ use Rattle.dm_typing.specs.Operators.{row_at, operator_of_row, operator_of_assig
 use Rattle.dm_typing.specs.Known.{meaning_of, place_at, tag_key, tag_entry, Known, Setting, Outcome, given, broken, after, with_it, obeys, if_given, declaring}
 use Rattle.dm_typing.specs.Conversions.{as_value, made, is_complete, complete_target, constant_of}
 use Rattle.dm_typing.specs.Specifiers.{type_said, are_allowed, Said, Where, elsewhere, nothing_said}
-use Rattle.dm_typing.specs.Typing.{comma_of, comma_tree, constant_tree, index_tree, is_internal, is_name, is_function_label, number_if_struct, fields, is_file_scope, enumerator_entry, is_int, with_constant, length_fits, is_result, natural, parameter_entry, is_named, name_of, named, typed_index, typed_member, typed_arrow, typed_count, typed_sign, typed_prefix, typed_sizeof, typed_sizeof_name, typed_cast, typed_operation, typed_binary, typed_choice, typed_update, typed_assignment, typed_call, tag_declared, new_struct, tag_inside, tag_seen, struct_named, enum_named, struct_begun, with_new_struct, beginning, TypedMember, struct_ended, enumerator_declared, enumerator_implied, enumerator_valued, TypedParameter, Step, pointing, arraying, calling, stepped, derived, pointers, direct_at, length_of, adjusted, without_void, parameter_declared, typed_parameter, parameter_at, entered, left, typed_field, typed_said, name_ended, extent, typed_within, typed_values, typed_name, typed_specifiers, words_said, word_said, fields_of, fields_declared, fields_with, enumerators_of, enumerator_of, steps_of, direct_steps, parameters_of, parameter_of, typed}
+use Rattle.dm_typing.specs.Typing.{comma_of, comma_tree, constant_tree, index_tree, is_internal, is_name, is_function_label, number_if_struct, fields, is_file_scope, enumerator_entry, is_int, with_constant, length_fits, is_result, natural, parameter_entry, is_named, name_of, named, typed_index, typed_member, typed_arrow, typed_count, typed_sign, typed_prefix, typed_sizeof, typed_sizeof_name, typed_cast, typed_operation, typed_binary, typed_choice, typed_update, typed_assignment, typed_call, tag_declared, new_struct, tag_inside, tag_seen, struct_named, enum_named, struct_begun, with_new_struct, beginning, TypedMember, struct_ended, enumerator_declared, enumerator_implied, enumerator_valued, Step, pointing, arraying, calling, stepped, derived, direct_at, length_of, adjusted, parameter_declared, typed_parameter, parameter_at, entered, left, typed_field, typed_said, name_ended, extent, typed_within, typed_values, typed_name, typed_specifiers, words_said, word_said, fields_of, fields_declared, fields_with, enumerators_of, enumerator_of, steps_of, direct_steps, parameters_of, parameter_of, typed}
 use Rattle.dm_edecl.specs.Units.{innermost}
 use Rattle.dm_eunit.specs.Naming.{key_of}
 

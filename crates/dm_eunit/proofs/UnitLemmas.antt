@@ -1,5 +1,5 @@
 -- What the typing of a whole unit gives.
-use Rattle.std.specs.Prelude.{◌≡◌, ℕ, zero, suc, ◌<◌, ◌≤◌, ◌+◌, Bool, true, false, ◌&&◌, not, nat_lt, IsTrue, List, [], ◌∷◌, ◌++◌, length, map, All, Option, Some, None, Result, Ok, Err, IfOk, IfErr, IsErrAnd, slice_index_or, refl}
+use Rattle.std.specs.Prelude.{◌≡◌, ℕ, ◌<◌, ◌+◌, Bool, true, ◌&&◌, not, nat_lt, IsTrue, List, [], ◌∷◌, ◌++◌, length, map, Option, Some, None, Result, Ok, Err, IfOk, IfErr, IsErrAnd, refl}
 use Rattle.std.specs.List.{list_all}
 use Rattle.std.proofs.Common.{rules, sym, ap, ap₂, ◌∙◌, subst, arith}
 use Rattle.std.proofs.lemmas.Bool.{and_from, and_parts, lt-ltb}
@@ -27,15 +27,15 @@ use Rattle.dm_tree.specs.declared.unit.Declared.{Declared}
 use Rattle.dm_tree.specs.Trees.{Label, Tree, Declarator, label_of, parts_of, trees, listed}
 use Rattle.dm_tree.specs.Trees as label
 use Rattle.dm_tree.specs.TypeNumbers.{are_known, are_known_in_local, all_pass, form_has_known, entry_has_known, external_has_known}
-use Rattle.dm_tree.specs.Units.{Declaration, External, ExternalForm, declares, defines_function, TypedUnit}
+use Rattle.dm_tree.specs.Units.{Declaration, External, declares, defines_function, TypedUnit}
 use Rattle.dm_tree.specs.Typing.{IsWellTypedUnit}
 use Rattle.dm_tree.specs.TypeNumbers.{IsTypedUnit}
 use Rattle.dm_tree.specs.ViewLaws.{stays}
-use Rattle.dm_tree.specs.Views.{OpenedLocal, view, view_of_local, declarators_of, expressions_of_locals, opened, node_of, view_of_form, view_of_external, view_of_unit}
+use Rattle.dm_tree.specs.Views.{view, view_of_local, declarators_of, expressions_of_locals, opened, node_of, view_of_form, view_of_external, view_of_unit}
 use Rattle.dm_typing.specs.Fitting.{HaveTypes}
-use Rattle.dm_typing.specs.Known.{Known, Setting, Outcome, given, broken}
+use Rattle.dm_typing.specs.Known.{Known, Setting, Outcome, given}
 use Rattle.dm_typing.specs.Sound.{AreSoundTokens, BreaksWithin}
-use Rattle.dm_typing.specs.Views.{Begins, view_over, table_over}
+use Rattle.dm_typing.specs.Views.{Begins, table_over}
 use Rattle.dm_typing.proofs.LaterLemmas.{begins-itself}
 use Rattle.dm_eexpr.specs.Alone.{source_alone, RefusesWithin}
 use Rattle.dm_edecl.specs.Linkages.{with_whole_kinds}

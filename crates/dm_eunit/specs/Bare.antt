@@ -1,5 +1,5 @@
 -- Names, in parentheses or not: in front of the parameters of a function definition stands nothing else (6.9.1).
-use Rattle.std.specs.Prelude.{Bool, true, false, List, [], ◌∷◌}
+use Rattle.std.specs.Prelude.{Bool, true, false, [], ◌∷◌}
 use Rattle.dm_syn.specs.Trees.{Declarator, Direct}
 use Rattle.dm_syn.specs.Trees as tree
 

@@ -1,7 +1,7 @@
 -- What the code has on the way through the declarator of a function definition, as the definition has it.
 --     begun_over later begun      its steps so far, with what its own parameters declare
 --     headed_over later heading      what it says
-use Rattle.std.specs.Prelude.{ℕ, List}
+use Rattle.std.specs.Prelude.{List}
 use Rattle.std.specs.FinMap as finite
 use Rattle.dm_type.specs.declared.shape.Shape.{Shape}
 use Rattle.dm_type.specs.Tables.{Table, IsId}

@@ -1,6 +1,6 @@
 -- Scopes that open again, with the names that they had.
 --     AreUnlinked entries names      the entries of these names have no linkage
-use Rattle.std.specs.Prelude.{◌≡◌, ℕ, Bool, true, false, not, List, Option, Some, None, slice_get, All}
+use Rattle.std.specs.Prelude.{◌≡◌, Bool, true, false, not, List, Option, Some, None, slice_get, All}
 use Rattle.dm_tree.specs.declared.unit.Declared.{Declared}
 use Rattle.dm_tree.specs.Typing.{has_linkage}
 use Rattle.dm_eunit.specs.declared.naming.Numbered.{Numbered}

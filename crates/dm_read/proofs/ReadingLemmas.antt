@@ -41,14 +41,23 @@ module _ (tokens : List Token) where
 
       pub no-types : (fault : Stop) → Elaborates again (map view.external nodes) (Err fault) → HasLayers tokens (Err fault)
       no-types fault h =
-          inr (made, are, inr (syntax, is-syntax,
-          subst (λ these. Elaborates made (map view.external these) (Err fault)) alike (subst (λ these. Elaborates these (map view.external nodes) (Err fault)) once h)))
+          inr (
+            made,
+            are,
+            inr (
+              syntax,
+              is-syntax,
+              subst (λ these. Elaborates made (map view.external these) (Err fault)) alike (subst (λ these. Elaborates these (map view.external nodes) (Err fault)) once h),
+            ),
+          )
 
       pub all-layers : (core : CoreUnit) (types : Table) → Elaborates again (map view.external nodes) (Ok (core, types))
           → HasLayers tokens (Ok (record { tokens = made; syntax = syntax; core = core; types = types }))
-      all-layers core types h =
-          (are, is-syntax,
-          subst (λ these. Elaborates made (map view.external these) (Ok (core, types))) alike (subst (λ these. Elaborates these (map view.external nodes) (Ok (core, types))) once h))
+      all-layers core types h = (
+        are,
+        is-syntax,
+        subst (λ these. Elaborates made (map view.external these) (Ok (core, types))) alike (subst (λ these. Elaborates these (map view.external nodes) (Ok (core, types))) once h),
+      )
 
 -- ---- the whole
 

@@ -1,5 +1,5 @@
 -- The type is that of a function, or not.
-use Rattle.std.proofs.Common.{sym, ◌∙◌}
+use Rattle.std.proofs.Common.{◌∙◌}
 use Rattle.dm_typing.proofs.LaterLemmas.{begins-on}
 use Rattle.dm_eunit.proofs.BodyLemmas.{answer-some, answer-none}
 use Rattle.dm_eunit.proofs.bodies.result_of.Goals as goal

@@ -1,5 +1,5 @@
 -- The function may be defined, and is declared.
-use Rattle.std.specs.Prelude.{◌≡◌, refl}
+use Rattle.std.specs.Prelude.{refl}
 use Rattle.std.proofs.Common.{sym, ap, ◌∙◌}
 use Rattle.dm_token.specs.declared.place.Span.{Span}
 use Rattle.dm_syn.specs.Views as syntax

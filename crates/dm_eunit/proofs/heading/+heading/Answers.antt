@@ -4,8 +4,8 @@ use Rattle.std.proofs.Common.{sym, ap, ◌∙◌}
 use Rattle.dm_type.specs.declared.shape.Shape.{Shape}
 use Rattle.dm_syn.specs.Trees as tree
 use Rattle.dm_syn.specs.Views as syntax
-use Rattle.dm_typing.specs.Known.{Known, with_it}
-use Rattle.dm_typing.specs.Typing.{Step, pointers, direct_at}
+use Rattle.dm_typing.specs.Known.{with_it}
+use Rattle.dm_typing.specs.Typing.{pointers, direct_at}
 use Rattle.dm_typing.specs.Views.{known_over, source_of, setting_of}
 use Rattle.dm_edeclarator.specs.Steps.{steps_over}
 use Rattle.dm_edeclarator.proofs.DeclaratorStepLemmas.{view-declarator}

@@ -1,6 +1,4 @@
 -- The type of the function, behind the steps.
-use Rattle.std.specs.Prelude.{List}
-use Rattle.dm_type.specs.declared.shape.Shape.{Shape}
 use Rattle.dm_syn.specs.Views as syntax
 use Rattle.dm_typing.specs.Views.{type_over, known_over, source_of, setting_of}
 use Rattle.dm_edeclarator.proofs.ReachLemmas.{relays}

@@ -1,5 +1,5 @@
 -- No function so far.
-use Rattle.std.specs.Prelude.{◌||◌, [], is_some, map}
+use Rattle.std.specs.Prelude.{◌||◌, is_some, map}
 use Rattle.std.specs.Cmp.Lexicographic.{slice_cmp}
 use Rattle.std.specs.FinMap as finite
 use Rattle.std.specs.Ordering.{nat_cmp}

@@ -1,5 +1,5 @@
 -- The names in turn.
-use Rattle.std.specs.Prelude.{◌++◌, ◌+◌, ◌<◌, length, drop}
+use Rattle.std.specs.Prelude.{◌++◌, ◌+◌, drop}
 use Rattle.std.proofs.Common.{rules, ap, ◌∙◌}
 use Rattle.dm_tree.specs.Views.{entries_of}
 use Rattle.dm_edecl.specs.Units.{innermost}

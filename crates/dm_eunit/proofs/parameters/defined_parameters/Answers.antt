@@ -1,19 +1,18 @@
 -- The parameters in turn.
-use Rattle.std.specs.Prelude.{true, List, [], ◌∷◌, ◌++◌, ◌+◌, ◌==◌, length, map, drop, Err, refl}
+use Rattle.std.specs.Prelude.{true, List, [], ◌∷◌, ◌++◌, ◌+◌, ◌==◌, length, map, drop}
 use Rattle.std.proofs.Common.{sym, ap, ◌∙◌, subst}
 use Rattle.std.proofs.lemmas.List.{map-append}
 use Rattle.std.proofs.lemmas.List.Elements.{All-nil, All-push}
 use Rattle.dm_type.specs.declared.shape.Shape.{Shape}
 use Rattle.dm_syn.specs.Views as syntax
-use Rattle.dm_typing.specs.Known.{Known, Outcome, given, after}
-use Rattle.dm_typing.specs.Typing.{TypedParameter}
+use Rattle.dm_typing.specs.Known.{Known, after}
 use Rattle.dm_typing.specs.Views.{known_over, source_of, setting_of}
 use Rattle.dm_edeclarator.specs.Steps.{parameter_over, ParameterFits, parameters_over, ParametersFit}
 use Rattle.dm_edeclarator.proofs.FitLemmas.{parameters-later}
-use Rattle.dm_edeclarator.proofs.ReachLemmas.{begins, says, passes, fails, done, relays, runs-out}
+use Rattle.dm_edeclarator.proofs.ReachLemmas.{begins, says, passes, fails, relays}
 use Rattle.dm_edecl.specs.Units as units
-use Rattle.dm_eexpr.proofs.LoopLemmas.{onward, onward-none, cut, past}
-use Rattle.dm_eunit.proofs.ParameterLemmas.{all_defined, is_one, all-defined, one-by-length, all-end, all-next}
+use Rattle.dm_eexpr.proofs.LoopLemmas.{onward, onward-none, cut}
+use Rattle.dm_eunit.proofs.ParameterLemmas.{all_defined, all-defined, one-by-length, all-next}
 use Rattle.dm_eunit.proofs.parameters.defined_parameters.Goals as goal
 
 pub loop-parameter-init : goal.loop-parameter-init

@@ -1,5 +1,5 @@
 -- A parameter with a complete type and a name, or none.
-use Rattle.std.specs.Prelude.{not, is_some}
+use Rattle.std.specs.Prelude.{not}
 use Rattle.std.proofs.Common.{sym, ap, ◌∙◌}
 use Rattle.dm_token.specs.declared.stop.Stop.TheVariants.{Refused}
 use Rattle.dm_typing.specs.Views.{known_over, source_of, refusal_at}

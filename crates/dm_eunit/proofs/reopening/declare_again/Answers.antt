@@ -1,5 +1,5 @@
 -- The names in turn.
-use Rattle.std.specs.Prelude.{true, ◌≡◌, ◌∷◌, ◌+◌, drop, slice_get}
+use Rattle.std.specs.Prelude.{true, ◌≡◌, ◌+◌, drop, slice_get}
 use Rattle.std.proofs.Common.{sym, ap, ◌∙◌, subst}
 use Rattle.std.proofs.lemmas.List.Elements.{All-cons}
 use Rattle.dm_eexpr.proofs.LoopLemmas.{cut}

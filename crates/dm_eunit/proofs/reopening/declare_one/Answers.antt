@@ -1,5 +1,5 @@
 -- The number is that of an entry.
-use Rattle.std.specs.Prelude.{true, length}
+use Rattle.std.specs.Prelude.{length}
 use Rattle.std.proofs.Common.{sym, ◌∙◌}
 use Rattle.dm_estanding.proofs.NameLemmas.{put-anyway}
 use Rattle.dm_eunit.proofs.ReopeningLemmas.{unlinked-below}

@@ -6,7 +6,6 @@ use Rattle.std.specs.Ordering.{nat_cmp}
 use Rattle.std.proofs.Common.{sym, ◌∙◌, subst}
 use Rattle.std.proofs.lemmas.List.Elements.{All-nil, All-cons}
 use Rattle.dm_type.specs.Tables.{IsId, no_type}
-use Rattle.dm_scope.specs.Scopes.{Numbers}
 use Rattle.dm_tree.specs.declared.unit.Declared.{Declared}
 use Rattle.dm_typing.specs.Bounds.{IsBelow, IsUnset, AreBelow, AreOpen}
 use Rattle.dm_typing.specs.Fitting.{HaveTypes, IsNumbered, AreNumbered}

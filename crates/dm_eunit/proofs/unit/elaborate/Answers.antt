@@ -1,7 +1,6 @@
 -- The setting is that of the unit.
 use Rattle.std.specs.Prelude.{map}
 use Rattle.dm_syn.specs.Views as syntax
-use Rattle.dm_typing.specs.Views.{setting_of}
 use Rattle.dm_eexpr.specs.Alone.{source_alone}
 use Rattle.dm_edecl.specs.Units.{typed_unit}
 use Rattle.dm_eunit.specs.Lacking.{has}

@@ -1,7 +1,7 @@
 -- The types of the entries are numbered.
-use Rattle.std.specs.Prelude.{IsTrue, length}
+use Rattle.std.specs.Prelude.{length}
 use Rattle.std.specs.List.{list_all}
-use Rattle.std.proofs.Common.{sym, ap, ◌∙◌}
+use Rattle.std.proofs.Common.{ap, ◌∙◌}
 use Rattle.dm_tree.specs.TypeNumbers.{entry_has_known}
 use Rattle.dm_eunit.proofs.UnitLemmas.{settled-known}
 use Rattle.dm_eunit.proofs.unit.finished.Goals as goal
