@@ -1,7 +1,8 @@
 -- The first stop of a unit's layers.
-use Rattle.std.specs.Prelude.{◌≡◌, List, map, Result, Ok, Err, IsErrAnd}
-use Rattle.std.proofs.Common.{sym, ap, subst, inl, inr}
+use Rattle.std.specs.Prelude.{◌≡◌, ℕ, List, map, Option, None, Result, Ok, Err, IsErrAnd}
+use Rattle.std.proofs.Common.{sym, ap, ◌∙◌, subst, inl, inr, ⊎_elim}
 use Rattle.dm_token.specs.declared.stop.Stop.{Stop}
+use Rattle.dm_token.specs.declared.stop.Stop.TheVariants as stop
 use Rattle.dm_token.specs.declared.token.CToken.{CToken}
 use Rattle.dm_token.specs.declared.token.Token.{Token}
 use Rattle.dm_token.specs.declared.unit.Unit.{Unit as Source}
@@ -11,6 +12,7 @@ use Rattle.dm_syn.specs.Views as view
 use Rattle.dm_type.specs.Tables.{Table}
 use Rattle.dm_tree.specs.declared.unit.CoreUnit.{CoreUnit}
 use Rattle.dm_search.specs.Loaded.{Loaded}
+use Rattle.dm_unit.specs.Loaders.{Grows, file_of, stopped_at}
 use Rattle.dm_unit.specs.States.{Setting}
 use Rattle.dm_unit.specs.Units.{IsReadAs}
 use Rattle.dm_eunit.specs.Elaborated.{Elaborates}
@@ -76,3 +78,37 @@ module _ (setting : Setting) (unit : Source) (old new : Loaded) where
   pub all-read : (reading : Reading) (tokens : List Token) → reading.unit ≡ unit → tokens ≡ reading.pp.tokens → IsReadAs setting unit old (Ok reading.pp) new
       → HasLayers tokens (Ok (layers_of reading)) → IsReading setting unit old (Ok reading) new
   all-read reading tokens of same is h = (of, is, subst (λ these. HasLayers these (Ok (layers_of reading))) same h)
+
+-- ---- what a stop leaves
+
+-- only the reading of files has faults
+pub layers-never : (tokens : List Token) (file : ℕ) → HasLayers tokens (Err (stop.ReadFault file)) → ⊥
+layers-never tokens file h = ⊎_elim (λ one. one) (λ more. ⊎_elim (λ one. one) (λ last. last.2) more.2) h
+
+pub loosened : (apart : Option ℕ) (old new : Loaded) → Grows None old new → Grows apart old new
+loosened apart old new g = record {
+  begins = g.begins;
+  held_too = g.held_too;
+  absent_too = g.absent_too;
+  new_held = λ file from inside. ⊎_elim (λ held. inl held) (λ none. absurd none) (g.new_held file from inside);
+}
+
+abbrev fault_in : {A : Type 0} → Result A Stop → Stop
+fault_in (Ok it) = stop.Memory
+fault_in (Err fault) = fault
+
+pub loader-handed : (result : Result Reading Stop) (fault : Stop) (old new : Loaded) → IsErrAnd result (λ e. e ≡ fault)
+    → ((◌≡◌ {A = Result UnitTokens Stop} (Err fault) (Err stop.Memory) → ⊥) → Grows (file_of fault) old new) → (result ≡ Err stop.Memory → ⊥) → Grows (stopped_at result) old new
+loader-handed (Ok it) fault old new handed h not = absurd handed
+loader-handed (Err e) fault old new handed h not =
+    subst (λ s. Grows (file_of s) old new) (sym handed) (h (λ k. not (ap Err (handed ∙ ap (fault_in {A = UnitTokens}) k))))
+
+pub fault-handed : {P : Type 0} (result : Result Reading Stop) (fault : Stop) (file : ℕ) → IsErrAnd result (λ e. e ≡ fault)
+    → (◌≡◌ {A = Result UnitTokens Stop} (Err fault) (Err (stop.ReadFault file)) → P) → result ≡ Err (stop.ReadFault file) → P
+fault-handed (Ok it) fault file handed h k = absurd handed
+fault-handed (Err e) fault file handed h k = h (ap Err (sym handed ∙ ap (fault_in {A = Reading}) k))
+
+pub fault-never : {P : Type 0} (tokens : List Token) (result : Result Reading Stop) (fault : Stop) (file : ℕ) → IsErrAnd result (λ e. e ≡ fault) → HasLayers tokens (Err fault)
+    → result ≡ Err (stop.ReadFault file) → P
+fault-never tokens (Ok it) fault file handed h k = absurd handed
+fault-never tokens (Err e) fault file handed h k = absurd (layers-never tokens file (subst (λ s. HasLayers tokens (Err s)) (sym handed ∙ ap (fault_in {A = Reading}) k) h))

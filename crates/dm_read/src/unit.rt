@@ -1,8 +1,11 @@
 //! The reading of a unit (5.1.1.2): what each layer gives of it.
 
-ghost use Rattle.std.specs.Prelude.{◌≡◌, ◌+◌, ◌<◌, ◌≤◌, ℕ, List as Sequence, Some, All, length};
+ghost use Rattle.std.specs.Prelude.{◌≡◌, ◌≢◌, ◌+◌, ◌<◌, ◌≤◌, ℕ, List as Sequence, Some, Err, All, length};
 ghost use Rattle.dm_token.specs.Limits.{source_length_limit};
+ghost use Rattle.dm_token.specs.declared.stop.Stop.TheVariants.{Memory, ReadFault};
+ghost use Rattle.dm_io.specs.Faults.{Rose};
 ghost use Rattle.dm_io.specs.Files.{Files};
+ghost use Rattle.dm_unit.specs.Loaders.{Grows, WasUnknown, stopped_at};
 ghost use Rattle.dm_unit.specs.Units.{setting_of};
 ghost use Rattle.dm_read.specs.Reading.{IsReading};
 
@@ -45,6 +48,13 @@ pub fn read_unit<F: Folder, L: Ledger>(
     requires short { All (λ (define : Sequence ℕ). length define ≤ source_length_limit) unit.define }
     ensures counted { readings.new ≡ readings.old + 1 }
     ensures reading { (files : Files) → F.files folder.old ≡ Some files → IsReading (setting_of loader.old loader.new files unit) unit loader.old result loader.new }
+    // What the loader knows stays known, and each new name's file is held, apart from that of a stop.
+    ensures loader { result ≢ Err Memory → Grows (stopped_at result) loader.old loader.new }
+
+    // A fault has its cause outside, and names a file of which nothing was known.
+    ensures failed { (file : ℕ) → result ≡ Err (ReadFault file) → Rose (F.faults folder.old) (F.faults folder.new) }
+    ensures unknown { (file : ℕ) → result ≡ Err (ReadFault file) → WasUnknown loader.old loader.new file }
+
     ensures files_stay { F.files folder.new ≡ F.files folder.old }
     ensures rooms_stay { (other : Sequence ℕ) → F.room folder.new other ≡ F.room folder.old other }
     ensures later { F.faults folder.old ≤ F.faults folder.new }
