@@ -82,19 +82,19 @@ pub(crate) fn body_of(
     ensures { Proceeds IsNumbered view_over (source_of typer.now) standing.old standing.new result (λ later before. units.typed_body (setting_of typer.now) (units.body_within (type_over later kind)) before (with_names finite.empty names.now) (syntax.stmt stmt.now)) }
 {
     let within = within_of(&mut standing.known, kind)?;
-    typed_body(typer, within, standing, names, stmt)
+    typed_body(typer, &within, standing, names, stmt)
 }
 
 /// A body, which is one scope with the parameters (6.2.1p4).
 fn typed_body(
     typer: &Typer<'_>,
-    within: Within,
+    within: &Within,
     standing: &mut Standing,
     names: &[Numbered],
     stmt: &Stmt,
 ) -> Result<Core, Stop>
-    requires { WithinFits standing.old.known.types within }
-    ensures { Proceeds IsNumbered view_over (source_of typer.now) standing.old standing.new result (λ later before. units.typed_body (setting_of typer.now) (within_over later within) before (with_names finite.empty names.now) (syntax.stmt stmt.now)) }
+    requires { WithinFits standing.old.known.types within.now }
+    ensures { Proceeds IsNumbered view_over (source_of typer.now) standing.old standing.new result (λ later before. units.typed_body (setting_of typer.now) (within_over later within.now) before (with_names finite.empty names.now) (syntax.stmt stmt.now)) }
 {
     match &stmt.form {
         StmtForm::Block(items) => {
@@ -107,14 +107,14 @@ fn typed_body(
 /// A block that is one scope with these names.
 fn block_scoped(
     typer: &Typer<'_>,
-    within: Within,
+    within: &Within,
     standing: &mut Standing,
     names: &[Numbered],
     span: Span,
     items: &[Item],
 ) -> Result<Core, Stop>
-    requires { WithinFits standing.old.known.types within }
-    ensures { Proceeds IsNumbered view_over (source_of typer.now) standing.old standing.new result (λ later before. functions.block_scoped (setting_of typer.now) (within_over later within) before (with_names finite.empty names.now) span (syntax.block_items (map syntax.block_item items.now))) }
+    requires { WithinFits standing.old.known.types within.now }
+    ensures { Proceeds IsNumbered view_over (source_of typer.now) standing.old standing.new result (λ later before. functions.block_scoped (setting_of typer.now) (within_over later within.now) before (with_names finite.empty names.now) span (syntax.block_items (map syntax.block_item items.now))) }
 {
     let mark = reopened(standing, names)?;
     let made = block_inside(typer, within, standing, span, items)?;
@@ -125,13 +125,13 @@ fn block_scoped(
 /// A block without its scope.
 fn block_inside(
     typer: &Typer<'_>,
-    within: Within,
+    within: &Within,
     standing: &mut Standing,
     span: Span,
     items: &[Item],
 ) -> Result<Core, Stop>
-    requires { WithinFits standing.old.known.types within }
-    ensures { Proceeds IsNumbered view_over (source_of typer.now) standing.old standing.new result (λ later inside. functions.block_inside (setting_of typer.now) (within_over later within) span (syntax.block_items (map syntax.block_item items.now)) inside) }
+    requires { WithinFits standing.old.known.types within.now }
+    ensures { Proceeds IsNumbered view_over (source_of typer.now) standing.old standing.new result (λ later inside. functions.block_inside (setting_of typer.now) (within_over later within.now) span (syntax.block_items (map syntax.block_item items.now)) inside) }
 {
     let kind = within.statement;
     let trees = typed_items_in(typer, within, standing, items)?;

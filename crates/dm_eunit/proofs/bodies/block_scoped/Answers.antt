@@ -25,7 +25,7 @@ returns-in_err-made c =
     let outside = c.args.standing.now in
     let opened = c.reopened.new.standing in
     let inside = c.block_inside.new.standing in
-    let progress : List Shape → Standing → Progress Tree = λ later s. block_inside setting (within_over later c.args.within) c.args.span items s in
+    let progress : List Shape → Standing → Progress Tree = λ later s. block_inside setting (within_over later c.args.within.now) c.args.span items s in
     let is = c.in_ok-mark.ensures in
     relays IsNumbered view_over (source_of c.args.typer.now) outside inside _
     c.from_residual-in_err-made.result c.in_err-made.field-0.0 c.from_residual-in_err-made.ensures.1
@@ -42,7 +42,7 @@ returns c =
     let outside = c.args.standing.now in
     let opened = c.reopened.new.standing in
     let inside = c.block_inside.new.standing in
-    let progress : List Shape → Standing → Progress Tree = λ later s. block_inside setting (within_over later c.args.within) c.args.span items s in
+    let progress : List Shape → Standing → Progress Tree = λ later s. block_inside setting (within_over later c.args.within.now) c.args.span items s in
     let is = c.in_ok-mark.ensures in
     let p = c.in_ok-made.ensures in
     scoped IsNumbered view_over (source_of c.args.typer.now) outside opened inside (with_names finite.empty names) progress is.opens is.opened
