@@ -413,7 +413,7 @@ fn array_steps(
 
 /// An array, with a length or without one, in front of other steps.
 #[cycle(typing)]
-fn array_with(
+pub fn array_with(
     typer: &Typer<'_>,
     known: &mut Known,
     used: bool,
@@ -470,7 +470,7 @@ fn sized(
 
 /// A function in front of other steps, whose parameters are declared in a scope of their own (6.2.1p4).
 #[cycle(typing)]
-fn calling(
+pub fn calling(
     typer: &Typer<'_>,
     known: &mut Known,
     used: bool,
@@ -508,7 +508,7 @@ pub fn parameters_of(
 
 /// A parameter.
 #[cycle(typing)]
-fn parameter_of(
+pub fn parameter_of(
     typer: &Typer<'_>,
     known: &mut Known,
     used: bool,

@@ -16,8 +16,9 @@ use dm_tree::Declared;
 /// The entries of a unit, where each that has linkage has the type that all its declarations say together. More than
 /// 4,294,967,295 entries count as want of memory. Its time is that of one look-up for each entry.
 pub fn with_whole_kinds(entries: List<Declared>, links: &Links) -> Result<List<Declared>, Memory>
-    ensures { IfOk result (λ settled. (later : Sequence OneShape) (declared : Sequence Declaration) (linked : Sequence Linked) → Summarises later links.now declared linked
+    ensures whole { IfOk result (λ settled. (later : Sequence OneShape) (declared : Sequence Declaration) (linked : Sequence Linked) → Summarises later links.now declared linked
         → map (entry_over later) settled ≡ linkages.with_whole_kinds linked 0 (map (entry_over later) entries)) }
+    ensures kinds { IfOk result (λ made. made ≡ settled links.now 0 entries) }
 {
     let Ok(count) = u32::try_from(entries.len()) else {
         return Err(Memory);

@@ -1,1 +1,2 @@
 mod SyntaxLemmas
+pub mod ReadingLemmas

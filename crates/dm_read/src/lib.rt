@@ -1,8 +1,13 @@
 //! The reading of a translation unit (ISO/IEC 9899:2011, 5.1.1.2): of its tokens, its syntax.
 #![tactic(auto)]
 
+mod behind;
+mod count;
 mod laws;
 mod syntax;
+mod unit;
 
+pub use count::Steps;
 pub use laws::{no_refusal_of_syntax, one_refusal, one_syntax};
 pub use syntax::unit_syntax;
+pub use unit::{Reading, read_unit};

@@ -1,0 +1,14 @@
+pub mod SettingLemmas
+pub mod SameLemmas
+pub mod NamingLemmas
+pub mod ParameterLemmas
+pub mod NameLemmas
+pub mod HeadingLemmas
+pub mod HeadingSteps
+pub mod LackingLemmas
+pub mod ReopeningLemmas
+pub mod BodyLemmas
+pub mod DefinableLemmas
+pub mod FunctionLemmas
+pub mod ExternalLemmas
+pub mod UnitLemmas

@@ -1,0 +1,50 @@
+//! What the layers behind the preprocessor give of a unit.
+
+ghost use Rattle.std.specs.Prelude.{map, IfOk, IfErr};
+ghost use Rattle.dm_syn.specs.Views as view;
+ghost use Rattle.dm_read.specs.Reading.{HasLayers};
+ghost use Rattle.dm_read.specs.Syntax.{IsSyntax, Refuses};
+
+use crate::syntax::unit_syntax;
+use dm_ctok::ctokens;
+use dm_eunit::elaborate;
+use dm_syn::External;
+use dm_token::{CToken, List, Memory, Stop, Token};
+use dm_tree::CoreUnit;
+use dm_type::Types;
+use std::alloc::Global;
+
+/// The tokens of phase 7, the syntax, and the typed unit with its types.
+#[derive(Drop)]
+pub struct Layers {
+    pub tokens: List<CToken>,
+    pub syntax: List<External>,
+    pub core: CoreUnit,
+    pub types: Types,
+}
+
+/// Each layer of preprocessing tokens, or the first stop.
+pub(crate) fn typed_tokens(alloc: Global, tokens: &[Token]) -> Result<Layers, Stop>
+    ensures { HasLayers tokens.now result }
+{
+    let made = ctokens(alloc, tokens)?;
+    let syntax = syntax_of(alloc, made.items())?;
+    let (core, types) = elaborate(alloc, made.items(), syntax.items())?;
+    Ok(Layers {
+        tokens: made,
+        syntax,
+        core,
+        types,
+    })
+}
+
+/// The syntax. More than 4,294,967,295 tokens count as want of memory.
+fn syntax_of(alloc: Global, tokens: &[CToken]) -> Result<List<External>, Stop>
+    ensures syntax { IfOk result (λ externals. IsSyntax tokens.now (map view.external externals)) }
+    ensures stop { IfErr result (Refuses tokens.now) }
+{
+    if tokens.len() > 4294967295 {
+        return Err(Stop::from(Memory));
+    }
+    unit_syntax(alloc, tokens)
+}
