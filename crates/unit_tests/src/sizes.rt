@@ -10,6 +10,7 @@ use std::test::Fail;
 
 /// Words of which `open` and `close` stand any number of times. In a word that ends in `#` the number of its turn, from 1 on,
 /// stands in place of that sign, and in one that ends in `@` the number of the turn before.
+#[derive(Clone, Copy)]
 struct Repeated<'a> {
     before: &'a str,
     open: &'a str,
