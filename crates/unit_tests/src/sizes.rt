@@ -94,7 +94,7 @@ fn sizes(alloc: Global, words: &str, count: u32) -> Result<String, Fail> {
     }
 }
 
-// The forms of which `bench/units_typed.sh` compares the times at two sizes.
+// The forms of which `bench/externals.sh` compares the times at two sizes.
 
 const DECLARATIONS: &str = "| int a# ; | | |";
 
