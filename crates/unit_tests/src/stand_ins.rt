@@ -1,7 +1,8 @@
 //! Stands for `elaborate` of `dm_eunit`.
 
-ghost use Rattle.std.specs.Prelude.{◌≤◌, length, IfOk};
-ghost use Rattle.dm_typing.specs.Fitting.{HaveTypes};
+ghost use Rattle.std.specs.Prelude.{◌≤◌, length, IfOk, IsTrue};
+ghost use Rattle.std.specs.List.{list_all};
+ghost use Rattle.dm_tree.specs.TypeNumbers.{entry_has_known};
 
 use dm_syn::External;
 use dm_token::{CToken, List, Stop};
@@ -23,7 +24,8 @@ pub fn elaborate(
     _syntax: &[External],
 ) -> Result<(CoreUnit, Types), Stop>
     requires few { length _tokens.now ≤ 1000000 }
-    ensures types { IfOk result (λ made. HaveTypes made.1 made.0.declared) }
+    ensures few { IfOk result (λ made. length made.0.declared ≤ 4294967295) }
+    ensures numbered { IfOk result (λ made. IsTrue (list_all (entry_has_known (length made.1.shapes)) made.0.declared)) }
 {
     Err(Stop::Memory)
 }

@@ -28,8 +28,10 @@ fn typed_tokens(alloc: Global, tokens: &[CToken]) -> Result<TypedUnit, Stop>
     requires few { length tokens.now ≤ 1000000 }
 {
     let syntax = unit_syntax(alloc, tokens)?;
-    let (unit, types) = elaborate(alloc, tokens, syntax.items())?;
-    Ok(TypedUnit { unit, types })
+    let given = elaborate(alloc, tokens, syntax.items())?;
+    let (unit, types) = given;
+    let made = TypedUnit { unit, types };
+    Ok(made)
 }
 
 /// The same, where too many tokens are want of memory.
