@@ -34,7 +34,10 @@ int x = 1 , * p = & x ; => external object int x at 1 ; external object int *p a
 
 #[test]
 fn linkage_is_found(rt: HostRuntime) -> Result<(), Fail> {
-    assert_eq!(rt; first_other(rt.alloc(), LINKAGE, Part::Entries)?.as_str(), "");
+    assert_eq!(rt;
+        first_other(rt.alloc(), LINKAGE, Part::Entries)?.as_str(),
+        ""
+    );
     Ok(())
 }
 
@@ -61,12 +64,16 @@ extern void v ; extern struct S s ; => external object void v at 2 ; tag struct 
 
 #[test]
 fn types_are_found(rt: HostRuntime) -> Result<(), Fail> {
-    assert_eq!(rt; first_other(rt.alloc(), COMPOSITES, Part::Entries)?.as_str(), "");
+    assert_eq!(rt;
+        first_other(rt.alloc(), COMPOSITES, Part::Entries)?.as_str(),
+        ""
+    );
     Ok(())
 }
 
 // Tags, enumerators, typedefs and parameters (6.2.1, 6.2.3, 6.7.2.2, 6.7.2.3, 6.7.8).
-const SCOPES: &str = r#"enum E { A , B = 5 , C } e = B ; => tag int E at 1 ; enumerator int A = 0 at 3 ; enumerator int B = 5 at 5 ; enumerator int C = 6 at 9 ; external object int e at 11
+const SCOPES: &str =
+    r#"enum E { A , B = 5 , C } e = B ; => tag int E at 1 ; enumerator int A = 0 at 3 ; enumerator int B = 5 at 5 ; enumerator int C = 6 at 9 ; external object int e at 11
 enum { A = 'a' , B = A + 1 , C = - 1 , D } ; => enumerator int A = 97 at 2 ; enumerator int B = 98 at 6 ; enumerator int C = -1 at 12 ; enumerator int D = 0 at 17
 struct S { int m ; } s ; => tag struct S S at 1 ; external object struct S s at 7
 struct S ; struct S { int m ; } ; struct S s ; => tag struct S S at 1 ; external object struct S s at 13
@@ -93,6 +100,9 @@ static int g ( void ) ; int f ( int g ) { return g ; } => internal function int 
 
 #[test]
 fn scopes_hold_what_they_declare(rt: HostRuntime) -> Result<(), Fail> {
-    assert_eq!(rt; first_other(rt.alloc(), SCOPES, Part::Entries)?.as_str(), "");
+    assert_eq!(rt;
+        first_other(rt.alloc(), SCOPES, Part::Entries)?.as_str(),
+        ""
+    );
     Ok(())
 }

@@ -69,7 +69,10 @@ int f ( void ) { for ( int i = 0 , i = 1 ; ; ) ; } => C2 at 13"#;
 
 #[test]
 fn names_declared_again_are_refused(rt: HostRuntime) -> Result<(), Fail> {
-    assert_eq!(rt; first_other(rt.alloc(), REDECLARED, Part::Entries)?.as_str(), "");
+    assert_eq!(rt;
+        first_other(rt.alloc(), REDECLARED, Part::Entries)?.as_str(),
+        ""
+    );
     Ok(())
 }
 
@@ -97,7 +100,10 @@ typedef int f ; int f ( void ) { return 0 ; } => C2 at 5"#;
 
 #[test]
 fn declarations_that_do_not_agree_are_refused(rt: HostRuntime) -> Result<(), Fail> {
-    assert_eq!(rt; first_other(rt.alloc(), LINKED, Part::Entries)?.as_str(), "");
+    assert_eq!(rt;
+        first_other(rt.alloc(), LINKED, Part::Entries)?.as_str(),
+        ""
+    );
     Ok(())
 }
 
@@ -141,7 +147,10 @@ int f ( void ) { for ( static extern int i ; ; ) ; } => C3 at 8"#;
 
 #[test]
 fn specifiers_that_do_not_stand_together_are_refused(rt: HostRuntime) -> Result<(), Fail> {
-    assert_eq!(rt; first_other(rt.alloc(), SPECIFIERS, Part::Entries)?.as_str(), "");
+    assert_eq!(rt;
+        first_other(rt.alloc(), SPECIFIERS, Part::Entries)?.as_str(),
+        ""
+    );
     Ok(())
 }
 
@@ -280,7 +289,10 @@ int f ( void ) { typedef int T = 1 ; return 0 ; } => C9 at 8"#;
 
 #[test]
 fn initialisers_that_do_not_fit_are_refused(rt: HostRuntime) -> Result<(), Fail> {
-    assert_eq!(rt; first_other(rt.alloc(), INITIALISERS, Part::Entries)?.as_str(), "");
+    assert_eq!(rt;
+        first_other(rt.alloc(), INITIALISERS, Part::Entries)?.as_str(),
+        ""
+    );
     Ok(())
 }
 
@@ -308,12 +320,16 @@ int f ( void ) { 1 = 2 ; return 0 ; } => C28 at 6"#;
 
 #[test]
 fn values_that_do_not_fit_are_refused(rt: HostRuntime) -> Result<(), Fail> {
-    assert_eq!(rt; first_other(rt.alloc(), VALUES, Part::Entries)?.as_str(), "");
+    assert_eq!(rt;
+        first_other(rt.alloc(), VALUES, Part::Entries)?.as_str(),
+        ""
+    );
     Ok(())
 }
 
 // Labels of a switch that come twice (6.8.4.2p3).
-const LABELS: &str = r#"int f ( int c ) { switch ( c ) { case 1 : ; case 1 : ; } return c ; } => C31 at 17
+const LABELS: &str =
+    r#"int f ( int c ) { switch ( c ) { case 1 : ; case 1 : ; } return c ; } => C31 at 17
 int f ( int c ) { switch ( c ) { case 1 : case 2 : case 3 - 2 : ; } return c ; } => C31 at 19
 int f ( char c ) { switch ( c ) { case 'a' : ; case 97 : ; } return c ; } => C31 at 17
 int f ( unsigned int c ) { switch ( c ) { case - 1 : ; case 4294967295 : ; } return 0 ; } => C31 at 19
@@ -327,12 +343,16 @@ int f ( int c ) { switch ( c ) { case 1 : switch ( c ) { case 2 : ; default : ; 
 
 #[test]
 fn labels_that_come_twice_are_refused(rt: HostRuntime) -> Result<(), Fail> {
-    assert_eq!(rt; first_other(rt.alloc(), LABELS, Part::Entries)?.as_str(), "");
+    assert_eq!(rt;
+        first_other(rt.alloc(), LABELS, Part::Entries)?.as_str(),
+        ""
+    );
     Ok(())
 }
 
 // Statements out of place, and what they test and return (6.8.4 to 6.8.6).
-const STATEMENTS: &str = r#"struct S { int m ; } s ; int f ( void ) { if ( s ) ; return 0 ; } => C32 at 17
+const STATEMENTS: &str =
+    r#"struct S { int m ; } s ; int f ( void ) { if ( s ) ; return 0 ; } => C32 at 17
 struct S { int m ; } s ; int f ( void ) { while ( s ) ; return 0 ; } => C32 at 17
 struct S { int m ; } s ; int f ( void ) { do ; while ( s ) ; return 0 ; } => C32 at 19
 struct S { int m ; } s ; int f ( void ) { for ( ; s ; ) ; return 0 ; } => C32 at 18
@@ -359,7 +379,10 @@ int f ( struct S { int m ; } s ) { return s ; } => C34 at 13"#;
 
 #[test]
 fn statements_out_of_place_are_refused(rt: HostRuntime) -> Result<(), Fail> {
-    assert_eq!(rt; first_other(rt.alloc(), STATEMENTS, Part::Entries)?.as_str(), "");
+    assert_eq!(rt;
+        first_other(rt.alloc(), STATEMENTS, Part::Entries)?.as_str(),
+        ""
+    );
     Ok(())
 }
 
@@ -392,7 +415,10 @@ static int g ( void ) ; int f ( void ) { return sizeof g ( ) + g ( ) ; } => C37 
 
 #[test]
 fn function_definitions_are_refused(rt: HostRuntime) -> Result<(), Fail> {
-    assert_eq!(rt; first_other(rt.alloc(), FUNCTIONS, Part::Entries)?.as_str(), "");
+    assert_eq!(rt;
+        first_other(rt.alloc(), FUNCTIONS, Part::Entries)?.as_str(),
+        ""
+    );
     Ok(())
 }
 
@@ -439,6 +465,9 @@ int f ( int c ) { switch ( c ) { case 1 / 0 : continue ; } } => C30 at 13"#;
 
 #[test]
 fn the_first_of_several_rules_counts(rt: HostRuntime) -> Result<(), Fail> {
-    assert_eq!(rt; first_other(rt.alloc(), SEVERAL, Part::Entries)?.as_str(), "");
+    assert_eq!(rt;
+        first_other(rt.alloc(), SEVERAL, Part::Entries)?.as_str(),
+        ""
+    );
     Ok(())
 }

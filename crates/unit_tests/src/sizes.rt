@@ -108,41 +108,60 @@ const LABELS: &str = "void f ( int a ) { switch ( a ) { | case # : ; | | | } }";
 
 const STATEMENTS: &str = "void f ( int a ) { | a = 1 ; | | | }";
 
-const FUNCTIONS: &str = "static int g ( void ) ; | int f# ( int a ) { return g ( ) + a ; } | int g ( void ) { return 0 ; } | |";
+const FUNCTIONS: &str =
+    "static int g ( void ) ; | int f# ( int a ) { return g ( ) + a ; } | int g ( void ) { return 0 ; } | |";
 
 #[test]
 fn types_50_000_declarations(rt: HostRuntime) -> Result<(), Fail> {
-    assert_eq!(rt; sizes(rt.alloc(), DECLARATIONS, 50_000)?.as_str(), "50000 in 50000");
+    assert_eq!(rt;
+        sizes(rt.alloc(), DECLARATIONS, 50_000)?.as_str(),
+        "50000 in 50000"
+    );
     Ok(())
 }
 
 #[test]
 fn types_100_000_declarations(rt: HostRuntime) -> Result<(), Fail> {
-    assert_eq!(rt; sizes(rt.alloc(), DECLARATIONS, 100_000)?.as_str(), "100000 in 100000");
+    assert_eq!(rt;
+        sizes(rt.alloc(), DECLARATIONS, 100_000)?.as_str(),
+        "100000 in 100000"
+    );
     Ok(())
 }
 
 #[test]
 fn types_50_000_enumerators(rt: HostRuntime) -> Result<(), Fail> {
-    assert_eq!(rt; sizes(rt.alloc(), ENUMERATORS, 50_000)?.as_str(), "50000 in 1");
+    assert_eq!(rt;
+        sizes(rt.alloc(), ENUMERATORS, 50_000)?.as_str(),
+        "50000 in 1"
+    );
     Ok(())
 }
 
 #[test]
 fn types_100_000_enumerators(rt: HostRuntime) -> Result<(), Fail> {
-    assert_eq!(rt; sizes(rt.alloc(), ENUMERATORS, 100_000)?.as_str(), "100000 in 1");
+    assert_eq!(rt;
+        sizes(rt.alloc(), ENUMERATORS, 100_000)?.as_str(),
+        "100000 in 1"
+    );
     Ok(())
 }
 
 #[test]
 fn types_150_000_initialisers(rt: HostRuntime) -> Result<(), Fail> {
-    assert_eq!(rt; sizes(rt.alloc(), INITIALISERS, 150_000)?.as_str(), "1 in 1");
+    assert_eq!(rt;
+        sizes(rt.alloc(), INITIALISERS, 150_000)?.as_str(),
+        "1 in 1"
+    );
     Ok(())
 }
 
 #[test]
 fn types_300_000_initialisers(rt: HostRuntime) -> Result<(), Fail> {
-    assert_eq!(rt; sizes(rt.alloc(), INITIALISERS, 300_000)?.as_str(), "1 in 1");
+    assert_eq!(rt;
+        sizes(rt.alloc(), INITIALISERS, 300_000)?.as_str(),
+        "1 in 1"
+    );
     Ok(())
 }
 
@@ -184,20 +203,26 @@ fn types_100_000_statements(rt: HostRuntime) -> Result<(), Fail> {
 
 #[test]
 fn types_10_000_functions(rt: HostRuntime) -> Result<(), Fail> {
-    assert_eq!(rt; sizes(rt.alloc(), FUNCTIONS, 10_000)?.as_str(), "20001 in 10002");
+    assert_eq!(rt;
+        sizes(rt.alloc(), FUNCTIONS, 10_000)?.as_str(),
+        "20001 in 10002"
+    );
     Ok(())
 }
 
 #[test]
 fn types_20_000_functions(rt: HostRuntime) -> Result<(), Fail> {
-    assert_eq!(rt; sizes(rt.alloc(), FUNCTIONS, 20_000)?.as_str(), "40001 in 20002");
+    assert_eq!(rt;
+        sizes(rt.alloc(), FUNCTIONS, 20_000)?.as_str(),
+        "40001 in 20002"
+    );
     Ok(())
 }
 
 // More long ones: how often the words are repeated, and what is given.
 const LONG: &str = "100000 => int a | , a# | | | ; => 100001 in 1
 100000 => | extern int a [ ] ; | int a [ 2 ] ; | | => 1 in 100001
-50000 => struct S { | int m# ; | } ; void f ( struct S s ) { | s . m# ; | } => 3 in 2
+5000 => struct S { | int m# ; | } ; void f ( struct S s ) { | s . m# ; | } => 3 in 2
 100000 => void f ( void ) { | int a# ; | | | } => 100001 in 1
 50000 => int a [ 2 ] ; | void f# ( void ) { extern int a [ ] ; } | | | => 50001 in 50001
 100000 => | struct S# { int m ; } ; | | | => 100000 in 100000

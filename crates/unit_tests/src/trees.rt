@@ -6,7 +6,8 @@ use std::process::Abort;
 use std::test::Fail;
 
 // What initialises (6.7.9).
-const INITIALISED: &str = r#"int a = 1 , b , * p = & a ; => a! = 1:int , b! , p! = (Address:int * a:int) ;
+const INITIALISED: &str =
+    r#"int a = 1 , b , * p = & a ; => a! = 1:int , b! , p! = (Address:int * a:int) ;
 extern int a ; extern int b = 2 ; => a ; b! = 2:int ;
 long a = 1 ; char c = 'a' + 1 ; _Bool b = & a ; => a! = (Convert:long 1:int) ; c! = (Convert:char (Add:int 97:int 1:int)) ; b! = (Convert:_Bool (Address:long * a:long)) ;
 int a = { 1 } ; => a! = 1:int ;
@@ -27,7 +28,10 @@ enum { A = 2 , B } ; int a [ A + 1 ] , b = B ; => 2:int ; (Add:int A:int 1:int) 
 
 #[test]
 fn initialisers_have_their_trees(rt: HostRuntime) -> Result<(), Fail> {
-    assert_eq!(rt; first_other(rt.alloc(), INITIALISED, Part::Externals)?.as_str(), "");
+    assert_eq!(rt;
+        first_other(rt.alloc(), INITIALISED, Part::Externals)?.as_str(),
+        ""
+    );
     Ok(())
 }
 
@@ -51,7 +55,10 @@ char s [ 2 ] ; void f ( void ) { f ; "x" ; f ( ) ; } => 2:int s! ; f ( ) (Block 
 
 #[test]
 fn statements_have_their_trees(rt: HostRuntime) -> Result<(), Fail> {
-    assert_eq!(rt; first_other(rt.alloc(), BODIES, Part::Externals)?.as_str(), "");
+    assert_eq!(rt;
+        first_other(rt.alloc(), BODIES, Part::Externals)?.as_str(),
+        ""
+    );
     Ok(())
 }
 
@@ -69,6 +76,9 @@ static int f ( int n ) { return n ? f ( n - 1 ) : 0 ; } => f ( n ) (Block (Retur
 
 #[test]
 fn external_declarations_have_their_trees(rt: HostRuntime) -> Result<(), Fail> {
-    assert_eq!(rt; first_other(rt.alloc(), EXTERNALS, Part::Externals)?.as_str(), "");
+    assert_eq!(rt;
+        first_other(rt.alloc(), EXTERNALS, Part::Externals)?.as_str(),
+        ""
+    );
     Ok(())
 }

@@ -4,10 +4,9 @@ ghost use Rattle.std.specs.Prelude.{◌≤◌, length};
 ghost use Rattle.dm_typing.specs.Fitting.{HaveTypes};
 
 use crate::entries::entries;
+use crate::stand_ins::{elaborate, unit_syntax};
 use crate::units::externals;
 use crate::words::tokens_of;
-use crate::stand_ins::elaborate;
-use crate::stand_ins::unit_syntax;
 use dm_token::{CToken, List, Stop};
 use dm_tree::CoreUnit;
 use dm_type::Types;
@@ -82,7 +81,7 @@ pub fn first_other(alloc: Global, rows: &str, part: Part) -> Result<String, Fail
     for row in rows.lines() {
         let (words, wanted) = row.split_once(" => ").ok_or("no result")?;
         let line = shown(alloc, words, part)?;
-            if line.as_str().trim() != wanted {
+        if line.as_str().trim() != wanted {
             return Ok(format!(in alloc; "{words} => {line}")?);
         }
     }

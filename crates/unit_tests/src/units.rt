@@ -67,7 +67,10 @@ const INTEGERS: [Kind; 12] = [
 ];
 
 /// The types of all entries, `void` and the integers, and pointers to these.
-fn kinds_of(alloc: Global, made: TypedUnit) -> Result<(List<Declared>, List<(TypeId, Text)>, List<CoreExternal>), Fail> {
+fn kinds_of(
+    alloc: Global,
+    made: TypedUnit,
+) -> Result<(List<Declared>, List<(TypeId, Text)>, List<CoreExternal>), Fail> {
     let mut kinds = List::new(alloc);
     for entry in made.unit.declared.items() {
         add_kind(alloc, &mut kinds, &made.types, entry.kind)?;
