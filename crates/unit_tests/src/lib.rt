@@ -10,8 +10,6 @@ mod refusals;
 #[cfg(test)]
 mod sizes;
 #[cfg(test)]
-mod stand_ins;
-#[cfg(test)]
 mod syntax;
 #[cfg(test)]
 mod trees;

@@ -1,8 +1,8 @@
 //! The external declarations of units, by `unit_syntax`: how many there are, or the column at which none stands.
 
-use crate::stand_ins::unit_syntax;
 use crate::typing::refused;
 use crate::words::tokens_of;
+use dm_read::unit_syntax;
 use dm_token::{CToken, List, Stop};
 use std::alloc::Global;
 use std::process::Abort;

@@ -4,9 +4,10 @@ ghost use Rattle.std.specs.Prelude.{◌≤◌, length};
 ghost use Rattle.dm_typing.specs.Fitting.{HaveTypes};
 
 use crate::entries::entries;
-use crate::stand_ins::{elaborate, unit_syntax};
 use crate::units::externals;
 use crate::words::tokens_of;
+use dm_eunit::elaborate;
+use dm_read::unit_syntax;
 use dm_token::{CToken, List, Stop};
 use dm_tree::CoreUnit;
 use dm_type::Types;

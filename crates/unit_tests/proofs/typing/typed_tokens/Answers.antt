@@ -4,5 +4,5 @@ use Rattle.unit_tests.proofs.typing.typed_tokens.Goals as goal
 
 pub invariant_of-made : goal.invariant_of-made
 invariant_of-made c = record {
-  entries = have-types c.in_ok-given.given.1 c.in_ok-given.given.0.declared c.in_ok-given.ensures.numbered;
+  entries = have-types c.in_ok-given.given.1 c.in_ok-given.given.0.declared c.in_ok-given.ensures.numbered.entries;
 }
