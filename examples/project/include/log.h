@@ -4,7 +4,13 @@
 #include "config.h"
 #include "text.h"
 
-void log_put(int level, const char *where, const char *text, ...);
+struct log_entry {
+    const char *text;
+    int first;
+    int second;
+};
+
+void log_put(int level, const char *where, const struct log_entry *entry);
 
 #define LOG_ERROR 0
 #define LOG_WARNING 1
@@ -12,7 +18,7 @@ void log_put(int level, const char *where, const char *text, ...);
 #define LOG_DETAIL 3
 
 #if HAVE_VARIADIC_MACROS
-#define LOG(level, ...) do { if ((level) <= LOG_LEVEL) log_put(level, HERE, __VA_ARGS__); } while (0)
+#define LOG(level, ...) do { const struct log_entry entry = { __VA_ARGS__ }; if ((level) <= LOG_LEVEL) log_put(level, HERE, &entry); } while (0)
 #endif
 
 #if LOG_LEVEL >= LOG_DETAIL

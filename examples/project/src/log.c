@@ -2,12 +2,12 @@
 
 static int counts[LOG_DETAIL + 1];
 
-void log_put(int level, const char *where, const char *text, ...)
+void log_put(int level, const char *where, const struct log_entry *entry)
 {
     TRACE(log_put);
     counts[level]++;
     (void)where;
-    (void)text;
+    (void)entry;
 }
 
 int log_errors(void)

@@ -13,7 +13,7 @@ int main(int argc, char **argv)
     window_open(&window, CLAMP(width, 1, WINDOW_WIDTH), WINDOW_HEIGHT);
     if (HAS_FLAG(window.flags, WINDOW_MODAL))
         LOG(LOG_WARNING, "modal: %d", window_is_modal(&window));
-    LOG(LOG_NOTE, "%s, number %d", version, VERSION);
+    LOG(LOG_NOTE, version, VERSION);
 #if VERSION >= VERSION_NUMBER(2, 0)
     return 0;
 #else
