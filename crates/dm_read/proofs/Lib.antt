@@ -1,2 +1,4 @@
 mod SyntaxLemmas
+mod SourceLemmas
+pub mod TokenLemmas
 pub mod ReadingLemmas
