@@ -1,2 +1,4 @@
+mod DeclaredLemmas
+mod SourceLemmas
 mod SyntaxLemmas
 pub mod ReadingLemmas
