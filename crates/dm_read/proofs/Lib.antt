@@ -1,4 +1,5 @@
-mod SyntaxLemmas
+mod DeclaredLemmas
 mod SourceLemmas
+mod SyntaxLemmas
 pub mod TokenLemmas
 pub mod ReadingLemmas
