@@ -1,5 +1,5 @@
 -- The constants among the tokens of phase 7 are sound: each has a promoted kind, and a value of it (6.4.4.1p5, 6.4.4.4p10).
-use Rattle.std.specs.Prelude.{◌≡◌, ℕ, zero, suc, Bool, true, false, ◌&&◌, ◌==◌, if◌then◌else◌, nat_lt, ℤ, pos, List, [], ◌∷◌, Option, Some, None, IfSome, option_map, option_and_then, unwrap_or, slice_get, Result, Ok, Err, IfOk, refl}
+use Rattle.std.specs.Prelude.{◌≡◌, ℕ, zero, suc, Bool, true, false, ◌&&◌, ◌==◌, nat_lt, ℤ, pos, List, [], ◌∷◌, Option, Some, None, IfSome, option_map, option_and_then, unwrap_or, Result, Ok, Err, IfOk, refl}
 use Rattle.std.specs.List.{AllByRecursion}
 use Rattle.std.proofs.Common.{sym, ap, ◌∙◌, subst, arith}
 use Rattle.std.proofs.lemmas.Bool.{cond_both, false≢true}
@@ -20,7 +20,7 @@ use Rattle.dm_ctok.specs.declared.integer.Constant.{Constant}
 use Rattle.dm_ctok.specs.Escapes.{elements, between_quotes, single, character_of}
 use Rattle.dm_ctok.specs.Integers.{kinds_for, first_fit, kind_of, constant_of, integer_of}
 use Rattle.dm_ctok.specs.Joins.{is_literal_class, joined, onto, joins}
-use Rattle.dm_ctok.specs.Tokens.{plain, refused, first_left_out, behaving, word, valued, number, is_prefixed, character, of_values, literal, of_kind, token_of, before, behind_first, each, joined_unless_refused, ctokens_of}
+use Rattle.dm_ctok.specs.Tokens.{plain, refused, first_left_out, behaving, word, valued, number, is_prefixed, character, of_values, literal, of_kind, token_of, behind_first, each, joined_unless_refused, ctokens_of}
 use Rattle.dm_syn.specs.declared.symbol.Symbol.{Symbol}
 use Rattle.dm_syn.specs.declared.symbol.Symbol.TheVariants as symbol
 use Rattle.dm_syn.specs.Symbols as symbols
