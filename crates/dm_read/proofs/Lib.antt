@@ -1,2 +1,5 @@
+mod DeclaredLemmas
+mod SourceLemmas
 mod SyntaxLemmas
+pub mod TokenLemmas
 pub mod ReadingLemmas

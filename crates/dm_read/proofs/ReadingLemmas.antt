@@ -1,5 +1,5 @@
 -- The first stop of a unit's layers.
-use Rattle.std.specs.Prelude.{◌≡◌, ℕ, List, map, Option, None, Result, Ok, Err, IsErrAnd}
+use Rattle.std.specs.Prelude.{◌≡◌, ℕ, List, [], map, Option, None, Result, Ok, Err, IsErrAnd}
 use Rattle.std.proofs.Common.{sym, ap, ◌∙◌, subst, inl, inr, ⊎_elim}
 use Rattle.dm_token.specs.declared.stop.Stop.{Stop}
 use Rattle.dm_token.specs.declared.stop.Stop.TheVariants as stop
@@ -11,6 +11,10 @@ use Rattle.dm_syn.specs.declared.statement.External.{External}
 use Rattle.dm_syn.specs.Views as view
 use Rattle.dm_type.specs.Tables.{Table}
 use Rattle.dm_tree.specs.declared.unit.CoreUnit.{CoreUnit}
+use Rattle.dm_tree.specs.TypeNumbers.{IsTypedUnit}
+use Rattle.dm_typing.specs.Sound.{AreSoundTokens}
+use Rattle.dm_edecl.specs.Placing.{AreExternals}
+use Rattle.dm_eexpr.specs.Alone.{source_alone}
 use Rattle.dm_search.specs.Loaded.{Loaded}
 use Rattle.dm_unit.specs.Loaders.{Grows, file_of, stopped_at}
 use Rattle.dm_unit.specs.States.{Setting}
@@ -20,6 +24,8 @@ use Rattle.dm_read.specs.declared.behind.Layers.{Layers}
 use Rattle.dm_read.specs.declared.unit.Reading.{Reading}
 use Rattle.dm_read.specs.Reading.{AreTokens, HasLayers, layers_of, IsReading}
 use Rattle.dm_read.specs.Syntax.{IsSyntax, Refuses}
+use Rattle.dm_read.proofs.SourceLemmas.{syntax-externals}
+use Rattle.dm_read.proofs.TokenLemmas.{ctokens-sound}
 
 -- ---- behind the preprocessor
 
@@ -60,6 +66,14 @@ module _ (tokens : List Token) where
         is-syntax,
         subst (λ these. Elaborates made (map view.external these) (Ok (core, types))) alike (subst (λ these. Elaborates these (map view.external nodes) (Ok (core, types))) once h),
       )
+
+      -- tokens that others become are sound, and what is read of them stands in them
+      pub well-typed : (core : CoreUnit) (types : Table)
+          → (AreSoundTokens again → AreExternals (source_alone again) [] 0 (map view.external nodes) → IsTypedUnit types core) → IsTypedUnit types core
+      well-typed core types h =
+          h (subst AreSoundTokens (sym once) (ctokens-sound tokens made are))
+          (subst (λ these. AreExternals (source_alone again) [] 0 (map view.external these)) (sym alike)
+          (subst (λ these. AreExternals (source_alone these) [] 0 (map view.external syntax)) (sym once) (syntax-externals made (map view.external syntax) is-syntax)))
 
 -- ---- the whole
 

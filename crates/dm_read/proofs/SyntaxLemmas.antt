@@ -1,5 +1,5 @@
 -- External declarations that stand one behind the other.
-use Rattle.std.proofs.Common.{◌≡◌, ℕ, ◌<◌, ◌≤◌, List, [], ◌∷◌, ◌++◌, length, refl, sym, ap, ◌∙◌, arith, subst}
+use Rattle.std.proofs.Common.{◌≡◌, ℕ, ◌<◌, List, [], ◌∷◌, ◌++◌, length, refl, sym, ap, ◌∙◌, arith, subst}
 use Rattle.dm_token.specs.declared.token.CToken.{CToken}
 use Rattle.dm_syn.specs.Spans.{external_span}
 use Rattle.dm_syn.specs.Trees.{External}

@@ -2,6 +2,7 @@
 
 ghost use Rattle.std.specs.Prelude.{map, IfOk, IfErr};
 ghost use Rattle.dm_syn.specs.Views as view;
+ghost use Rattle.dm_tree.specs.TypeNumbers.{IsTypedUnit};
 ghost use Rattle.dm_read.specs.Reading.{HasLayers};
 ghost use Rattle.dm_read.specs.Syntax.{IsSyntax, Refuses};
 
@@ -23,9 +24,10 @@ pub struct Layers {
     pub types: Types,
 }
 
-/// Each layer of preprocessing tokens, or the first stop.
+/// Each layer of preprocessing tokens, or the first stop. The typed unit is well typed.
 pub(crate) fn typed_tokens(alloc: Global, tokens: &[Token]) -> Result<Layers, Stop>
-    ensures { HasLayers tokens.now result }
+    ensures layers { HasLayers tokens.now result }
+    ensures well_typed { IfOk result (λ made. IsTypedUnit made.types made.core) }
 {
     let made = ctokens(alloc, tokens)?;
     let syntax = syntax_of(alloc, made.items())?;

@@ -1,12 +1,13 @@
 //! The reading of a unit (5.1.1.2): what each layer gives of it.
 
-ghost use Rattle.std.specs.Prelude.{◌≡◌, ◌≢◌, ◌+◌, ◌<◌, ◌≤◌, ℕ, List as Sequence, Some, Err, All, length};
+ghost use Rattle.std.specs.Prelude.{◌≡◌, ◌≢◌, ◌+◌, ◌<◌, ◌≤◌, ℕ, List as Sequence, Some, Err, All, IfOk, length};
 ghost use Rattle.dm_token.specs.Limits.{source_length_limit};
 ghost use Rattle.dm_token.specs.declared.stop.Stop.TheVariants.{Memory, ReadFault};
 ghost use Rattle.dm_io.specs.Faults.{Rose};
 ghost use Rattle.dm_io.specs.Files.{Files};
 ghost use Rattle.dm_unit.specs.Loaders.{Grows, WasUnknown, stopped_at};
 ghost use Rattle.dm_unit.specs.Units.{setting_of};
+ghost use Rattle.dm_tree.specs.TypeNumbers.{IsTypedUnit};
 ghost use Rattle.dm_read.specs.Reading.{IsReading};
 
 use crate::behind::{Layers, typed_tokens};
@@ -32,7 +33,7 @@ pub struct Reading {
     pub types: Types,
 }
 
-/// What each layer gives of a unit. It counts as one reading, whatever it gives.
+/// What each layer gives of a unit; the typed unit is well typed. It counts as one reading, whatever it gives.
 ///
 /// # Errors
 ///
@@ -48,6 +49,7 @@ pub fn read_unit<F: Folder, L: Ledger>(
     requires short { All (λ (define : Sequence ℕ). length define ≤ source_length_limit) unit.define }
     ensures counted { readings.new ≡ readings.old + 1 }
     ensures reading { (files : Files) → F.files folder.old ≡ Some files → IsReading (setting_of loader.old loader.new files unit) unit loader.old result loader.new }
+    ensures well_typed { IfOk result (λ given. IsTypedUnit given.types given.core) }
     // What the loader knows stays known, and each new name's file is held, apart from that of a stop.
     ensures loader { result ≢ Err Memory → Grows (stopped_at result) loader.old loader.new }
 

@@ -1,4 +1,4 @@
-use Rattle.std.proofs.Common.{◌≡◌, ℕ, List, length}
+use Rattle.std.proofs.Common.{◌≡◌, List, length}
 use Rattle.dm_token.specs.declared.token.CToken.{CToken}
 use Rattle.dm_syn.specs.Trees.{External}
 use Rattle.dm_pexpr.specs.NameMaps.{NameMap}

@@ -1,9 +1,8 @@
-use Rattle.std.proofs.Common.{◌≡◌, ℕ, List, ◌++◌, ◌∷◌, [], length, map, refl, sym, ◌∙◌, ap, subst, arith}
+use Rattle.std.proofs.Common.{ℕ, List, ◌∷◌, [], map, refl, sym, ◌∙◌, ap, subst, arith}
 use Rattle.std.proofs.lemmas.List.{map-append}
 use Rattle.std.proofs.lemmas.Result.{err_from_is_err_and}
 use Rattle.std.specs.FinMap as finite
 use Rattle.dm_syn.specs.declared.statement.External.{External}
-use Rattle.dm_syn.specs.Spans.{external_span}
 use Rattle.dm_syn.specs.Views as view
 use Rattle.dm_read.specs.Syntax.{Stand}
 use Rattle.dm_read.proofs.SyntaxLemmas.{span-of-form, stood, refused-there}

@@ -16,12 +16,12 @@ returns-in_err-made-clause-reading g c = λ files have.
     let setting = setting_of c.args.loader.now c.unit_tokens.new.loader files c.args.unit in
     reading-handed setting c.args.unit c.args.loader.now c.unit_tokens.new.loader c.from_residual-in_err-made.result c.in_err-made.field-0.0 c.from_residual-in_err-made.ensures.1
     (not-typed setting c.args.unit c.args.loader.now c.unit_tokens.new.loader c.in_err-made.field-0.0 c.in_ok-pp.pp c.items.result.now c.items.ensures (c.in_ok-pp.ensures.reading files have)
-    c.in_err-made.ensures)
+    c.in_err-made.ensures.layers)
 
 pub returns-clause-reading : goal.returns-clause-reading
 returns-clause-reading g c = λ files have.
     let setting = setting_of c.args.loader.now c.unit_tokens.new.loader files c.args.unit in
-    all-read setting c.args.unit c.args.loader.now c.unit_tokens.new.loader _ c.items.result.now refl c.items.ensures (c.in_ok-pp.ensures.reading files have) c.in_ok-made.ensures
+    all-read setting c.args.unit c.args.loader.now c.unit_tokens.new.loader _ c.items.result.now refl c.items.ensures (c.in_ok-pp.ensures.reading files have) c.in_ok-made.ensures.layers
 
 pub returns-in_err-pp-clause-loader : goal.returns-in_err-pp-clause-loader
 returns-in_err-pp-clause-loader g c =
@@ -39,8 +39,8 @@ returns-in_err-made-clause-loader g c = λ not.
 
 pub returns-in_err-made-clause-failed : goal.returns-in_err-made-clause-failed
 returns-in_err-made-clause-failed g c = λ file.
-    fault-never c.items.result.now c.from_residual-in_err-made.result c.in_err-made.field-0.0 file c.from_residual-in_err-made.ensures.1 c.in_err-made.ensures
+    fault-never c.items.result.now c.from_residual-in_err-made.result c.in_err-made.field-0.0 file c.from_residual-in_err-made.ensures.1 c.in_err-made.ensures.layers
 
 pub returns-in_err-made-clause-unknown : goal.returns-in_err-made-clause-unknown
 returns-in_err-made-clause-unknown g c = λ file.
-    fault-never c.items.result.now c.from_residual-in_err-made.result c.in_err-made.field-0.0 file c.from_residual-in_err-made.ensures.1 c.in_err-made.ensures
+    fault-never c.items.result.now c.from_residual-in_err-made.result c.in_err-made.field-0.0 file c.from_residual-in_err-made.ensures.1 c.in_err-made.ensures.layers
