@@ -1,5 +1,4 @@
 -- What a state says of the run that has come to it, and what calls that run a program are to answer.
---     turn_of standing      what its last step did
 --     outcome_of state      what the run has come to
 --     IsStep program choice before result after      one step of the machine
 --     IsRun program order n input outcome      a run of so many steps in an order
@@ -11,14 +10,9 @@ use Rattle.dm_meaning.specs.Programs.{Program}
 use Rattle.dm_meaning.specs.States.{State}
 use Rattle.dm_exec.specs.declared.outcome.Outcome.{Outcome}
 use Rattle.dm_exec.specs.declared.outcome.Outcome.TheVariants as outcome
-use Rattle.dm_exec.specs.declared.outcome.Turn.{Turn}
-use Rattle.dm_exec.specs.declared.outcome.Turn.TheVariants as turn
+use Rattle.dm_state.specs.declared.turn.Turn.{Turn}
+use Rattle.dm_state.specs.Turns.{turn_of}
 use Rattle.dm_exec.specs.Orders.{choices}
-
-abbrev pub turn_of : Standing → Turn
-turn_of going = turn.Went
-turn_of (exited status) = turn.Exited status
-turn_of (undefined cause place) = turn.Undefined cause place
 
 abbrev pub outcome_by : Standing → List ℕ → Outcome
 outcome_by going output = outcome.Running output

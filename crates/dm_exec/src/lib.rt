@@ -6,7 +6,7 @@ mod order;
 mod outcome;
 
 pub use order::Choices;
-pub use outcome::{Outcome, Turn};
+pub use outcome::Outcome;
 
 #[cfg(test)]
 mod tests;

@@ -6,3 +6,4 @@ pub mod JumpLemmas
 pub mod KeptLemmas
 pub mod PartLemmas
 pub mod TaskLemmas
+pub mod SwitchLemmas

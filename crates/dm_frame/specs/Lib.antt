@@ -4,3 +4,5 @@ pub mod Forms
 pub mod Entering
 pub mod Nexts
 pub mod Calling
+pub mod Conclusions
+pub mod Selecting

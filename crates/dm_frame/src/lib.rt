@@ -3,6 +3,7 @@
 #![tactic(auto)]
 
 mod calling;
+mod conclusion;
 mod form;
 mod frame;
 mod initial;
@@ -12,9 +13,11 @@ mod next;
 mod objects;
 mod stack;
 mod statement;
+mod switching;
 mod task;
 
 pub use calling::open;
+pub use conclusion::conclude;
 pub use frame::Frame;
 pub use jump::end_objects;
 pub use next::Next;
