@@ -29,7 +29,8 @@ use dm_typing::{Known, Typer};
 use std::alloc::Global;
 
 /// The typed unit of external declarations that are those of the tokens, and its types. What is given is exactly what the
-/// typing of units says. Its time is linear, but for the comparison of types.
+/// typing of units says. Its time is linear, but for the comparison of types and for members, each of which is looked for
+/// among those before it.
 ///
 /// # Errors
 ///

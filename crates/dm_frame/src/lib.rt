@@ -1,5 +1,5 @@
-//! Statements, declarations and function frames of a run (ISO/IEC 9899:2011, 6.7 to 6.9): all of a step that isn't in an
-//! expression.
+//! Statements, declarations and function frames of a run (ISO/IEC 9899:2011, 6.7 to 6.9): how they begin and end, and what
+//! the values of full expressions are for.
 #![tactic(auto)]
 
 mod calling;

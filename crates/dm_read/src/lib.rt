@@ -1,4 +1,4 @@
-//! The reading of a translation unit (ISO/IEC 9899:2011, 5.1.1.2): of its tokens, its syntax.
+//! The reading of a translation unit (ISO/IEC 9899:2011, 5.1.1.2): of its tokens its syntax, and all layers in turn.
 #![tactic(auto)]
 
 mod behind;

@@ -1,4 +1,4 @@
-//! States of a run, and the steps that aren't those of an expression (ISO/IEC 9899:2011, 5.1.2.3, 6.8, 6.9.1).
+//! States of a run, and what statements, declarators and calls do in them (ISO/IEC 9899:2011, 5.1.2.3, 6.8, 6.9.1).
 #![tactic(auto)]
 
 mod call;
