@@ -50,7 +50,7 @@ def compare(program, folder, manifest, unit):
 
 def main():
     program = os.path.abspath(sys.argv[1] if sys.argv[1:] else os.path.join(TOP, "crates/demacro/out/demacro"))
-    path = os.path.abspath(sys.argv[2] if sys.argv[2:] else os.path.join(TOP, "examples/project/project.json"))
+    path = os.path.abspath(sys.argv[2] if sys.argv[2:] else os.path.join(TOP, "crates/unit_list/data/project.json"))
     with open(path, encoding="utf-8") as file:
         units = json.load(file)["units"]
     folder, manifest = os.path.split(path)

@@ -25,7 +25,6 @@ use Rattle.dm_edeclarator.specs.declared.declarators.TypedParameter.{TypedParame
 use Rattle.dm_edeclarator.specs.declared.declarators.Step.{Step as StepHeld}
 use Rattle.dm_edeclarator.specs.declared.declarators.Step.TheVariants as step
 use Rattle.dm_edeclarator.specs.declared.declarators.PlacedStep.{PlacedStep}
-use Rattle.dm_edeclarator.specs.declared.fields.Fields.{Fields}
 use Rattle.dm_edeclarator.specs.declared.names.TypedName.{TypedName as NameHeld}
 use Rattle.dm_typing.specs.Known.{Known, Setting, Outcome, given, obeys, if_given, meaning_of}
 use Rattle.dm_typing.specs.Fitting.{AreNumbered}
@@ -117,11 +116,11 @@ member_over later member = record { name = member.name; kind = type_over later m
 abbrev pub MemberFits : Table → Member → Type 0
 MemberFits types member = IsId types member.kind
 
-abbrev pub fields_over : List Shape → Fields → List TypedMember
-fields_over later fields = map (member_over later) fields.members
+abbrev pub fields_over : List Shape → List Member → List TypedMember
+fields_over later members = map (member_over later) members
 
-abbrev pub FieldsFit : Table → Fields → Type 0
-FieldsFit types fields = All (MemberFits types) fields.members
+abbrev pub FieldsFit : Table → List Member → Type 0
+FieldsFit types members = All (MemberFits types) members
 
 -- ---- type names
 

@@ -3,7 +3,6 @@
 #![tactic(auto)]
 
 pub mod declarators;
-pub mod fields;
 pub mod names;
 pub mod places;
 pub mod specifiers;

@@ -1,9 +1,8 @@
 //! Steps of the typing of specifiers: tags, typedef names and members.
 
-ghost use Rattle.std.specs.Prelude.{◌≡◌, false, not, is_some, List, [], ◌∷◌, ◌++◌, IfOk, OnOk};
+ghost use Rattle.std.specs.Prelude.{◌≡◌, not, is_some, List, IfOk, OnOk};
 ghost use Rattle.dm_type.specs.declared.shape.Shape.{Shape as OneShape};
 ghost use Rattle.dm_type.specs.Tables.{IsId};
-ghost use Rattle.dm_scope.specs.Scopes.{is_declared};
 ghost use Rattle.dm_syn.specs.Scopes.{declarator_name as declarator_name_of};
 ghost use Rattle.dm_syn.specs.Spans.{declarator_span};
 ghost use Rattle.dm_syn.specs.Views as syntax;
@@ -13,29 +12,14 @@ ghost use Rattle.dm_edeclarator.specs.Steps.{said_over, SaidFits, fields_over, F
 ghost use Rattle.dm_typing.specs.Views.{Begins, type_over, known_over, source_of, setting_of, Gives, Grows};
 
 use crate::declarators::declarator_name;
-use crate::fields::Fields;
 use crate::specifiers::Said;
 use dm_enames::tags::{enum_named, struct_named, tag_declared, tag_inside, tag_seen, type_meant};
 use dm_int::Kind;
-use dm_scope::Scopes;
 use dm_syn::Declarator;
-use dm_token::{List, Memory, Span, Stop, Text};
-use dm_type::{Member, Shape, TypeId};
+use dm_token::{Memory, Span, Stop, Text};
+use dm_type::{Member, Members, Shape, TypeId};
 use dm_typing::looks::is_complete;
 use dm_typing::{Known, Typer};
-
-/// One member more, which none of the others is called.
-fn with_field(fields: Fields, name: Text, kind: TypeId) -> Result<Fields, Memory>
-    requires { is_declared fields.names name ≡ false }
-    ensures { IfOk result (λ made. made.members ≡ fields.members ++ record { name = name; kind = kind } ∷ []) }
-{
-    let Fields { members, names } = fields;
-    let mut members = members;
-    let mut names = names;
-    names.declare(&name, 0)?;
-    members.push(Member { name, kind })?;
-    Ok(Fields { members, names })
-}
 
 /// A typedef name among specifiers.
 pub fn typedef_said(typer: &Typer<'_>, known: &Known, said: Said, at: u32) -> Result<Said, Stop>
@@ -119,17 +103,6 @@ pub fn enum_ended(
     Ok(kind)
 }
 
-/// A struct without members so far.
-pub fn no_fields(typer: &Typer<'_>) -> Result<Fields, Memory>
-    ensures { IfOk result (λ fields. fields.members ≡ []) }
-{
-    let names = Scopes::new(typer.alloc)?;
-    Ok(Fields {
-        members: List::new(typer.alloc),
-        names,
-    })
-}
-
 /// The name of a member, which may be none.
 fn name_of(typer: &Typer<'_>, at: Option<u32>) -> Result<Text, Memory>
     ensures { IfOk result (λ name. name ≡ typing.name_of (setting_of typer.now) at) }
@@ -144,10 +117,10 @@ fn name_of(typer: &Typer<'_>, at: Option<u32>) -> Result<Text, Memory>
 pub fn typed_field(
     typer: &Typer<'_>,
     known: &Known,
-    fields: Fields,
+    fields: Members,
     kind: TypeId,
     declarator: &Declarator,
-) -> Result<Fields, Stop>
+) -> Result<Members, Stop>
     requires kind { IsId known.now.types kind }
     requires fields { FieldsFit known.now.types fields }
     ensures gives { (later : List OneShape) → Begins known.now.types.shapes later → Gives (fields_over later) (source_of typer.now) (known_over later known.now) result
@@ -160,9 +133,10 @@ pub fn typed_field(
     }
     let at = declarator_name(declarator);
     let name = name_of(typer, at)?;
-    if fields.names.is_declared(&name) {
+    let mut fields = fields;
+    let added = fields.push(Member { name, kind })?;
+    if !added {
         return Err(typer.broken(6, at.unwrap_or(here)));
     }
-    let made = with_field(fields, name, kind)?;
-    Ok(made)
+    Ok(fields)
 }

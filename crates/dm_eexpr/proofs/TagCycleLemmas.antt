@@ -3,11 +3,11 @@ use Rattle.std.specs.Prelude.{◌≡◌, ℕ, Bool, List, [], ◌∷◌, reverse
 use Rattle.std.proofs.Common.{sym, ap, ◌∙◌, subst}
 use Rattle.dm_token.specs.declared.place.Span.{Span}
 use Rattle.dm_token.specs.declared.stop.Stop.{Stop}
+use Rattle.dm_type.specs.declared.shape.Member.{Member}
 use Rattle.dm_type.specs.declared.shape.Shape.{Shape}
 use Rattle.dm_type.specs.CTypes.{CType}
 use Rattle.dm_type.specs.Tables.{IsId}
 use Rattle.dm_syn.specs.Trees.{Members}
-use Rattle.dm_edeclarator.specs.declared.fields.Fields.{Fields}
 use Rattle.dm_typing.specs.declared.known.Known.{Known as Held}
 use Rattle.dm_typing.specs.declared.typer.Typer.{Typer}
 use Rattle.dm_typing.specs.Known.{Known, Setting, Outcome, after}
@@ -59,7 +59,7 @@ module _ (typer : Typer) (used : Bool) (span : Span) (tag : Option ℕ) (members
     is = λ later on. ap (λ k. after (fields_of (setting_of typer) used k [] members) (struct-next later)) (sym (known later on));
   }
 
-  module _ (fields : Fields) (f : Follows FieldsFit fields_over (source_of typer) begun behind (Ok fields) fields-in) where
+  module _ (fields : List Member) (f : Follows FieldsFit fields_over (source_of typer) begun behind (Ok fields) fields-in) where
     -- the structs whose members are being read are the same behind the members
     still-begun : (later : List Shape) → Begins behind.types.shapes later → reverse behind.begun.items ≡ reverse begun.begun.items
     still-begun later on =

@@ -16,12 +16,11 @@ use dm_edeclarator::declarators::{
     PlacedStep, Step, TypedParameter, declarator_name, derived, direct_at, length_of, parameter_at,
     typed_parameter, with_function, with_pointers, with_step,
 };
-use dm_edeclarator::fields::Fields;
 use dm_edeclarator::names::TypedName;
 use dm_edeclarator::places::{enter, leave, replace_constants};
 use dm_edeclarator::specifiers::{Said, Where, typed_said};
 use dm_edeclarator::tagged::{
-    enum_begun, enum_ended, no_fields, tagged_enum, tagged_struct, typed_field, typedef_said,
+    enum_begun, enum_ended, tagged_enum, tagged_struct, typed_field, typedef_said,
 };
 use dm_enames::tags::{enumerator_implied, enumerator_valued, struct_begun, struct_ended};
 use dm_syn::{
@@ -29,7 +28,7 @@ use dm_syn::{
     StructForm, TypeName,
 };
 use dm_token::{Boxed, List, Span, Stop};
-use dm_type::TypeId;
+use dm_type::{Members, TypeId};
 use dm_typing::{Known, Typer};
 
 /// A type name (6.7.7). Its trees are a list of their own.
@@ -178,8 +177,7 @@ fn struct_with(
 {
     let begun = struct_begun(typer, known, tag)?;
     let fields = fields_of(typer, known, used, members)?;
-    let Fields { members, names: _ } = fields;
-    struct_ended(typer, known, span, begun, members)
+    struct_ended(typer, known, span, begun, fields)
 }
 
 /// The members of a struct.
@@ -189,10 +187,10 @@ fn fields_of(
     known: &mut Known,
     used: bool,
     members: &[MemberForm],
-) -> Result<Fields, Stop>
+) -> Result<Members, Stop>
     ensures { Follows FieldsFit fields_over (source_of typer.now) known.old known.new result (λ later. typing.fields_of (setting_of typer.now) used (known_over later known.old) [] (syntax.members (map syntax.member_form members.now))) }
 {
-    let mut fields = no_fields(typer)?;
+    let mut fields = Members::new(typer.alloc);
     for member in members {
         let made = fields_declared(typer, known, used, fields, member)?;
         fields = made;
@@ -206,9 +204,9 @@ fn fields_declared(
     typer: &Typer<'_>,
     known: &mut Known,
     used: bool,
-    fields: Fields,
+    fields: Members,
     form: &MemberForm,
-) -> Result<Fields, Stop>
+) -> Result<Members, Stop>
     requires { FieldsFit known.old.types fields }
     ensures { Follows FieldsFit fields_over (source_of typer.now) known.old known.new result (λ later. typing.fields_declared (setting_of typer.now) used (known_over later known.old) (fields_over later fields) (syntax.member_form form.now)) }
 {
@@ -230,9 +228,9 @@ fn fields_with(
     known: &mut Known,
     used: bool,
     base: TypeId,
-    fields: Fields,
+    fields: Members,
     declarators: &[Declarator],
-) -> Result<Fields, Stop>
+) -> Result<Members, Stop>
     requires base { IsId known.old.types base }
     requires fields { FieldsFit known.old.types fields }
     ensures { Follows FieldsFit fields_over (source_of typer.now) known.old known.new result (λ later. typing.fields_with (setting_of typer.now) used (known_over later known.old) (type_over later base) (fields_over later fields) (syntax.declarators (map syntax.declarator declarators.now))) }
@@ -252,9 +250,9 @@ fn field_with(
     known: &mut Known,
     used: bool,
     base: TypeId,
-    fields: Fields,
+    fields: Members,
     declarator: &Declarator,
-) -> Result<Fields, Stop>
+) -> Result<Members, Stop>
     requires base { IsId known.old.types base }
     requires fields { FieldsFit known.old.types fields }
     ensures { Follows FieldsFit fields_over (source_of typer.now) known.old known.new result (λ later. parts.field_with (setting_of typer.now) used (known_over later known.old) (type_over later base) (fields_over later fields) (syntax.declarator declarator.now)) }

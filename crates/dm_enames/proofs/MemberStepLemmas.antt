@@ -1,8 +1,9 @@
 -- The look-up of a member, step by step.
-use Rattle.std.specs.Prelude.{◌≡◌, ℕ, suc, ◌<◌, ◌+◌, Bool, true, false, if◌then◌else◌, List, ◌∷◌, length, drop, bytes_eq, option_and_then, Option, Some, None, refl}
-use Rattle.std.proofs.Common.{sym, ap, ◌∙◌, get_or, drop-cons}
+use Rattle.std.specs.Prelude.{◌≡◌, ℕ, ◌+◌, Bool, true, false, if◌then◌else◌, List, [], ◌∷◌, bytes_eq, option_and_then, option_map, Option, Some, None, refl}
+use Rattle.std.proofs.Common.{Bor, sym, ap, ◌∙◌}
 use Rattle.dm_type.specs.declared.shape.Member.{Member}
 use Rattle.dm_type.specs.declared.shape.Shape.{Shape}
+use Rattle.dm_type.specs.Naming.{member_named}
 use Rattle.dm_type.specs.CTypes.{CType, struct, bare, is_const}
 use Rattle.dm_type.specs.Tables.{Table, type_of, IsId}
 use Rattle.dm_tree.specs.Scenes.{is_lvalue, is_array}
@@ -13,14 +14,32 @@ use Rattle.dm_typing.specs.Rules.{found_in, member_of_struct, member_in, member_
 use Rattle.dm_typing.specs.Views.{Begins, type_over, table_over}
 use Rattle.dm_typing.proofs.LaterLemmas.{type-later}
 
--- ---- one member after the other
+-- ---- the first member of a name
 
-pub found-here : (table : Table) (name : List ℕ) (n : ℕ) (member : Member) (members : List Member) → bytes_eq member.name name ≡ true
-    → found_in table name n (member ∷ members) ≡ Some (n, type_of table member.kind)
-found-here table name n member members h = ap (λ b. if b then Some (n, type_of table member.kind) else found_in table name (n + 1) members) h
+-- its number, and its type written out
+abbrev pub typed_in : Table → ℕ × Member → ℕ × CType
+typed_in table found = (found.0, type_of table found.1.kind)
 
-pub cut-at : (members : List Member) (k : ℕ) (member : Member) → k < length members → member ≡ get_or members k member → drop k members ≡ member ∷ drop (suc k) members
-cut-at members k member below is = drop-cons members k member below ∙ ap (λ m. m ∷ drop (suc k) members) (sym is)
+found-named : (table : Table) (name : List ℕ) (n : ℕ) (members : List Member) → found_in table name n members ≡ option_map (typed_in table) (member_named name n members)
+found-named table name n [] = refl
+found-named table name n (member ∷ members) = by (found-named table name (n + 1) members) (bytes_eq member.name name)
+  where
+    by : found_in table name (n + 1) members ≡ option_map (typed_in table) (member_named name (n + 1) members)
+        → (test : Bool) → (if test then Some (n, type_of table member.kind) else found_in table name (n + 1) members)
+        ≡ option_map (typed_in table) (if test then Some (n, member) else member_named name (n + 1) members)
+    by others true = refl
+    by others false = others
+
+pub found-in-some : (table : Table) (name : List ℕ) (all : Option (List Member))
+    → option_and_then (found_in table name 0) all ≡ option_map (typed_in table) (option_and_then (member_named name 0) all)
+found-in-some table name None = refl
+found-in-some table name (Some members) = found-named table name 0 members
+
+-- where the code finds one
+pub code-finds : (table : Table) (found : Option (ℕ × Bor Member)) (answer : Option (ℕ × Member)) → option_map (λ one. (one.0, one.1.now)) found ≡ answer
+    → option_map (λ one. (one.0, type_of table one.1.now.kind)) found ≡ option_map (typed_in table) answer
+code-finds table None answer is = ap (option_map (typed_in table)) is
+code-finds table (Some one) answer is = ap (option_map (typed_in table)) is
 
 -- ---- members of a type
 

@@ -1,14 +1,13 @@
 -- What names mean, as the code finds it.
 --     referred setting used known extent      a name that stands in an expression
 --     Says later entity entry      what the code takes of an entry is what the entry says
---     member_over later found      a member that is found, with its type written out; written_member table found likewise
+--     member_over later found      a member that is found, with its type written out
 --     argument known value type      an argument after its conversion, if it may be passed
 --     parts_of type      the types of the result and of the parameters of a function type
 --     call_over later call      the type of a call's result, and its arguments
 use Rattle.std.specs.Prelude.{◌≡◌, ℕ, Bool, if◌then◌else◌, List, map, Option, Some, None}
 use Rattle.dm_type.specs.declared.shape.Shape.{Shape}
 use Rattle.dm_type.specs.CTypes.{CType, CTypes, function}
-use Rattle.dm_type.specs.Tables.{Table, type_of}
 use Rattle.dm_syn.specs.Sources.{spelling_at}
 use Rattle.dm_tree.specs.declared.tree.Core.{Core}
 use Rattle.dm_tree.specs.Trees.{Tree}
@@ -38,9 +37,6 @@ pub record Says (later : List Shape) (entity : Entity) (entry : Declaration) : T
 -- ---- members (6.5.2.3)
 
 -- a member that is found: its number, and its type written out
-abbrev pub written_member : Table → ℕ × ℕ → ℕ × CType
-written_member table found = (found.0, type_of table found.1)
-
 abbrev pub member_over : List Shape → ℕ × ℕ → ℕ × CType
 member_over later found = (found.0, type_over later found.1)
 

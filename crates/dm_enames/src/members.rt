@@ -1,13 +1,13 @@
 //! Members of structs by name (6.5.2.3).
 
-ghost use Rattle.std.specs.Prelude.{◌≡◌, Bool, false, All, List, IfOk, IfSome, option_map};
-ghost use Rattle.std.specs.Option.{option_copied};
+ghost use Rattle.std.specs.Prelude.{◌≡◌, Bool, false, List, IfOk, IfSome, option_map, option_and_then};
 ghost use Rattle.dm_type.specs.declared.shape.Shape.{Shape as OneShape};
 ghost use Rattle.dm_type.specs.CTypes as types_of_c;
-ghost use Rattle.dm_type.specs.Tables.{Table, IsId, type_of};
+ghost use Rattle.dm_type.specs.Naming.{member_named};
+ghost use Rattle.dm_type.specs.Tables.{IsId, type_of};
 ghost use Rattle.dm_typing.specs.Conversions as conversions;
 ghost use Rattle.dm_typing.specs.Fitting.{IsNumbered};
-ghost use Rattle.dm_enames.specs.Meanings.{written_member, member_over};
+ghost use Rattle.dm_enames.specs.Meanings.{member_over};
 ghost use Rattle.dm_typing.specs.Rules as rules;
 ghost use Rattle.dm_typing.specs.Typing as typing;
 ghost use Rattle.dm_typing.specs.Views.{Begins, type_over, view_over, known_over, source_of, setting_of, Gives, Grows};
@@ -19,46 +19,28 @@ use dm_typing::looks::{bare, complete_target, is_array, is_const};
 use dm_typing::values::is_lvalue;
 use dm_typing::{Extent, Known, Typer};
 
-/// A member by its name, with its number and its type. More than 4,294,967,295 members before it count as want of memory.
-fn found_in(name: &Text, members: &[Member]) -> Result<Option<(u32, TypeId)>, Memory>
-    ensures found { IfOk result (λ found. (table : Table) → option_map (written_member table) found ≡ rules.found_in table name.now 0 members.now) }
-    ensures numbered { IfOk result (λ found. (table : Table) → All (λ member. IsId table member.kind) members.now → IfSome found (λ one. IsId table one.1)) }
-{
-    let mut n = 0u32;
-    for member in members {
-        if member.name == *name {
-            return Ok(Some((n, member.kind)));
-        }
-        n = n.checked_add(1).ok_or(Memory)?;
-    }
-    Ok(None)
-}
-
-/// The members of a struct, const or not.
-fn members_in(known: &Known, id: TypeId) -> Option<&[Member]>
+/// The member of a name of a struct, const or not, with its number.
+fn member_in_struct<'a>(known: &'a Known, name: &Text, id: TypeId) -> Option<(u32, &'a Member)>
     requires { IsId known.now.types id }
-    ensures members { option_copied result ≡ conversions.members_in known.now.types (types_of_c.bare (type_of known.now.types id)) }
-    ensures numbered { IfSome result (λ members. All (λ member. IsId known.now.types member.kind) members.now) }
+    ensures found { option_map (λ found. (found.0, found.1.now)) result ≡ option_and_then (member_named name.now 0) (conversions.members_in known.now.types (types_of_c.bare (type_of known.now.types id))) }
+    ensures numbered { IfSome result (λ found. IsId known.now.types found.1.now.kind) }
 {
     match known.types.shape(bare(&known.types, id)) {
-        Shape::Struct(number) => known.types.members(*number),
+        Shape::Struct(number) => known.types.member(*number, name),
         _ => None,
     }
 }
 
-/// A member of a struct, const or not, by its name.
-fn member_of_struct(known: &Known, name: &Text, id: TypeId) -> Result<Option<(u32, TypeId)>, Memory>
+/// A member of a struct, const or not, by its name, with its number and its type.
+fn member_of_struct(known: &Known, name: &Text, id: TypeId) -> Option<(u32, TypeId)>
     requires { IsId known.now.types id }
-    ensures found { IfOk result (λ found. (later : List OneShape) → Begins known.now.types.shapes later
-        → option_map (member_over later) found ≡ rules.member_of_struct (known_over later known.now) name.now (types_of_c.bare (type_over later id))) }
-    ensures numbered { IfOk result (λ found. IfSome found (λ one. IsId known.now.types one.1)) }
+    ensures found { (later : List OneShape) → Begins known.now.types.shapes later
+        → option_map (member_over later) result ≡ rules.member_of_struct (known_over later known.now) name.now (types_of_c.bare (type_over later id)) }
+    ensures numbered { IfSome result (λ one. IsId known.now.types one.1) }
 {
-    match members_in(known, id) {
-        Some(members) => {
-            let found = found_in(name, members)?;
-            Ok(found)
-        }
-        None => Ok(None),
+    match member_in_struct(known, name, id) {
+        Some((n, member)) => Some((n, member.kind)),
+        None => None,
     }
 }
 
@@ -113,7 +95,7 @@ fn member_by_name(
 {
     let whole_is_const = is_const(&known.types, whole.kind);
     let whole_is_lvalue = is_lvalue(whole);
-    let found = member_of_struct(known, name, whole.kind)?;
+    let found = member_of_struct(known, name, whole.kind);
     match found {
         Some(one) => {
             let made = member_in(known, whole_is_lvalue, whole_is_const, one)?;

@@ -19,9 +19,9 @@ ghost use Rattle.dm_typing.specs.Typing as typing;
 ghost use Rattle.dm_typing.specs.Views.{Begins, IsNumberOf, type_over, table_over, view_over, known_over, seen, source_of, setting_of, Gives, Grows};
 
 use dm_int::Kind;
-use dm_token::{List, Memory, Span, Stop, Text};
+use dm_token::{Memory, Span, Stop, Text};
 use dm_tree::{Core, Declared, Linkage, Sort, constant};
-use dm_type::{Member, Shape, TypeId};
+use dm_type::{Members, Shape, TypeId};
 use dm_typing::looks::is_integer;
 use dm_typing::{Known, Typer};
 
@@ -153,7 +153,7 @@ fn leave_innermost(begun: &mut Vec<u32>)
 }
 
 /// The members of the innermost struct are read.
-fn end_struct(known: &mut Known, number: u32, members: List<Member>) -> Result<(), Memory>
+fn end_struct(known: &mut Known, number: u32, members: Members) -> Result<(), Memory>
     requires below { number < length known.old.types.structs }
     requires some { members ≢ [] }
     requires types { All (λ member. IsId known.old.types member.kind) members }
@@ -383,7 +383,7 @@ pub fn struct_ended(
     known: &mut Known,
     span: Span,
     begun: Option<TypeId>,
-    members: List<Member>,
+    members: Members,
 ) -> Result<TypeId, Stop>
     requires kind { IfSome begun (IsId known.old.types) }
     requires innermost { IfSome begun (IsInnermost known.old) }

@@ -10,9 +10,12 @@ use Rattle.dm_token.specs.declared.place.Span.{Span}
 use Rattle.dm_token.specs.declared.stop.Stop.{Stop}
 use Rattle.dm_token.specs.declared.stop.Stop.TheVariants as stop
 use Rattle.dm_token.specs.declared.token.CToken.{CToken}
+use Rattle.dm_int.specs.declared.Kind.TheVariants.{Char}
+use Rattle.dm_type.specs.CTypes.{CType, pointer, array as array_type}
 use Rattle.dm_type.specs.declared.shape.Shape.{Shape}
 use Rattle.dm_type.specs.declared.shape.Shape.TheVariants.{Void}
-use Rattle.dm_type.specs.Tables.{Table, IsId, type_of}
+use Rattle.dm_type.specs.declared.shape.Shape.TheVariants as shape
+use Rattle.dm_type.specs.Tables.{Table, Has, IsId, types_of, type_of}
 use Rattle.dm_syn.specs.Sources.{Source, spelling_at}
 use Rattle.dm_syn.specs.Trees as syn
 use Rattle.dm_tree.specs.declared.tree.Core.{Core}
@@ -29,14 +32,15 @@ use Rattle.dm_tree.specs.Trees as label
 use Rattle.dm_tree.specs.TypeNumbers.{are_known, are_known_in_local, all_pass, form_has_known, entry_has_known, external_has_known}
 use Rattle.dm_tree.specs.Units.{Declaration, External, declares, defines_function, TypedUnit}
 use Rattle.dm_tree.specs.Typing.{IsWellTypedUnit}
-use Rattle.dm_tree.specs.TypeNumbers.{IsTypedUnit}
+use Rattle.dm_tree.specs.TypeNumbers.{IsTypedUnit, argv_kind}
 use Rattle.dm_tree.specs.ViewLaws.{stays}
 use Rattle.dm_tree.specs.Views.{view, view_of_local, declarators_of, expressions_of_locals, opened, node_of, view_of_form, view_of_external, view_of_unit}
 use Rattle.dm_typing.specs.Fitting.{HaveTypes}
 use Rattle.dm_typing.specs.Known.{Known, Setting, Outcome, given}
 use Rattle.dm_typing.specs.Sound.{AreSoundTokens, BreaksWithin}
-use Rattle.dm_typing.specs.Views.{Begins, table_over}
-use Rattle.dm_typing.proofs.LaterLemmas.{begins-itself}
+use Rattle.dm_typing.specs.Views.{Begins, Grows, IsNumberOf, known_over, table_over, type_over}
+use Rattle.dm_typing.proofs.GivesLemmas.{grown}
+use Rattle.dm_typing.proofs.LaterLemmas.{begins-itself, begins-length, begins-on, type-later}
 use Rattle.dm_eexpr.specs.Alone.{source_alone, RefusesWithin}
 use Rattle.dm_edecl.specs.Linkages.{with_whole_kinds}
 use Rattle.dm_edecl.specs.Placing.{externals_after, AreExternals}
@@ -234,6 +238,7 @@ module _ (tokens : List CToken) (externals : List syn.External) where
   unit-well-typed (Ok made) e numbered sound are =
       let shapes = made.1.shapes in
       let g = e shapes (begins-itself shapes) in record {
+        argv = numbered.argv;
         known_in_entries = numbered.entries;
         known_in_trees = numbered.trees;
         typed = subst (λ (types : Table). IsWellTypedUnit types (view_of_unit made.1 made.0)) g.1 (units-typed shapes tokens externals g.0 (view_of_unit made.1 made.0) sound are g.2);
@@ -257,11 +262,36 @@ pub fails-on : (source : Source) (typed : List Shape → Outcome TypedUnit) (res
 fails-on source typed (Ok made) fault handed e = absurd handed
 fails-on source typed (Err other) fault handed e = subst (λ it. ElaboratesBy source typed (Err it)) (sym handed) e
 
-pub unit-numbered : (types : Table) (made : List CoreExternal) (unit : CoreUnit × Table) → unit.0.externals ≡ made → unit.1 ≡ types → ExternalsFit types made
+pub unit-numbered : (types : Table) (argv : ℕ) (made : List CoreExternal) (unit : CoreUnit × Table) → unit.0.argv ≡ argv → unit.0.externals ≡ made → unit.1 ≡ types → Has types argv argv_kind → ExternalsFit types made
     → IsTrue (list_all (entry_has_known (length types.shapes)) unit.0.declared) → IsNumberedUnit unit.1 unit.0
-unit-numbered types made unit same is fit entries = record {
+unit-numbered types argv made unit named same is has fit entries = record {
+  argv = subst (λ (table : Table). Has table unit.0.argv argv_kind) (sym is) (subst (λ id. Has types id argv_kind) (sym named) has);
   entries = subst (λ (table : Table). IsTrue (list_all (entry_has_known (length table.shapes)) unit.0.declared)) (sym is) entries;
   trees =
       subst (λ (table : Table). IsTrue (list_all (external_has_known (length table.shapes)) unit.0.externals)) (sym is)
       (subst (λ all. IsTrue (list_all (external_has_known (length types.shapes)) all)) (sym same) (list-fits types made fit));
+}
+
+-- ---- the type of argv's object
+
+-- it is numbered in three steps
+pub argv-typed : (first second third : Table) (plain pointed array : ℕ) → Begins first.shapes second.shapes → Begins second.shapes third.shapes → IsNumberOf first.shapes plain (shape.Integer Char)
+    → IsNumberOf second.shapes pointed (shape.Pointer plain) → IsNumberOf third.shapes array (shape.Array pointed (Some 1)) → Has third array argv_kind
+argv-typed first second third plain pointed array on more one two three =
+    let shapes = third.shapes in
+    (three.0, three.1 shapes (begins-itself shapes) ∙ ap (λ type. array_type type (Some 1)) (two.1 shapes more ∙ ap pointer (one.1 shapes (begins-on first.shapes second.shapes shapes on more))))
+
+-- it stays so as types are numbered
+pub has-later : (old new : Table) (id : ℕ) (type : CType) → Begins old.shapes new.shapes → Has old id type → Has new id type
+has-later old new id type begins has =
+    let le = begins-length old.shapes new.shapes begins in
+    let inside = has.0 in
+    (omega (arith, le, inside), type-later old.shapes new.shapes id begins inside ∙ has.1)
+
+-- where a unit begins, whatever types are numbered
+pub stands-grown : (old new : Held) → Grows old.known new.known → new.links ≡ old.links → ((later : List Shape) → StandsFor later old.known old.links (beginning later))
+    → (later : List Shape) → StandsFor later new.known new.links (beginning later)
+stands-grown old new grows same stands later = record {
+  known = (stands later).known ∙ grown later old.known new.known grows;
+  links = subst (λ links. Summarises later links (beginning later).known.declared (beginning later).linked) (sym same) (stands later).links;
 }

@@ -1,18 +1,18 @@
 -- What the call for a whole unit gives.
 --     typed_by setting shapes externals      a unit in a setting
 --     Elaborates tokens externals result      the typed unit, or the refusal for the first typing rule that is broken
---     IsNumberedUnit types unit      the table gave the types of the unit's entries and trees
+--     IsNumberedUnit types unit      the table gave the types of the unit's entries and trees, and that of argv's object
 use Rattle.std.specs.Prelude.{◌≡◌, ℕ, IsTrue, List, length, Result, Ok, Err}
 use Rattle.std.specs.List.{list_all}
 use Rattle.dm_token.specs.declared.stop.Stop.{Stop}
 use Rattle.dm_token.specs.declared.stop.Stop.TheVariants as stop
 use Rattle.dm_token.specs.declared.token.CToken.{CToken}
 use Rattle.dm_type.specs.declared.shape.Shape.{Shape}
-use Rattle.dm_type.specs.Tables.{Table}
+use Rattle.dm_type.specs.Tables.{Table, Has}
 use Rattle.dm_syn.specs.Sources.{Source}
 use Rattle.dm_syn.specs.Trees.{External}
 use Rattle.dm_tree.specs.declared.unit.CoreUnit.{CoreUnit}
-use Rattle.dm_tree.specs.TypeNumbers.{entry_has_known, external_has_known}
+use Rattle.dm_tree.specs.TypeNumbers.{argv_kind, entry_has_known, external_has_known}
 use Rattle.dm_tree.specs.Units.{TypedUnit}
 use Rattle.dm_tree.specs.Views.{view_of_unit}
 use Rattle.dm_typing.specs.Known.{Known, Setting, Outcome, given, broken}
@@ -40,5 +40,6 @@ Elaborates tokens externals result = ElaboratesBy (source_alone tokens) (λ late
 
 -- the table gave the types of the unit
 pub record IsNumberedUnit (types : Table) (one : CoreUnit) : Type 0 where
+  pub argv : Has types one.argv argv_kind
   pub entries : IsTrue (list_all (entry_has_known (length types.shapes)) one.declared)
   pub trees : IsTrue (list_all (external_has_known (length types.shapes)) one.externals)

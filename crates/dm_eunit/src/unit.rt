@@ -4,10 +4,11 @@ ghost use Rattle.std.specs.Prelude.{◌≡◌, ℕ, IsTrue, List as Sequence, []
 ghost use Rattle.std.specs.List.{list_all};
 ghost use Rattle.dm_type.specs.declared.shape.Shape.{Shape as OneShape};
 ghost use Rattle.dm_syn.specs.Views as syntax;
-ghost use Rattle.dm_tree.specs.TypeNumbers.{IsTypedUnit, entry_has_known};
+ghost use Rattle.dm_type.specs.Tables.{Has};
+ghost use Rattle.dm_tree.specs.TypeNumbers.{IsTypedUnit, argv_kind, entry_has_known};
 ghost use Rattle.dm_tree.specs.Units.{Declaration as Entry};
 ghost use Rattle.dm_typing.specs.Sound.{AreSoundTokens};
-ghost use Rattle.dm_typing.specs.Views.{source_of, setting_of};
+ghost use Rattle.dm_typing.specs.Views.{source_of, setting_of, Grows};
 ghost use Rattle.dm_edecl.specs.Linkages as linkages;
 ghost use Rattle.dm_edecl.specs.Placing.{externals_after, AreExternals};
 ghost use Rattle.dm_edecl.specs.Standing.{Linked};
@@ -20,17 +21,17 @@ ghost use Rattle.dm_eunit.specs.Functions.{ExternalsFit};
 use crate::externals::typed_externals;
 use crate::lacking::lacking;
 use dm_estanding::{Links, Standing, with_whole_kinds};
+use dm_int::Kind;
 use dm_scope::Scopes;
 use dm_syn::External;
 use dm_token::{CToken, List, Memory, Stop};
 use dm_tree::{CoreExternal, CoreUnit};
-use dm_type::Types;
+use dm_type::{Shape, TypeId, Types};
 use dm_typing::{Known, Typer};
 use std::alloc::Global;
 
 /// The typed unit of external declarations that are those of the tokens, and its types. What is given is exactly what the
-/// typing of units says. Its time is linear, but for the comparison of types and for members, each of which is looked for
-/// among those before it.
+/// typing of units says. Its time is linear, but for the comparison of types.
 ///
 /// # Errors
 ///
@@ -68,8 +69,9 @@ fn unit_of(typer: &Typer<'_>, externals: &[External]) -> Result<(CoreUnit, Types
     ensures numbered { IfOk result (λ made. IsNumberedUnit made.1 made.0) }
 {
     let mut standing = beginning(typer)?;
+    let argv = argv_of(&mut standing)?;
     let made = typed_externals(typer, &mut standing, externals)?;
-    let unit = finished(standing, made)?;
+    let unit = finished(standing, argv, made)?;
     Ok(unit)
 }
 
@@ -95,10 +97,36 @@ fn beginning(typer: &Typer<'_>) -> Result<Standing, Memory>
     })
 }
 
+/// The number of the type of the object to which `argv` points at the beginning of a run (5.1.2.2.1p2).
+fn argv_of(standing: &mut Standing) -> Result<TypeId, Memory>
+    ensures typed { IfOk result (λ id. Has standing.new.known.types id argv_kind) }
+    ensures grows { Grows standing.old.known standing.new.known }
+    ensures links { standing.new.links ≡ standing.old.links }
+{
+    let kind = argv_type(&mut standing.known)?;
+    Ok(kind)
+}
+
+/// The same where it is told which types have numbers.
+fn argv_type(known: &mut Known) -> Result<TypeId, Memory>
+    ensures typed { IfOk result (λ id. Has known.new.types id argv_kind) }
+    ensures grows { Grows known.old known.new }
+{
+    let plain = known.intern(Shape::Integer(Kind::Char))?;
+    let pointer = known.intern(Shape::Pointer(plain))?;
+    let array = known.intern(Shape::Array(pointer, Some(1)))?;
+    Ok(array)
+}
+
 /// The unit of these external declarations, with the types that all declarations of its entries say.
-fn finished(standing: Standing, externals: List<CoreExternal>) -> Result<(CoreUnit, Types), Memory>
+fn finished(
+    standing: Standing,
+    argv: TypeId,
+    externals: List<CoreExternal>,
+) -> Result<(CoreUnit, Types), Memory>
     ensures whole { IfOk result (λ made. (later : Sequence OneShape) (declared : Sequence Entry) (linked : Sequence Linked) → Summarises later standing.links declared linked
         → map (entry_over later) made.0.declared ≡ linkages.with_whole_kinds linked 0 (map (entry_over later) standing.known.declared)) }
+    ensures argv { IfOk result (λ made. made.0.argv ≡ argv) }
     ensures externals { IfOk result (λ made. made.0.externals ≡ externals) }
     ensures types { IfOk result (λ made. made.1 ≡ standing.known.types) }
     ensures numbered { IfOk result (λ made. IsTrue (list_all (entry_has_known (length standing.known.types.shapes)) made.0.declared)) }
@@ -117,6 +145,7 @@ fn finished(standing: Standing, externals: List<CoreExternal>) -> Result<(CoreUn
     } = known;
     let declared = with_whole_kinds(declared, &links)?;
     let unit = CoreUnit {
+        argv,
         declared,
         externals,
     };

@@ -1,2 +1,6 @@
 pub mod Orders
+pub mod Shown
+pub mod Runs
 pub mod Outcomes
+pub mod Due
+pub mod Taken

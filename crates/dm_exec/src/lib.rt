@@ -1,12 +1,22 @@
-//! Runs of the abstract machine that `dm_meaning` defines (ISO/IEC 9899:2011, 5.1.2.3). What is here so far: the orders in which
-//! a run may take its steps, and what runs come to.
+//! Runs of the abstract machine that `dm_meaning` defines (ISO/IEC 9899:2011, 5.1.2.3), a step at a time or so many steps in an
+//! order.
 #![tactic(auto)]
 
+mod due;
+mod laws;
 mod order;
 mod outcome;
+mod run;
+mod state;
+mod steps;
+mod taking;
 
+pub use laws::shown_states_step;
 pub use order::Choices;
 pub use outcome::Outcome;
+pub use run::run_for;
+pub use state::State;
+pub use steps::{start, step};
 
 #[cfg(test)]
 mod tests;

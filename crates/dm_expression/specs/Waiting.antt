@@ -1,13 +1,13 @@
 -- What nodes that wait stand for, and trees that are put into a row.
 --     view_of_waiting types node      the node of a postfix list
---     is_expression tree      no statement is in it
 --     IsPut tree before after      the nodes of the tree were put behind the place of a row
-use Rattle.std.specs.Prelude.{◌≡◌, ℕ, Bool, true, not, ◌&&◌, List, [], ◌∷◌, ◌++◌, map, IsTrue}
+use Rattle.std.specs.Prelude.{◌≡◌, ℕ, List, [], ◌∷◌, ◌++◌, map, IsTrue}
 use Rattle.dm_type.specs.Tables.{Table}
 use Rattle.dm_tree.specs.declared.tree.Core.{Core}
-use Rattle.dm_tree.specs.Trees.{Tree, Trees, node, no_trees, more_trees, is_statement}
+use Rattle.dm_tree.specs.Trees.{Tree, node}
 use Rattle.dm_tree.specs.TypeNumbers.{are_known}
 use Rattle.dm_tree.specs.Views.{view}
+pub use Rattle.dm_meaning.specs.Wholes.{is_expression, are_expressions}
 use Rattle.dm_meaning.specs.Running.{evaluates, gives_truth, gives_value, open_of, begun, all_begun}
 use Rattle.dm_row.specs.declared.item.Item.{Item}
 use Rattle.dm_row.specs.declared.item.Item.TheVariants.{Done, Waits}
@@ -25,14 +25,6 @@ waiting_of GivesValue (node label kind spans parts) = node_of gives_value kind s
 
 abbrev pub view_of_waiting : Table → Waiting → postfix.Waiting
 view_of_waiting types one = waiting_of one.doing (view types one.node.now)
-
-abbrev mutual
-  pub is_expression : Tree → Bool
-  is_expression (node label kind spans parts) = not (is_statement label) && are_expressions parts
-
-  pub are_expressions : Trees → Bool
-  are_expressions no_trees = true
-  are_expressions (more_trees first rest) = is_expression first && are_expressions rest
 
 -- nodes that wait, as those of a postfix list, each with the number of its operands
 abbrev pub AreWaiting : {R : Type 0} → Table → List (Item R Waiting) → List postfix.Item → Type 0

@@ -29,7 +29,7 @@ pub enum Scalars {
 
 impl Scalars {
     /// That of an integer.
-    fn integer(self, kind: Kind) -> Value
+    pub(crate) fn integer(self, kind: Kind) -> Value
         ensures { view_of_value result ≡ scalar_of self (ctypes.integer kind) }
     {
         match self {
@@ -124,7 +124,7 @@ fn filled_struct(
 }
 
 /// An array of so many elements of one value.
-fn repeated(alloc: Global, value: Value, count: u64) -> Result<Value, Memory>
+pub(crate) fn repeated(alloc: Global, value: Value, count: u64) -> Result<Value, Memory>
     ensures { IfOk result (λ array. view_of_value array ≡ values.parts (values.values (replicate count (view_of_value value)))) }
 {
     let mut all = Vec::new(alloc);
@@ -136,7 +136,7 @@ fn repeated(alloc: Global, value: Value, count: u64) -> Result<Value, Memory>
 }
 
 /// The value of these parts.
-fn of_parts(alloc: Global, parts: Vec<Value>) -> Result<Value, Memory>
+pub(crate) fn of_parts(alloc: Global, parts: Vec<Value>) -> Result<Value, Memory>
     ensures { IfOk result (λ value. view_of_value value ≡ values.parts (values.values (map view_of_value parts.items))) }
 {
     let parts = Rc::new(alloc, List::from_vec(parts))?;

@@ -2,6 +2,8 @@ pub mod BeginLemmas
 pub mod BlockLemmas
 pub mod CallLemmas
 pub mod EnterLemmas
+pub mod FitLemmas
+pub mod InitialLemmas
 pub mod JumpLemmas
 pub mod KeptLemmas
 pub mod PartLemmas

@@ -1,6 +1,5 @@
 -- The labels of a statement, one after the other (6.8.1).
 use Rattle.std.proofs.Common.{◌≡◌, ℕ, suc, ℤ, Bool, true, false, ◌||◌, List, [], ◌∷◌, map, length, Option, Some, None, if◌then◌else◌, rules, refl, ap, sym, subst, ◌∙◌, arith}
-use Rattle.std.proofs.lemmas.Bool.{and_parts}
 use Rattle.dm_type.specs.CTypes.{CType}
 use Rattle.dm_type.specs.Tables.{Table}
 use Rattle.dm_tree.specs.declared.tree.Core.{Core, out-Core}
@@ -109,4 +108,4 @@ none-first table test (item ∷ rest) e = absurd (not-none (length rest) e)
     not-none n e = omega (arith, e)
 
 pub rest-fits : (table : Table) (items : List Core) (item : Core) (rest : List Core) → items ≡ item ∷ rest → TreesFit table items → TreesFit table rest
-rest-fits table items item rest e fits = (and_parts _ _ (subst (TreesFit table) e fits)).1
+rest-fits table items item rest e fits = (subst (TreesFit table) e fits).1

@@ -1,14 +1,17 @@
 -- What is left to do in a function that is running, and what it stands for.
 --     view_of_tasks table objects tasks      the tasks, where these are the frame's objects
---     TasksFit table count tasks      their trees are of the table, and they name no more than so many objects
+--     TreeFits table tree      the types in a statement are of the table, and no statement is in its full expressions
+--     ExpressionFits table tree      the types in an expression are of the table, and no statement is in it
+--     TasksFit table count tasks      their trees fit the table, and they name no more than so many objects
 use Rattle.std.specs.Prelude.{ℕ, ◌-◌, ◌≤◌, List, [], ◌∷◌, ◌++◌, map, length, drop, Option, Some, None, IsTrue}
 use Rattle.std.proofs.Common.{Bor}
+use Rattle.std.specs.List.{AllByRecursion}
 use Rattle.dm_type.specs.Tables.{Table}
 use Rattle.dm_tree.specs.declared.tree.Core.{Core}
 use Rattle.dm_tree.specs.declared.tree.Initial.{Initial}
 use Rattle.dm_tree.specs.declared.tree.Local.{Local}
 use Rattle.dm_tree.specs.Trees.{Tree}
-use Rattle.dm_tree.specs.TypeNumbers.{are_known, are_known_in_local, all_pass}
+use Rattle.dm_tree.specs.TypeNumbers.{are_known, are_known_in_local}
 use Rattle.dm_tree.specs.Views.{OpenedInitial, OpenedLocal, items_of, expressions_of_items, view, view_of_local}
 use Rattle.dm_value.specs.Places.{view_of_at}
 use Rattle.dm_value.specs.Views.{view_of_value}
@@ -17,6 +20,7 @@ use Rattle.dm_layout.specs.LaidOut.{laid_out}
 use Rattle.dm_meaning.specs.Operations.{Objects}
 use Rattle.dm_meaning.specs.States as states
 use Rattle.dm_meaning.specs.Statements.{evaluation, items_tasks, part_tasks}
+use Rattle.dm_meaning.specs.Wholes.{is_whole_start, IsExpression, IsWhole, IsWholeInitial, IsWholeLocal}
 use Rattle.dm_program.specs.Initials.{view_of_initial, are_known_in_initial}
 use Rattle.dm_frame.specs.declared.task.Begun.{Begun}
 use Rattle.dm_frame.specs.declared.task.Loop.{Loop}
@@ -82,35 +86,44 @@ view_of_tasks table objects (first ∷ rest) = view_of_task table objects first 
 
 -- ---- what fits a table and a number of objects
 
--- the types in a tree have numbers of the table
+-- the types in a statement have numbers of the table, and no statement is in its full expressions
 abbrev pub TreeFits : Table → Core → Type 0
-TreeFits table tree = IsTrue (are_known (length table.shapes) tree)
+TreeFits table tree = IsTrue (are_known (length table.shapes) tree) × IsWhole tree
 
 abbrev pub TreesFit : Table → List Core → Type 0
-TreesFit table trees = IsTrue (all_pass (map (are_known (length table.shapes)) trees))
+TreesFit table trees = AllByRecursion (TreeFits table) trees
+
+-- the types in an expression have numbers of the table, and no statement is in it
+abbrev pub ExpressionFits : Table → Core → Type 0
+ExpressionFits table tree = IsTrue (are_known (length table.shapes) tree) × IsExpression tree
+
+-- the first part of a `for`: a declaration or an expression
+abbrev pub StartFits : Table → Core → Type 0
+StartFits table tree = IsTrue (are_known (length table.shapes) tree) × ((types : Table) → IsTrue (is_whole_start (view types tree)))
 
 abbrev pub LocalFits : Table → Local → Type 0
-LocalFits table local = IsTrue (are_known_in_local (length table.shapes) local)
+LocalFits table local = IsTrue (are_known_in_local (length table.shapes) local) × IsWholeLocal local
 
 abbrev pub LocalsFit : Table → List Local → Type 0
-LocalsFit table locals = IsTrue (all_pass (map (are_known_in_local (length table.shapes)) locals))
+LocalsFit table locals = AllByRecursion (LocalFits table) locals
 
 abbrev pub InitialFits : Table → Initial → Type 0
-InitialFits table initial = IsTrue (are_known_in_initial (length table.shapes) initial)
+InitialFits table initial = IsTrue (are_known_in_initial (length table.shapes) initial) × IsWholeInitial initial
 
 abbrev pub InitialsFit : Table → List Initial → Type 0
-InitialsFit table initials = IsTrue (all_pass (map (are_known_in_initial (length table.shapes)) initials))
+InitialsFit table initials = AllByRecursion (InitialFits table) initials
 
-abbrev pub OptionFits : Table → Option (Bor Core) → Type 0
-OptionFits table None = Unit {0}
-OptionFits table (Some tree) = TreeFits table tree.now
+-- what may be left out fits where it is there
+abbrev pub FitsIfThere : (Core → Type 0) → Option (Bor Core) → Type 0
+FitsIfThere fits None = Unit {0}
+FitsIfThere fits (Some tree) = fits tree.now
 
 abbrev pub LoopFits : Table → Loop → Type 0
-LoopFits table loop = OptionFits table loop.condition × OptionFits table loop.after × TreeFits table loop.body.now
+LoopFits table loop = FitsIfThere (ExpressionFits table) loop.condition × FitsIfThere (ExpressionFits table) loop.after × TreeFits table loop.body.now
 
 abbrev pub UseFits : Table → Use → Type 0
 UseFits table use_of.Drops = Unit {0}
-UseFits table (use_of.Chooses first second) = TreeFits table first.now × OptionFits table second
+UseFits table (use_of.Chooses first second) = TreeFits table first.now × FitsIfThere (TreeFits table) second
 UseFits table (use_of.Selects items) = TreesFit table items.now
 UseFits table (use_of.Repeats loop) = LoopFits table loop
 UseFits table (use_of.Continues loop) = LoopFits table loop
@@ -119,7 +132,7 @@ UseFits table (use_of.Initialises at kind) = IsKnownType table kind
 
 abbrev pub BegunFits : Table → Option Begun → Type 0
 BegunFits table None = Unit {0}
-BegunFits table (Some begun) = TreeFits table begun.tree.now × UseFits table begun.use_of
+BegunFits table (Some begun) = ExpressionFits table begun.tree.now × UseFits table begun.use_of
 
 abbrev pub TaskFits : Table → ℕ → Task → Type 0
 TaskFits table count (task.Items items) = TreesFit table items.now

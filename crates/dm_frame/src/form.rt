@@ -1,18 +1,17 @@
 //! How statements begin that make no objects.
 
-ghost use Rattle.std.specs.Prelude.{◌≡◌, ◌∷◌, [], ◌++◌, length, IsTrue, IfOk, OnOk, None, Some, option_map};
+ghost use Rattle.std.specs.Prelude.{◌≡◌, ◌∷◌, [], ◌++◌, length, IfOk, OnOk, None, Some, option_map};
 ghost use Rattle.dm_type.specs.Tables.{Table};
 ghost use Rattle.dm_tree.specs.Trees.{listed, trees};
-ghost use Rattle.dm_tree.specs.TypeNumbers.{are_known, passes_if_there};
 ghost use Rattle.dm_tree.specs.Views.{opened_form, view};
 ghost use Rattle.dm_meaning.specs.Memory.{Memory as AllMemory};
 ghost use Rattle.dm_meaning.specs.Operations.{Objects};
 ghost use Rattle.dm_meaning.specs.States as states;
 ghost use Rattle.dm_meaning.specs.Statements as statements;
 ghost use Rattle.dm_meaning.specs.Statements.{onward};
-ghost use Rattle.dm_frame.specs.Forms.{FormFits, IsBegunForm, IsPlain};
+ghost use Rattle.dm_frame.specs.Forms.{FormFits, IsBegunForm, IsInside, IsPlain};
 ghost use Rattle.dm_frame.specs.Frames.{tasks_of, FrameFits};
-ghost use Rattle.dm_frame.specs.Tasks.{tree_or_none, view_of_begun, BegunFits, LoopFits, OptionFits, TreeFits};
+ghost use Rattle.dm_frame.specs.Tasks.{tree_or_none, view_of_begun, BegunFits, ExpressionFits, FitsIfThere, LoopFits, StartFits, TreeFits};
 
 use crate::frame::Frame;
 use crate::task::{Begun, Loop, Task, Use};
@@ -22,8 +21,8 @@ use dm_value::Value;
 
 /// A part of a form that may be left out.
 pub(crate) fn inside(tree: &Option<Boxed<Core>>) -> Option<&Core>
+    ensures inside { IsInside tree.now result }
     ensures same { (table : Table) → tree_or_none table result ≡ option_map (view table) tree.now }
-    ensures fits { (table : Table) → IsTrue (passes_if_there (option_map (are_known (length table.shapes)) tree.now)) → OptionFits table result }
 {
     match tree {
         Some(tree) => Some(tree.get()),
@@ -115,7 +114,7 @@ impl<'a> Frame<'a> {
         ensures function { self.new.function ≡ self.old.function }
         ensures objects { self.new.objects ≡ self.old.objects }
         ensures same { (table : Table) → IfOk result (λ begun. view_of_begun table begun ++ tasks_of table self.new ≡ statements.start_tasks (Some (view table start.now)) ++ tasks_of table self.old) }
-        ensures fits { (table : Table) → FrameFits table self.old → TreeFits table start.now → IfOk result (λ begun. FrameFits table self.new × BegunFits table begun) }
+        ensures fits { (table : Table) → FrameFits table self.old → StartFits table start.now → IfOk result (λ begun. FrameFits table self.new × BegunFits table begun) }
     {
         match &start.form {
             Form::Declare(_, locals) => {
@@ -132,7 +131,7 @@ impl<'a> Frame<'a> {
         ensures objects { self.new.objects ≡ self.old.objects }
         ensures same { (table : Table) → OnOk result (tasks_of table self.new ≡ states.begins (view table body.now)
             ∷ states.again self.old.objects (statements.loop_with (Some (view table condition.now)) None (view table body.now)) ∷ states.ends self.old.objects ∷ tasks_of table self.old) }
-        ensures fits { (table : Table) → FrameFits table self.old → TreeFits table body.now → TreeFits table condition.now → OnOk result (FrameFits table self.new) }
+        ensures fits { (table : Table) → FrameFits table self.old → TreeFits table body.now → ExpressionFits table condition.now → OnOk result (FrameFits table self.new) }
     {
         self.ends()?;
         let alive = self.objects.len();
@@ -152,7 +151,7 @@ impl<'a> Frame<'a> {
         ensures objects { self.new.objects ≡ self.old.objects }
         ensures same { (table : Table) → IfOk result (λ begun. (objects : Objects) (memory : AllMemory) →
             onward objects (view_of_begun table begun ++ tasks_of table self.new) memory ≡ statements.returning objects memory (tree_or_none table value.entry)) }
-        ensures fits { (table : Table) → OptionFits table value.entry → IfOk result (λ begun. FrameFits table self.new × BegunFits table begun) }
+        ensures fits { (table : Table) → FitsIfThere (ExpressionFits table) value.entry → IfOk result (λ begun. FrameFits table self.new × BegunFits table begun) }
     {
         self.tasks.clear();
         match value {

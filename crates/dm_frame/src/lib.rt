@@ -17,8 +17,9 @@ mod switching;
 mod task;
 
 pub use calling::open;
-pub use conclusion::conclude;
+pub use conclusion::{conclude, designated_value};
 pub use frame::Frame;
+pub use initial::begin_initialiser;
 pub use jump::end_objects;
 pub use next::Next;
 pub use stack::Stack;

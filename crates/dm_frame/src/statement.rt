@@ -8,7 +8,7 @@ ghost use Rattle.dm_meaning.specs.Choices.{in_order};
 ghost use Rattle.dm_meaning.specs.Statements as statements;
 ghost use Rattle.dm_program.specs.Sources.{meant};
 ghost use Rattle.dm_frame.specs.Frames.{tasks_of, FrameFits, IsBegun};
-ghost use Rattle.dm_frame.specs.Tasks.{tree_or_none, view_of_loop, LoopFits, OptionFits, TreeFits, TreesFit};
+ghost use Rattle.dm_frame.specs.Tasks.{tree_or_none, view_of_loop, FitsIfThere, LoopFits, StartFits, TreeFits, TreesFit};
 
 use crate::form::inside;
 use crate::frame::Frame;
@@ -91,7 +91,7 @@ fn begin_for<'a>(
 ) -> Result<Option<Begun<'a>>, Memory>
     requires frame { FrameFits program.now.table frame.old }
     requires blocks { AreKnown program.now.table blocks.old }
-    requires start { OptionFits program.now.table start }
+    requires start { FitsIfThere (StartFits program.now.table) start }
     requires repeated { LoopFits program.now.table repeated }
     ensures function { frame.new.function ≡ frame.old.function }
     ensures left { let before = view_of_blocks program.now.table blocks.old in IfOk result (λ begun. IsBegun program.now.table begun frame.new blocks.new

@@ -8,7 +8,7 @@ ghost use Rattle.dm_meaning.specs.Statements as statements;
 ghost use Rattle.dm_value.specs.Views.{view_of_value};
 ghost use Rattle.dm_program.specs.Sources.{meant};
 ghost use Rattle.dm_frame.specs.Selecting.{IsFound};
-ghost use Rattle.dm_frame.specs.Tasks.{TreeFits, TreesFit};
+ghost use Rattle.dm_frame.specs.Tasks.{ExpressionFits, TreeFits, TreesFit};
 
 use dm_program::Program;
 use dm_tree::{Core, Form};
@@ -83,7 +83,7 @@ fn has_case(program: &Program, value: i128, item: &Core) -> bool
 
 /// Whether the value of a label is this one.
 fn is_number(program: &Program, value: i128, label: &Core) -> bool
-    requires { TreeFits program.now.table label.now }
+    requires { ExpressionFits program.now.table label.now }
     ensures { result ≡ statements.is_number value (programs.constant_of (meant program.now) (view program.now.table label.now)) }
 {
     match program.constant(label) {

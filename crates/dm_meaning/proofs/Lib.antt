@@ -33,3 +33,5 @@ mod ShrinkLemmas
 mod MatchLemmas
 mod EntryLemmas
 mod CallInstanceLemmas
+pub mod WholeLemmas
+pub mod AnywhereLemmas

@@ -12,6 +12,7 @@ pub mod Operations
 pub mod Running
 pub mod Expressions
 pub mod States
+pub mod Wholes
 pub mod Statements
 pub mod Steps
 pub mod Units

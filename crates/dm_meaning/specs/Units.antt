@@ -3,7 +3,7 @@
 --     start names program main input      the state at the beginning of a run
 --     machine_of program      its machine
 use Rattle.std.specs.Prelude.{◌≡◌, ℕ, suc, ◌+◌, ◌==◌, Bool, true, false, not, ◌&&◌, List, [], ◌∷◌, ◌++◌, map, length, take, drop, Option, Some, None, ℤ, pos, is_some, if◌then◌else◌}
-use Rattle.dm_int.specs.declared.Kind.TheVariants.{Int, Char}
+use Rattle.dm_int.specs.declared.Kind.TheVariants.{Int}
 use Rattle.dm_int.specs.declared.Op.{Op}
 use Rattle.dm_int.specs.Kinds as kinds
 use Rattle.dm_int.specs.Operators as operators
@@ -12,6 +12,7 @@ use Rattle.dm_type.specs.Tables.{Table}
 use Rattle.dm_tree.specs.declared.unit.Sort.{Sort}
 use Rattle.dm_tree.specs.declared.unit.Sort.TheVariants.{Object}
 use Rattle.dm_tree.specs.Trees.{Label, declare, object, literal, member, decay, binary, convert, address, follow, Initialiser, Initialisers, one_expression, in_braces, no_items, more_items, expressions_in, Tree, Trees, node, no_trees, more_trees, listed, kind_of, is_statement}
+pub use Rattle.dm_tree.specs.TypeNumbers.{argv_kind}
 use Rattle.dm_tree.specs.Units.{Declaration, External, ExternalForm, declares, defines_function, TypedUnit}
 use Rattle.dm_meaning.specs.Machines.{Machine, going}
 use Rattle.dm_meaning.specs.Values.{Name, numbered, literal_of, elsewhere, part, past, Pointer, null, to, Value, integer_value, pointer_value, parts, unset, values, parts_in}
@@ -222,9 +223,6 @@ statics_memory program names objects =
     all_initialised program objects zeroed program.statics zeroed
 
 -- `main` starts with argc 0 and an argv of one null pointer (5.1.2.2.1p2)
-abbrev pub argv_kind : CType
-argv_kind = array (pointer (integer Char)) (Some 1)
-
 abbrev pub arguments_for : ℕ → List ℕ → List Value
 arguments_for n [] = []
 arguments_for n (parameter ∷ others) =

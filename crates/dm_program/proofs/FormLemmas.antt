@@ -1,10 +1,8 @@
 -- What statements of the code stand for, form by form, and that the types in their parts are known.
-use Rattle.std.proofs.Common.{◌≡◌, ℕ, Bool, ◌&&◌, IsTrue, List, [], ◌∷◌, ◌++◌, map, length, Option, Some, None, option_map, is_some, rules, refl, ap, sym, ◌∙◌}
-use Rattle.std.proofs.lemmas.Bool.{and_parts}
+use Rattle.std.proofs.Common.{◌≡◌, ℕ, ◌&&◌, List, [], ◌∷◌, ◌++◌, map, length, Option, option_map, is_some, rules}
 use Rattle.dm_type.specs.Tables.{Table}
 use Rattle.dm_tree.specs.declared.tree.Core.{Core, out-Core}
 use Rattle.dm_tree.specs.declared.tree.Core as q
-use Rattle.dm_tree.specs.declared.tree.Form.{Form}
 use Rattle.dm_tree.specs.declared.tree.Form.TheVariants as form
 use Rattle.dm_tree.specs.declared.tree.Local.{Local}
 use Rattle.dm_tree.specs.Trees as label

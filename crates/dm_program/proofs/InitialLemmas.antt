@@ -1,5 +1,5 @@
 -- An initialiser of the code has as many expressions as its form says, and so have declarators.
-use Rattle.std.proofs.Common.{◌≡◌, ℕ, ◌+◌, Bool, List, [], ◌∷◌, ◌++◌, map, flat_map, length, take, drop, Option, Some, None, option_map, length-append, refl, ap, sym, subst, ◌∙◌}
+use Rattle.std.proofs.Common.{◌≡◌, ℕ, ◌+◌, Bool, List, [], ◌∷◌, ◌++◌, map, length, take, drop, Option, Some, None, length-append, refl, ap, sym, subst, ◌∙◌}
 use Rattle.std.proofs.Math.Seq.{drop-append_seam, take-append_seam}
 use Rattle.dm_type.specs.Tables.{Table, type_of}
 use Rattle.dm_tree.proofs.ViewLemmas.{view-core}
@@ -10,11 +10,10 @@ use Rattle.dm_tree.specs.declared.tree.Form.TheFolds as folds
 use Rattle.dm_tree.specs.declared.tree.Form.TheVariants as form
 use Rattle.dm_tree.specs.declared.tree.Initial.{Initial, roll-Initial}
 use Rattle.dm_tree.specs.declared.tree.Local.{Local, out-Local}
-use Rattle.dm_tree.specs.Trees as label
 use Rattle.dm_tree.specs.Trees.{Tree, expressions_in, expressions_in_items, listed, trees}
-use Rattle.dm_tree.specs.Views.{Opened, OpenedInitial, OpenedLocal, opened_form, view, view_of_local, form_layer, initial_layer, core_layer, local_layer, local_of, node_of, items_of, expressions_of_items, declarators_of, expressions_of_locals}
+use Rattle.dm_tree.specs.Views.{Opened, OpenedInitial, OpenedLocal, opened_form, view, view_of_local, form_layer, initial_layer, core_layer, local_layer, node_of, items_of, expressions_of_items, declarators_of, expressions_of_locals}
 use Rattle.dm_meaning.specs.States.{Task, declares}
-use Rattle.dm_meaning.specs.Statements.{declared_by, automatic_in, declarator_tasks, expressions_of, item_tasks, with_expressions}
+use Rattle.dm_meaning.specs.Statements.{declared_by, automatic_in, declarator_tasks, expressions_of, item_tasks}
 use Rattle.dm_meaning.specs.Programs.{Program}
 use Rattle.dm_program.specs.Initials.{view_of_initial}
 use Rattle.dm_program.proofs.FormLemmas.{opened-Declare}

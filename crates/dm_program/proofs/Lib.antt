@@ -1,4 +1,9 @@
+pub mod DefinitionLemmas
 pub mod FormLemmas
+pub mod GatherLemmas
 pub mod InitialLemmas
+pub mod ItemLemmas
 pub mod ProgramLemmas
 pub mod SortLemmas
+pub mod StaticsLemmas
+pub mod WalkLemmas

@@ -1,5 +1,5 @@
 -- What a program finds by number.
-use Rattle.std.proofs.Common.{◌≡◌, ℕ, ◌<◌, Bool, true, IsTrue, ◌&&◌, nat_lt, List, [], ◌∷◌, map, length, Option, Some, None, option_map, slice_get, zero, suc, Bor, refl, ap, sym, ◌∙◌}
+use Rattle.std.proofs.Common.{◌≡◌, ℕ, Bool, true, IsTrue, List, [], ◌∷◌, map, length, Option, Some, None, option_map, slice_get, zero, suc, Bor, ap, sym, ◌∙◌}
 use Rattle.std.specs.List.{list_all}
 use Rattle.std.specs.Option.{MatchOption, IfSome}
 use Rattle.std.proofs.lemmas.Bool.{and_parts, ltb-true}
@@ -7,7 +7,6 @@ use Rattle.std.proofs.lemmas.Option.{none-some, slice_get-map}
 use Rattle.dm_type.specs.Tables.{Table, IsId}
 use Rattle.dm_tree.specs.declared.unit.Declared.{Declared}
 use Rattle.dm_tree.specs.TypeNumbers.{entry_has_known}
-use Rattle.dm_tree.specs.Units.{Declaration}
 use Rattle.dm_tree.specs.Views.{view_of_declared}
 use Rattle.dm_meaning.specs.Programs.{declaration_at, definition_of}
 use Rattle.dm_program.specs.declared.function.Function.{Function}

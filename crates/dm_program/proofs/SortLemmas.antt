@@ -1,9 +1,9 @@
 -- The forms that statements and declarations have, and what all others have in common.
 --     Sorted table one      which of them a form is
 --     sorted      each form is one of them
-use Rattle.std.proofs.Common.{◌≡◌, ℕ, ℤ, false, List, [], ◌∷◌, Option, refl, ap, sym, subst, ◌∙◌}
+use Rattle.std.proofs.Common.{◌≡◌, ℕ, ℤ, false, List, [], ◌∷◌, Option, refl, sym, subst}
 use Rattle.dm_type.specs.CTypes.{CType}
-use Rattle.dm_type.specs.Tables.{Table, type_of}
+use Rattle.dm_type.specs.Tables.{Table}
 use Rattle.dm_tree.specs.declared.tree.Core.{Core}
 use Rattle.dm_tree.specs.declared.tree.Form.{Form, roll-Form}
 use Rattle.dm_tree.specs.declared.tree.Initial.{Initial}
@@ -17,7 +17,7 @@ use Rattle.dm_meaning.specs.Memory.{Memory}
 use Rattle.dm_meaning.specs.Operations.{Objects}
 use Rattle.dm_meaning.specs.Programs.{Program}
 use Rattle.dm_meaning.specs.States.{Task, begins, drops, ends}
-use Rattle.dm_meaning.specs.Statements.{Turned, onward, begin_form, declared_by_label, evaluation, has_case, has_default, item_tasks_by, start_task, unlabelled}
+use Rattle.dm_meaning.specs.Statements.{onward, begin_form, declared_by_label, evaluation, has_case, has_default, item_tasks_by, start_task, unlabelled}
 
 -- What the definition does with a label that is none of a statement that does something, and of no declaration.
 pub record IsInert (label : Label) : Type 0 where

@@ -2,9 +2,13 @@
 //! static storage duration, found by the numbers of their declarations.
 #![tactic(auto)]
 
+mod adding;
+mod definitions;
 mod fixed;
 mod function;
+mod gathering;
 mod program;
+mod statics;
 
 pub use fixed::Static;
 pub use function::Function;

@@ -1,20 +1,26 @@
 //! What a unit defines, by number.
 
-ghost use Rattle.std.specs.Prelude.{◌≡◌, MatchOption, None, Some, IsTrue, length, map};
+ghost use Rattle.std.specs.Prelude.{◌≡◌, All, IfOk, MatchOption, None, Some, IsTrue, length, map};
 ghost use Rattle.dm_meaning.specs.Programs as programs;
-ghost use Rattle.dm_meaning.specs.Units.{main_of};
-ghost use Rattle.dm_type.specs.Tables.{IsId};
-ghost use Rattle.dm_tree.specs.TypeNumbers.{are_known};
+ghost use Rattle.dm_meaning.specs.Units as units;
+ghost use Rattle.dm_type.specs.Tables.{Has, IsId};
+ghost use Rattle.dm_tree.specs.TypeNumbers as numbers;
+ghost use Rattle.dm_tree.specs.TypeNumbers.{are_known, IsTypedUnit};
 ghost use Rattle.dm_tree.specs.Views.{view, view_of_declared};
 ghost use Rattle.dm_program.specs.Functions.{view_of_function, FunctionFits};
 ghost use Rattle.dm_program.specs.Sources.{meant};
-ghost use Rattle.dm_program.specs.Statics.{view_of_static};
+ghost use Rattle.dm_program.specs.Statics.{view_of_static, StaticFits};
 
+use crate::definitions::{functions, main_of};
 use crate::fixed::Static;
 use crate::function::Function;
+use crate::statics::statics;
 use dm_layout::Layout;
+use dm_token::Memory;
 use dm_tree::{Core, CoreUnit, Declared, constant};
+use dm_type::{TypeId, Types};
 use dm_value::nth;
+use std::alloc::Global;
 use std::marker::Model;
 
 /// The program of a unit that defines `main`. Contracts see the unit and its types.
@@ -46,6 +52,30 @@ impl<'a> Model for Program<'a> {
 }
 
 impl<'a> Program<'a> {
+    /// The program of a typed unit. None exactly where the unit defines no `main`. In linear time, but for the layout of structs.
+    pub fn of(
+        alloc: Global,
+        unit: &'a CoreUnit,
+        types: &'a Types,
+    ) -> Result<Option<Program<'a>>, Memory>
+        requires { IsTypedUnit types.now unit.now }
+        ensures { IfOk result (λ made. MatchOption made (units.main_of (meant (record { table = types.now; unit = unit.now })) ≡ None) (λ program. program ≡ record { table = types.now; unit = unit.now })) }
+    {
+        let Some(main) = main_of(unit) else {
+            return Ok(None);
+        };
+        let layout = Layout::of(alloc, types)?;
+        let functions = functions(alloc, unit)?;
+        let statics = statics(alloc, unit)?;
+        Ok(Some(Program {
+            unit,
+            layout,
+            functions,
+            statics,
+            main,
+        }))
+    }
+
     /// How its types are laid out.
     pub fn layout(&self) -> &Layout<'a>
         ensures { result.now ≡ self.now.table }
@@ -74,7 +104,7 @@ impl<'a> Program<'a> {
 
     /// The definition of `main`.
     pub fn main(&self) -> Function<'a>
-        ensures main { main_of (meant self.now) ≡ Some (view_of_function self.now.table result) }
+        ensures main { units.main_of (meant self.now) ≡ Some (view_of_function self.now.table result) }
         ensures fits { FunctionFits self.now result }
     {
         self.main
@@ -82,9 +112,17 @@ impl<'a> Program<'a> {
 
     /// The objects of static storage duration, in order.
     pub fn statics(&self) -> &[Static<'a>]
-        ensures { map (view_of_static self.now.table) result.now ≡ (meant self.now).statics }
+        ensures same { map (view_of_static self.now.table) result.now ≡ (meant self.now).statics }
+        ensures fit { All (StaticFits self.now) result.now }
     {
         self.statics.as_slice()
+    }
+
+    /// The type of the object to which `argv` points at the beginning of a run.
+    pub fn argv_kind(&self) -> TypeId
+        ensures { Has self.now.table result numbers.argv_kind }
+    {
+        self.unit.argv
     }
 
     /// The value of an integer constant expression (6.6p6).

@@ -7,7 +7,7 @@ use Rattle.dm_meaning.specs.Running.{Run}
 use Rattle.dm_memory.specs.Blocks.{AreKnown}
 use Rattle.dm_expression.specs.Standing.{Lacks}
 use Rattle.dm_frame.specs.Frames.{FrameFits}
-use Rattle.dm_frame.specs.Tasks.{TreeFits, UseFits}
+use Rattle.dm_frame.specs.Tasks.{ExpressionFits, UseFits}
 use Rattle.dm_state.specs.declared.full.Full.{Full}
 use Rattle.dm_state.specs.declared.full.Full.TheVariants.{Begins, Goes}
 use Rattle.dm_state.specs.declared.full.Ongoing.{Ongoing}
@@ -24,7 +24,7 @@ pub record OngoingFits (table : Table) (one : Ongoing) : Type 0 where
 
 abbrev pub FullFits : Table → Option Full → Type 0
 FullFits table None = Unit {0}
-FullFits table (Some (Begins begun)) = TreeFits table begun.tree.now × UseFits table begun.use_of
+FullFits table (Some (Begins begun)) = ExpressionFits table begun.tree.now × UseFits table begun.use_of
 FullFits table (Some (Goes one)) = OngoingFits table one
 
 pub record CallerFits (table : Table) (one : Caller) : Type 0 where

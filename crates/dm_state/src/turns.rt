@@ -3,25 +3,30 @@
 ghost use Rattle.std.specs.Prelude.{◌≡◌, ◌≤◌, ◌++◌, ◌∷◌, ℕ, List, None, length, IfOk, OnOk};
 ghost use Rattle.dm_type.specs.Tables.{Table};
 ghost use Rattle.dm_tree.specs.Views.{view, view_of_local};
+ghost use Rattle.dm_layout.specs.Kinds.{type_of_object, IsKnownType};
 ghost use Rattle.dm_meaning.specs.Choices.{in_order};
 ghost use Rattle.dm_meaning.specs.States as states;
 ghost use Rattle.dm_meaning.specs.Statements as statements;
 ghost use Rattle.dm_meaning.specs.Steps.{turned};
 ghost use Rattle.dm_memory.specs.Blocks.{view_of_blocks, AreKnown};
+ghost use Rattle.dm_value.specs.Places.{view_of_at};
+ghost use Rattle.dm_program.specs.Initials.{view_of_initial};
 ghost use Rattle.dm_program.specs.Sources.{meant};
 ghost use Rattle.dm_frame.specs.declared.frame.Frame.{Frame as AnyFrame};
 ghost use Rattle.dm_frame.specs.Frames.{tasks_of, FrameFits};
-ghost use Rattle.dm_frame.specs.Tasks.{kept, view_of_begun, BegunFits, LocalFits, TasksFit, TreeFits};
+ghost use Rattle.dm_frame.specs.Tasks.{kept, view_of_begun, BegunFits, InitialFits, LocalFits, TasksFit, TreeFits};
 ghost use Rattle.dm_state.specs.Fits.{FullFits, CallersFit, RunningFits};
 ghost use Rattle.dm_state.specs.Turns.{state_with, IsAfter};
 ghost use Rattle.dm_state.specs.Views.{tasks_with};
 
 use crate::full::Full;
 use crate::running::Running;
-use dm_frame::{Begun, begin_statement};
+use dm_frame::{Begun, begin_initialiser, begin_statement};
+use dm_layout::ObjectType;
 use dm_program::Program;
 use dm_token::Memory;
-use dm_tree::{Core, Local};
+use dm_tree::{Core, Initial, Local};
+use dm_value::At;
 use std::alloc::Global;
 
 /// What begins is under evaluation.
@@ -62,6 +67,34 @@ impl<'a> Running<'a> {
             (view_of_local program.now.table local.now).declarator (view_of_local program.now.table local.now).expressions))) }
     {
         self.frame.begin_declarator(program, local)?;
+        Ok(())
+    }
+
+    /// An initialiser begins, of an object or a part of one.
+    pub fn initialise(
+        &mut self,
+        alloc: Global,
+        program: &Program<'a>,
+        at: At,
+        kind: ObjectType,
+        initial: &'a Initial,
+    ) -> Result<(), Memory>
+        requires none { self.old.full ≡ None }
+        requires fits { RunningFits program.now.table self.old × IsKnownType program.now.table kind × InitialFits program.now.table initial.now }
+        ensures { let one = view_of_initial program.now.table initial.now in OnOk result ((tasks : List states.Task) → IsAfter program.now.table self.new (turned (state_with program.now.table tasks self.old)
+            (statements.begin_initialiser (meant program.now) self.old.frame.objects (tasks_of program.now.table self.old.frame) (view_of_blocks program.now.table self.old.blocks)
+            (view_of_at at) (type_of_object program.now.table kind) one.initialiser one.expressions))) }
+    {
+        let started = begin_initialiser(
+            alloc,
+            program,
+            &mut self.frame,
+            &mut self.blocks,
+            at,
+            kind,
+            initial,
+        )?;
+        self.full = full_of(started);
         Ok(())
     }
 

@@ -2,10 +2,13 @@
 --     are_known count tree      each number of a type in the tree is below the count
 --     IsTypedTree scene tree      the tree is well typed in a scene, whose table gave its types
 --     IsTypedIn types declared tree      it is so in some scene of these types and declarations
+--     argv_kind      the type of the object to which `argv` points at the beginning of a run
 --     IsTypedUnit types unit      the unit is well typed, and the table gave its types
 use Rattle.std.specs.Prelude.{◌≡◌, ℕ, Bool, true, ◌&&◌, nat_lt, IsTrue, List, length, Option, Some, None}
 use Rattle.std.specs.List.{list_all}
-use Rattle.dm_type.specs.Tables.{Table}
+use Rattle.dm_int.specs.declared.Kind.TheVariants.{Char}
+use Rattle.dm_type.specs.CTypes.{CType, integer, pointer, array}
+use Rattle.dm_type.specs.Tables.{Table, Has}
 use Rattle.dm_tree.specs.declared.tree.Core.{Core}
 use Rattle.dm_tree.specs.declared.tree.Form.{Form}
 use Rattle.dm_tree.specs.declared.tree.Form.TheOpen as layer
@@ -112,8 +115,13 @@ external_has_known types one = list_all (are_known types) one.constants && form_
 abbrev pub entry_has_known : ℕ → Declared → Bool
 entry_has_known types entry = nat_lt entry.kind types
 
+-- the type of the object to which `argv` points when `main` is called without arguments: one null pointer (5.1.2.2.1p2)
+abbrev pub argv_kind : CType
+argv_kind = array (pointer (integer Char)) (Some 1)
+
 -- the unit is well typed, and the table gave its types
 pub record IsTypedUnit (types : Table) (one : CoreUnit) : Type 0 where
+  pub argv : Has types one.argv argv_kind
   pub known_in_entries : IsTrue (list_all (entry_has_known (length types.shapes)) one.declared)
   pub known_in_trees : IsTrue (list_all (external_has_known (length types.shapes)) one.externals)
   pub typed : IsWellTypedUnit types (view_of_unit types one)

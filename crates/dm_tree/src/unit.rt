@@ -5,6 +5,8 @@ use dm_type::TypeId;
 /// A translation unit (6.9): what its declarations declare, and the external declarations in order.
 #[derive(Drop)]
 pub struct CoreUnit {
+    /// The type `char *[1]`: that of the object to which `argv` points at the beginning of a run (5.1.2.2.1p2).
+    pub argv: TypeId,
     /// Redeclarations of one entity with linkage share one entry, whose place is that of the first.
     pub declared: List<Declared>,
     pub externals: List<CoreExternal>,

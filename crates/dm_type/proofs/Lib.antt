@@ -1,4 +1,5 @@
 pub mod DistinctLemmas
+pub mod NamingLemmas
 pub mod SoundLemmas
 pub mod LayoutLemmas
 pub mod ComparisonLemmas

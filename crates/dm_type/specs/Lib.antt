@@ -4,6 +4,7 @@ pub mod EqualLaws
 pub mod Hashing
 pub mod Comparing
 pub mod Layouts
+pub mod Naming
 pub mod Sound
 pub mod Spelling
 pub mod TableLaws

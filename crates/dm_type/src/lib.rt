@@ -6,6 +6,7 @@ mod alike;
 mod compose;
 mod declarator;
 mod layout;
+mod members;
 mod shape;
 mod sizes;
 mod spell;
@@ -13,5 +14,6 @@ mod spell;
 mod tests;
 mod types;
 
+pub use members::Members;
 pub use shape::{Member, Shape, TypeId};
 pub use types::Types;

@@ -3,6 +3,7 @@
 ghost use Rattle.std.specs.Prelude.{◌≡◌};
 
 use crate::layout::Layout;
+use crate::members::Members;
 use dm_int::Kind;
 use dm_token::{List, Text};
 use std::hash::{Hash, Hasher};
@@ -102,15 +103,15 @@ pub struct Member {
 }
 
 /// What stands between the braces of a struct.
-#[derive(Debug, PartialEq, Eq, Drop)]
+#[derive(Drop)]
 pub(crate) struct Content {
-    pub members: List<Member>,
+    pub members: Members,
     /// None where it takes more bytes than the greatest size.
     pub layout: Option<Layout>,
 }
 
 /// A struct type. It is incomplete as long as it has no content.
-#[derive(Debug, PartialEq, Eq, Drop)]
+#[derive(Drop)]
 pub(crate) struct Struct {
     pub tag: Option<Text>,
     pub content: Option<Content>,

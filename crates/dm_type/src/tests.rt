@@ -7,7 +7,7 @@ ghost use Rattle.std.specs.Prelude.{◌↔◌, IsTrue, IsSome, All};
 ghost use Rattle.dm_type.specs.Tables as tables;
 ghost use Rattle.dm_type.specs.Layouts as layouts;
 
-use crate::{Member, Shape, TypeId, Types};
+use crate::{Member, Members, Shape, TypeId, Types};
 use dm_int::Kind;
 use dm_token::{List, Memory, Text};
 use std::alloc::Global;
@@ -301,7 +301,7 @@ fn struct_with(
     rt: &impl Abort,
     types: &mut Types,
     tag: Option<Text>,
-    members: List<Member>,
+    members: Members,
 ) -> Result<u32, Memory> {
     assert!(rt; types.structs.len() < 1_000_000);
     let number = types.new_struct(tag)?;
@@ -315,12 +315,17 @@ fn struct_with(
     Ok(number)
 }
 
-/// A member of the type, whose name doesn't matter.
-fn member(alloc: Global, kind: TypeId) -> Result<Member, Memory> {
-    Ok(Member {
-        name: Text::new(alloc, "m")?,
-        kind,
-    })
+/// One member more of the type, whose name says its number.
+fn put_member(
+    rt: &impl Abort,
+    alloc: Global,
+    members: &mut Members,
+    kind: TypeId,
+) -> Result<(), Memory> {
+    let name = format!(in alloc; "m{}", members.items().len())?;
+    let name = Text::new(alloc, name.as_str())?;
+    assert!(rt; members.push(Member { name, kind })?);
+    Ok(())
 }
 
 /// The members in postfix notation.
@@ -329,11 +334,11 @@ fn members_of(
     alloc: Global,
     types: &mut Types,
     text: &str,
-) -> Result<List<Member>, Memory> {
-    let mut members = List::new(alloc);
+) -> Result<Members, Memory> {
+    let mut members = Members::new(alloc);
     for word in text.split(", ") {
         let kind = type_of(rt, alloc, types, word)?;
-        members.push(member(alloc, kind)?)?;
+        put_member(rt, alloc, &mut members, kind)?;
     }
     Ok(members)
 }
@@ -519,8 +524,8 @@ fn structs_of_one_tag_are_apart_and_hidden_ones_have_no_spelling(
 fn nested(rt: &impl Abort, alloc: Global, types: &mut Types) -> Result<TypeId, Memory> {
     let mut id = type_of(rt, alloc, types, "i")?;
     for _ in 0..100_000 {
-        let mut members = List::new(alloc);
-        members.push(member(alloc, id)?)?;
+        let mut members = Members::new(alloc);
+        put_member(rt, alloc, &mut members, id)?;
         let number = struct_with(rt, types, None, members)?;
         id = made(rt, types, Shape::Struct(number))?;
     }
@@ -583,5 +588,33 @@ fn a_hundred_thousand_structs_inside_each_other_have_sizes(rt: HostRuntime) -> R
     let id = nested(&rt, rt.alloc(), &mut types)?;
     assert!(rt; is_known(&types, id));
     assert_eq!(rt; types.size(id), Some(4));
+    Ok(())
+}
+
+#[test]
+fn members_are_found_by_their_names(rt: HostRuntime) -> Result<(), Fail> {
+    let mut types = Types::new(rt.alloc())?;
+    let members = members_of(&rt, rt.alloc(), &mut types, "i, c, l")?;
+    let number = struct_with(&rt, &mut types, None, members)?;
+    let wanted = type_of(&rt, rt.alloc(), &mut types, "c")?;
+    let one = Text::new(rt.alloc(), "m1")?;
+    let none = Text::new(rt.alloc(), "m3")?;
+    assert!(rt; (number as usize) < types.structs.len());
+    assert!(rt; types.member(number, &none).is_none());
+    let Some((at, member)) = types.member(number, &one) else {
+        panic!(rt; "not found");
+    };
+    assert_eq!(rt; (at, member.kind), (1, wanted));
+    Ok(())
+}
+
+#[test]
+fn a_name_is_taken_once(rt: HostRuntime) -> Result<(), Fail> {
+    let mut types = Types::new(rt.alloc())?;
+    let mut members = members_of(&rt, rt.alloc(), &mut types, "i, c, l")?;
+    let name = Text::new(rt.alloc(), "m2")?;
+    let kind = type_of(&rt, rt.alloc(), &mut types, "i")?;
+    assert_eq!(rt; members.push(Member { name, kind })?, false);
+    assert_eq!(rt; members.items().len(), 3);
     Ok(())
 }

@@ -1,15 +1,17 @@
 //! The types of a translation unit by number.
 
-ghost use Rattle.std.specs.Prelude.{◌≡◌, ◌<◌, ◌≤◌, ℕ, [], ◌≢◌, None, Some, All, length, is_some, IsOk, slice_get, slice_index_or, IfOk, IfSome, OnOk, OnErr};
+ghost use Rattle.std.specs.Prelude.{◌≡◌, ◌<◌, ◌≤◌, ℕ, [], ◌≢◌, None, Some, All, length, is_some, IsOk, slice_get, slice_index_or, option_map, option_and_then, IfOk, IfSome, OnOk, OnErr};
 ghost use Rattle.std.specs.Option.{option_copied};
 ghost use Rattle.dm_type.specs.Tables as tables;
 ghost use Rattle.dm_type.specs.Layouts as layouts;
 ghost use Rattle.dm_type.specs.Sound as sound;
 ghost use Rattle.dm_type.specs.CTypes.{with_const};
+ghost use Rattle.dm_type.specs.Naming.{member_named};
 ghost use Rattle.dm_type.specs.Wraps.{arrayed, IsNoArray};
 
+use crate::members::Members;
 use crate::shape::{Content, Member, Shape, Struct, TypeId};
-use dm_token::{List, Memory, Text};
+use dm_token::{Memory, Text};
 use indexmap::IndexSet;
 use std::alloc::Global;
 use std::marker::Model;
@@ -230,7 +232,7 @@ impl Types {
     }
 
     /// Gives a struct its members, in their order. It takes no memory.
-    pub fn set_members(&mut self, number: u32, members: List<Member>) -> Result<(), Memory>
+    pub fn set_members(&mut self, number: u32, members: Members) -> Result<(), Memory>
         requires number { number < length self.old.structs }
         requires unset { tables.members_of self.old number ≡ None }
         requires some { members ≢ [] }
@@ -260,6 +262,16 @@ impl Types {
     {
         let content = self.content(number)?;
         Some(content.members.items())
+    }
+
+    /// The member of a name, and its number, from 0 on, if the struct's members are set and one of them has it.
+    pub fn member(&self, number: u32, name: &Text) -> Option<(u32, &Member)>
+        requires { number < length self.now.structs }
+        ensures found { option_map (λ found. (found.0, found.1.now)) result ≡ option_and_then (member_named name.now 0) (tables.members_of self.now number) }
+        ensures typed { IfSome result (λ found. tables.IsId self.now found.1.now.kind) }
+    {
+        let content = self.content(number)?;
+        content.members.find(name)
     }
 
     /// What stands between the braces of a struct, if that is known.

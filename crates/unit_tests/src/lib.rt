@@ -6,6 +6,8 @@ mod declared;
 #[cfg(test)]
 mod entries;
 #[cfg(test)]
+mod readings;
+#[cfg(test)]
 mod refusals;
 #[cfg(test)]
 mod sizes;

@@ -104,6 +104,8 @@ const INITIALISERS: &str = "int a [ ] = { | 1 , | | | } ;";
 
 const MEMBERS: &str = "struct S { | int m# ; | | | } s ; char a [ sizeof s ] ;";
 
+const MEMBERS_USED: &str = "struct S { | int m# ; | } x ; void f ( void ) { | x . m# ; | }";
+
 const LABELS: &str = "void f ( int a ) { switch ( a ) { | case # : ; | | | } }";
 
 const STATEMENTS: &str = "void f ( int a ) { | a = 1 ; | | | }";
@@ -174,6 +176,12 @@ fn types_50_000_members(rt: HostRuntime) -> Result<(), Fail> {
 #[test]
 fn types_100_000_members(rt: HostRuntime) -> Result<(), Fail> {
     assert_eq!(rt; sizes(rt.alloc(), MEMBERS, 100_000)?.as_str(), "3 in 2");
+    Ok(())
+}
+
+#[test]
+fn types_50_000_members_each_used_once(rt: HostRuntime) -> Result<(), Fail> {
+    assert_eq!(rt; sizes(rt.alloc(), MEMBERS_USED, 50_000)?.as_str(), "3 in 2");
     Ok(())
 }
 

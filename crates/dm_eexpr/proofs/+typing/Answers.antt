@@ -227,7 +227,7 @@ syntax::fields_of-returns-in_err-made t c =
     let reached = says c.args.known.now c.loop-member.known (λ later. fields_of (setting_of c.args.typer.now) c.args.used (known_over later c.args.known.now) [] (syntax.members (map syntax.member_form c.args.members.now))) (λ later. fields_of (setting_of c.args.typer.now) c.args.used (known_over later c.loop-member.known) (fields_over later c.loop-member.fields) (syntax.members (map syntax.member_form (drop c.loop-member.member-index c.args.members.now)))) (λ later. after (fields_declared (setting_of c.args.typer.now) c.args.used (known_over later c.loop-member.known) (fields_over later c.loop-member.fields) (syntax.member_form c.member-item.result)) ((λ (later : List Shape) (behind : Known) (so_far : List TypedMember). fields_of (setting_of c.args.typer.now) c.args.used behind so_far (syntax.members (map syntax.member_form (drop (c.loop-member.member-index + 1) c.args.members.now)))) later)) c.loop-member.invariant.0
     (λ later on. ap (λ items. fields_of (setting_of c.args.typer.now) c.args.used (known_over later c.loop-member.known) (fields_over later c.loop-member.fields) (syntax.members (map syntax.member_form items))) (cut c.args.members.now c.loop-member.member-index c.member-item.result c.loop-member-test.true c.member-item.is)
     ∙ fields-next (setting_of c.args.typer.now) c.args.used (known_over later c.loop-member.known) (fields_over later c.loop-member.fields) (syntax.member_form c.member-item.result) (syntax.members (map syntax.member_form (drop (c.loop-member.member-index + 1) c.args.members.now)))) in
-    relays FieldsFit fields_over (source_of c.args.typer.now) c.args.known.now c.fields_declared.new.known (λ later. fields_of (setting_of c.args.typer.now) c.args.used (known_over later c.args.known.now) [] (syntax.members (map syntax.member_form c.args.members.now))) c.from_residual-in_err-made.result c.in_err-made.field-0.0 c.from_residual-in_err-made.ensures.1
+    relays FieldsFit fields_over (source_of c.args.typer.now) c.args.known.now c.fields_declared.new.known (λ later. fields_of (setting_of c.args.typer.now) c.args.used (known_over later c.args.known.now) [] (syntax.members (map syntax.member_form c.args.members.now))) c.from_residual.result c.in_err-made.field-0.0 c.from_residual.ensures.1
     (fails FieldsFit fields_over (source_of c.args.typer.now) c.args.known.now c.loop-member.known c.fields_declared.new.known (λ later. fields_of (setting_of c.args.typer.now) c.args.used (known_over later c.args.known.now) [] (syntax.members (map syntax.member_form c.args.members.now))) FieldsFit fields_over (λ later. fields_declared (setting_of c.args.typer.now) c.args.used (known_over later c.loop-member.known) (fields_over later c.loop-member.fields) (syntax.member_form c.member-item.result)) (λ (later : List Shape) (behind : Known) (so_far : List TypedMember). fields_of (setting_of c.args.typer.now) c.args.used behind so_far (syntax.members (map syntax.member_form (drop (c.loop-member.member-index + 1) c.args.members.now)))) c.in_err-made.field-0.0 reached c.in_err-made.ensures)
 
 pub syntax::fields_of-loop-member-preserved : goal.syntax::fields_of-loop-member-preserved
@@ -450,14 +450,10 @@ syntax::fields_declared-returns t c =
 
 pub syntax::fields_of-loop-member-init : goal.syntax::fields_of-loop-member-init
 syntax::fields_of-loop-member-init t c = (
-  begins c.args.known.now (λ later. fields_of (setting_of c.args.typer.now) c.args.used (known_over later c.args.known.now) [] (syntax.members (map syntax.member_form c.args.members.now))) (λ later. fields_of (setting_of c.args.typer.now) c.args.used (known_over later c.args.known.now) (fields_over later c.in_ok-fields.fields) (syntax.members (map syntax.member_form c.args.members.now)))
-      (λ later. ap (λ members. fields_of (setting_of c.args.typer.now) c.args.used (known_over later c.args.known.now) (map (member_over later) members) (syntax.members (map syntax.member_form c.args.members.now))) (sym c.in_ok-fields.ensures)),
-  subst (All (MemberFits c.args.known.now.types)) (sym c.in_ok-fields.ensures) (All-nil (MemberFits c.args.known.now.types)),
+  begins c.args.known.now (λ later. fields_of (setting_of c.args.typer.now) c.args.used (known_over later c.args.known.now) [] (syntax.members (map syntax.member_form c.args.members.now))) (λ later. fields_of (setting_of c.args.typer.now) c.args.used (known_over later c.args.known.now) (fields_over later c.new-fields.result) (syntax.members (map syntax.member_form c.args.members.now)))
+      (λ later. ap (λ members. fields_of (setting_of c.args.typer.now) c.args.used (known_over later c.args.known.now) (map (member_over later) members) (syntax.members (map syntax.member_form c.args.members.now))) (sym c.new-fields.ensures)),
+  subst (All (MemberFits c.args.known.now.types)) (sym c.new-fields.ensures) (All-nil (MemberFits c.args.known.now.types)),
 )
-
-pub syntax::fields_of-returns-in_err-fields : goal.syntax::fields_of-returns-in_err-fields
-syntax::fields_of-returns-in_err-fields t c =
-    runs-out FieldsFit fields_over (source_of c.args.typer.now) c.args.known.now c.args.known.now (λ later. fields_of (setting_of c.args.typer.now) c.args.used (known_over later c.args.known.now) [] (syntax.members (map syntax.member_form c.args.members.now))) c.from_residual.result (begins-itself c.args.known.now.types.shapes) c.from_residual.ensures.1
 
 pub syntax::word_said-returns-in_ok-made-in-Word : goal.syntax::word_said-returns-in_ok-made-in-Word
 syntax::word_said-returns-in_ok-made-in-Word t c =

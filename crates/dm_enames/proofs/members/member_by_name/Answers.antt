@@ -25,7 +25,7 @@ returns-in_ok-made-in-Some-clause-found c = λ later begins.
     ∙ sym (by-name known name (view_over later core) (type_of old.types kind) c.is_lvalue-whole_is_lvalue.result c.is_const-whole_is_const.result (Some (member_over later c.in-Some.one))
     (kind-later shapes later core at c.requires) (sym (c.is_lvalue-whole_is_lvalue.ensures (record { shapes = later; structs = [] }))) (sym c.is_const-whole_is_const.ensures)
     (ap (λ type. member_of_struct known name (bare type)) (sym (type-later shapes later kind at (kind-known (length shapes) core c.requires)))
-    ∙ (sym (c.in_ok-found.ensures.found later at) ∙ ap (option_map (member_over later)) c.in-Some.is)))
+    ∙ (sym (c.member_of_struct-found.ensures.found later at) ∙ ap (option_map (member_over later)) c.in-Some.is)))
 
 pub returns-in-None-clause-found : goal.returns-in-None-clause-found
 returns-in-None-clause-found c = λ later begins.
@@ -38,4 +38,4 @@ returns-in-None-clause-found c = λ later begins.
     sym (by-name known name (view_over later core) (type_of old.types kind) c.is_lvalue-whole_is_lvalue.result c.is_const-whole_is_const.result None
     (kind-later shapes later core begins c.requires) (sym (c.is_lvalue-whole_is_lvalue.ensures (record { shapes = later; structs = [] }))) (sym c.is_const-whole_is_const.ensures)
     (ap (λ type. member_of_struct known name (bare type)) (sym (type-later shapes later kind begins (kind-known (length shapes) core c.requires)))
-    ∙ (sym (c.in_ok-found.ensures.found later begins) ∙ ap (option_map (member_over later)) c.in-None.is)))
+    ∙ (sym (c.member_of_struct-found.ensures.found later begins) ∙ ap (option_map (member_over later)) c.in-None.is)))

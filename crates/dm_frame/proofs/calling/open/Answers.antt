@@ -16,6 +16,7 @@ use Rattle.dm_frame.specs.declared.task.Task.TheVariants as task
 use Rattle.dm_frame.specs.Calling.{IsGiven}
 use Rattle.dm_frame.specs.Tasks.{view_of_tasks, TasksFit}
 use Rattle.dm_frame.proofs.CallLemmas.{opened-so}
+use Rattle.dm_frame.proofs.FitLemmas.{trees-fit}
 use Rattle.dm_frame.proofs.calling.open.Goals as goal
 
 abbrev framed : ℕ → Objects → List states.Task → states.Frame
@@ -52,4 +53,5 @@ pub returns-clause-fits : goal.returns-clause-fits
 returns-clause-fits c =
     let one = c.args.function in
     let left : c.push.new.self ≡ task.Items one.items ∷ [] = c.in_ok-push.ensures.ok ∙ ap (λ (rest : List Task). task.Items one.items ∷ rest) c.new-tasks.ensures in
-    subst (TasksFit c.args.program.now.table (length c.enter.new.objects)) (sym left) (c.requires.function.known_items, tt)
+    let fits = trees-fit c.args.program.now.table one.items.now c.requires.function.known_items c.requires.function.whole_items in
+    subst (TasksFit c.args.program.now.table (length c.enter.new.objects)) (sym left) (fits, tt)

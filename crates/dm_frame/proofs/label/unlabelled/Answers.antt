@@ -1,14 +1,11 @@
 -- A statement without a label is the one behind its labels.
-use Rattle.std.proofs.Common.{IsTrue, length, ap, sym, subst, ◌∙◌}
-use Rattle.std.proofs.lemmas.Bool.{and_parts}
-use Rattle.dm_tree.proofs.ViewLemmas.{known-form}
+use Rattle.std.proofs.Common.{ap, sym, subst, ◌∙◌}
 use Rattle.dm_tree.specs.declared.tree.Core.{Core}
-use Rattle.dm_tree.specs.TypeNumbers.{are_known_in_form}
 use Rattle.dm_tree.specs.Views.{view}
 use Rattle.dm_meaning.specs.Statements as statements
 use Rattle.dm_frame.specs.Tasks.{TreeFits}
-use Rattle.dm_program.proofs.FormLemmas.{known-Case, known-Default}
 use Rattle.dm_frame.proofs.BeginLemmas.{unlabelled-Case, unlabelled-Default, unlabelled-other}
+use Rattle.dm_frame.proofs.FitLemmas.{fits-Case, fits-Default, form-is}
 use Rattle.dm_frame.proofs.label.unlabelled.Goals as goal
 
 pub returns-in_default : goal.returns-in_default
@@ -23,9 +20,8 @@ loop-at-preserved-in-Case c = (
       ap (λ (core : Core). statements.unlabelled (view table core)) c.get-at.ensures
       ∙ (sym (unlabelled-Case table c.loop-at.at.now c.in-Case.field-0 c.in-Case.statement c.in-Case.is) ∙ c.loop-at.invariant.0 table),
   λ table fits.
-      let n = length table.shapes in
       subst (TreeFits table) (sym c.get-at.ensures)
-      (and_parts _ _ (sym (known-Case n c.in-Case.field-0 c.in-Case.statement) ∙ (ap (are_known_in_form n) (sym c.in-Case.is) ∙ known-form n c.loop-at.at.now (c.loop-at.invariant.1 table fits)))).1,
+      (fits-Case table c.in-Case.field-0 c.in-Case.statement (form-is table c.loop-at.at.now _ c.in-Case.is (c.loop-at.invariant.1 table fits))).1,
 )
 
 pub loop-at-preserved : goal.loop-at-preserved
@@ -34,7 +30,6 @@ loop-at-preserved c = (
       ap (λ (core : Core). statements.unlabelled (view table core)) c.get-at-in-Default.ensures
       ∙ (sym (unlabelled-Default table c.loop-at.at.now c.in-Default.statement c.in-Default.is) ∙ c.loop-at.invariant.0 table),
   λ table fits.
-      let n = length table.shapes in
       subst (TreeFits table) (sym c.get-at-in-Default.ensures)
-      (sym (known-Default n c.in-Default.statement) ∙ (ap (are_known_in_form n) (sym c.in-Default.is) ∙ known-form n c.loop-at.at.now (c.loop-at.invariant.1 table fits))),
+      (fits-Default table c.in-Default.statement (form-is table c.loop-at.at.now _ c.in-Default.is (c.loop-at.invariant.1 table fits))),
 )

@@ -9,7 +9,7 @@ use Rattle.dm_program.specs.Sources.{meant}
 use Rattle.dm_frame.specs.declared.task.Task.TheVariants as task
 use Rattle.dm_frame.specs.Entering.{IsEntered}
 use Rattle.dm_frame.specs.Frames.{tasks_of}
-use Rattle.dm_frame.specs.Tasks.{tree_or_none, view_of_begun, view_of_loop, view_of_tasks, OptionFits, TasksFit}
+use Rattle.dm_frame.specs.Tasks.{tree_or_none, view_of_begun, view_of_loop, view_of_tasks, FitsIfThere, StartFits, TasksFit}
 use Rattle.dm_frame.proofs.BeginLemmas.{ends-fit, ends-led, tests-fit, tests-led}
 use Rattle.dm_frame.proofs.BlockLemmas.{for-begun, none-lost}
 use Rattle.dm_frame.proofs.statement.begin_for.Goals as goal
@@ -57,7 +57,7 @@ returns-in_ok-begun-in-Some-clause-left c =
     c.in_ok-begun-in-Some.ensures.same table
     ∙ (ap (λ objects. start_tasks (Some (view table first)) ++ view_of_tasks table objects tested.tasks) c.in_ok-tests-in-Some.ensures.objects
     ∙ ap (λ all. start_tasks (Some (view table first)) ++ view_of_tasks table named all) tasks) in
-    let known = subst (OptionFits table) c.in-Some.is c.requires.start in
+    let known = subst (FitsIfThere (StartFits table)) c.in-Some.is c.requires.start in
     let fits = c.in_ok-begun-in-Some.ensures.fits table
     (subst (λ objects. TasksFit table (length objects) tested.tasks) (sym c.in_ok-tests-in-Some.ensures.objects)
     (subst (TasksFit table (length named)) (sym tasks)

@@ -1,46 +1,42 @@
 -- A statement begins behind its labels.
 use Rattle.std.proofs.Common.{◌≡◌, ℕ, IsTrue, List, length, map, option_map, refl, ap, sym, subst, ◌∙◌}
-use Rattle.std.proofs.lemmas.Bool.{and_parts}
-use Rattle.dm_tree.proofs.ViewLemmas.{known-form}
 use Rattle.dm_tree.specs.declared.tree.Core.{Core}
 use Rattle.dm_tree.specs.Trees.{block}
-use Rattle.dm_tree.specs.TypeNumbers.{are_known_in_form}
 use Rattle.dm_tree.specs.Views.{opened_form, view}
 use Rattle.dm_memory.specs.Blocks.{view_of_blocks}
 use Rattle.dm_meaning.specs.Choices.{in_order}
 use Rattle.dm_meaning.specs.Statements.{begin_for, begin_form, loop_with}
 use Rattle.dm_program.specs.Sources.{meant}
-use Rattle.dm_program.proofs.FormLemmas.{known-Block, known-For, opened-Block, opened-For}
+use Rattle.dm_program.proofs.FormLemmas.{opened-Block, opened-For}
 use Rattle.dm_program.proofs.InitialLemmas.{listed-trees}
 use Rattle.dm_frame.specs.Frames.{tasks_of}
-use Rattle.dm_frame.specs.Tasks.{tree_or_none, view_of_loop, TreeFits, TreesFit}
+use Rattle.dm_frame.specs.Tasks.{tree_or_none, view_of_loop, ExpressionFits, StartFits, TreeFits, TreesFit}
 use Rattle.dm_frame.proofs.BlockLemmas.{for-parts, statement-form}
+use Rattle.dm_frame.proofs.FitLemmas.{fits-Block, fits-For, form-fits, form-is, inside-fits}
 use Rattle.dm_frame.proofs.statement.begin_statement.Goals as goal
 
 pub begin_block-requires-clause-items : goal.begin_block-requires-clause-items
 begin_block-requires-clause-items c =
     let table = c.args.program.now.table in
-    let n : ℕ = length table.shapes in
-    let known = known-form n c.unlabelled-statement.result.now (c.unlabelled-statement.ensures.fits table c.requires.tree) in
-    subst (TreesFit table) (sym c.items.ensures) (sym (known-Block n c.in-Block.items) ∙ (ap (are_known_in_form n) (sym c.in-Block.is) ∙ known))
+    let fits = c.unlabelled-statement.ensures.fits table c.requires.tree in
+    subst (TreesFit table) (sym c.items.ensures) (fits-Block table c.in-Block.items (form-is table c.unlabelled-statement.result.now _ c.in-Block.is fits))
 
 pub begin_for-requires-clause-start : goal.begin_for-requires-clause-start
 begin_for-requires-clause-start c =
     let table = c.args.program.now.table in
-    let n : ℕ = length table.shapes in
-    let known = known-form n c.unlabelled-statement.result.now (c.unlabelled-statement.ensures.fits table c.requires.tree) in
-    let parts = and_parts _ _ (sym (known-For n c.in-For.start c.in-For.condition c.in-For.after c.in-For.body) ∙ (ap (are_known_in_form n) (sym c.in-For.is) ∙ known)) in
-    c.inside-in-For-2.ensures.fits table parts.0
+    let fits = c.unlabelled-statement.ensures.fits table c.requires.tree in
+    let parts = fits-For table c.in-For.start c.in-For.condition c.in-For.after c.in-For.body (form-is table c.unlabelled-statement.result.now _ c.in-For.is fits) in
+    inside-fits (StartFits table) c.in-For.start c.inside-in-For-2.result c.inside-in-For-2.ensures.inside parts.0
 
 pub begin_for-requires-clause-repeated : goal.begin_for-requires-clause-repeated
 begin_for-requires-clause-repeated c =
     let table = c.args.program.now.table in
-    let n : ℕ = length table.shapes in
-    let known = known-form n c.unlabelled-statement.result.now (c.unlabelled-statement.ensures.fits table c.requires.tree) in
-    let parts = and_parts _ _ (sym (known-For n c.in-For.start c.in-For.condition c.in-For.after c.in-For.body) ∙ (ap (are_known_in_form n) (sym c.in-For.is) ∙ known)) in
-    let second = and_parts _ _ parts.1 in
-    let third = and_parts _ _ second.1 in
-    (c.inside.ensures.fits table second.0, c.inside-in-For.ensures.fits table third.0, subst (TreeFits table) (sym c.get.ensures) third.1)
+    let fits = c.unlabelled-statement.ensures.fits table c.requires.tree in
+    let parts = fits-For table c.in-For.start c.in-For.condition c.in-For.after c.in-For.body (form-is table c.unlabelled-statement.result.now _ c.in-For.is fits) in (
+      inside-fits (ExpressionFits table) c.in-For.condition c.inside.result c.inside.ensures.inside parts.1.0,
+      inside-fits (ExpressionFits table) c.in-For.after c.inside-in-For.result c.inside-in-For.ensures.inside parts.1.1.0,
+      subst (TreeFits table) (sym c.get.ensures) parts.1.1.1,
+    )
 
 pub returns-in_ok-begin_block-in-Block-clause-left : goal.returns-in_ok-begin_block-in-Block-clause-left
 returns-in_ok-begin_block-in-Block-clause-left c =
@@ -92,8 +88,8 @@ returns-in_ok-begun-in_default-clause-left c =
     let table = c.args.program.now.table in
     let start = c.args.frame.now in
     let memory = view_of_blocks table c.args.blocks.now in
-    let known = known-form (length table.shapes) c.unlabelled-statement.result.now (c.unlabelled-statement.ensures.fits table c.requires.tree) in
-    let fits = c.in_ok-begun-in_default.ensures.fits table c.requires.frame known in
+    let formed = form-fits table c.unlabelled-statement.result.now (c.unlabelled-statement.ensures.fits table c.requires.tree) in
+    let fits = c.in_ok-begun-in_default.ensures.fits table c.requires.frame formed in
     record {
       same = c.in_ok-begun-in_default.ensures.same table program (in_order memory) memory
           ∙ statement-form program (in_order memory) start.objects (tasks_of table start) memory table c.unlabelled-statement.result.now (view table c.args.tree.now) _ (c.unlabelled-statement.ensures.same table) refl;

@@ -21,7 +21,8 @@ returns-in_err-made-clause-reading g c = λ files have.
 pub returns-clause-reading : goal.returns-clause-reading
 returns-clause-reading g c = λ files have.
     let setting = setting_of c.args.loader.now c.unit_tokens.new.loader files c.args.unit in
-    all-read setting c.args.unit c.args.loader.now c.unit_tokens.new.loader _ c.items.result.now refl c.items.ensures (c.in_ok-pp.ensures.reading files have) c.in_ok-made.ensures.layers
+    all-read setting c.args.unit c.args.loader.now c.unit_tokens.new.loader
+    (record { unit = c.args.unit; pp = c.in_ok-pp.pp; tokens = c.in_ok-made.made.tokens; syntax = c.in_ok-made.made.syntax; core = c.in_ok-made.made.core; types = c.in_ok-made.made.types }) c.items.result.now refl c.items.ensures (c.in_ok-pp.ensures.reading files have) c.in_ok-made.ensures.layers
 
 pub returns-in_err-pp-clause-loader : goal.returns-in_err-pp-clause-loader
 returns-in_err-pp-clause-loader g c =

@@ -1,21 +1,24 @@
 -- Each form leaves what the definition leaves.
-use Rattle.std.proofs.Common.{◌≡◌, ℕ, List, [], ◌∷◌, ◌++◌, map, length, option_map, Some, None, refl, ap, sym, subst, ◌∙◌}
-use Rattle.std.proofs.lemmas.Bool.{and_parts}
+use Rattle.std.proofs.Common.{◌≡◌, ℕ, ◌≤◌, List, [], ◌∷◌, ◌++◌, map, length, option_map, Some, None, refl, ap, sym, subst, arith, ◌∙◌}
 use Rattle.dm_tree.specs.declared.tree.Core.{Core}
 use Rattle.dm_tree.specs.Trees.{listed, trees}
-use Rattle.dm_tree.specs.TypeNumbers.{are_known_in_form}
 use Rattle.dm_tree.specs.Views.{Opened, opened_form, view}
 use Rattle.dm_meaning.specs.States as states
 use Rattle.dm_meaning.specs.Statements.{onward, begin_form, evaluation, returning}
-use Rattle.dm_program.proofs.FormLemmas.{opened-Full, opened-If, opened-Return, opened-Switch, opened-While, known-If, known-Return}
+use Rattle.dm_program.proofs.FormLemmas.{opened-Full, opened-If, opened-Return, opened-Switch, opened-While}
 use Rattle.dm_frame.specs.declared.frame.Frame.{Frame}
 use Rattle.dm_frame.specs.declared.task.Loop.{Loop}
 use Rattle.dm_frame.specs.declared.task.Task.TheVariants as task
 use Rattle.dm_frame.specs.declared.task.Use.TheVariants as use_of
+use Rattle.dm_frame.specs.Forms.{FormFits}
 use Rattle.dm_frame.specs.Frames.{tasks_of}
-use Rattle.dm_frame.specs.Tasks.{tree_or_none, view_of_begun, view_of_loop, BegunFits, TreeFits}
-use Rattle.dm_frame.proofs.BeginLemmas.{begun-seen, ends-fit, ends-led, form-begun, if-meant, other-meant, return-meant, switch-led, switch-meant, tests-led}
+use Rattle.dm_frame.specs.Tasks.{tree_or_none, view_of_begun, view_of_loop, BegunFits, ExpressionFits, TasksFit, TreeFits, TreesFit}
+use Rattle.dm_frame.proofs.BeginLemmas.{begun-seen, ends-fit, ends-led, form-begun, if-meant, other-meant, return-meant, switch-led, switch-meant, tests-fit, tests-led}
+use Rattle.dm_frame.proofs.FitLemmas.{fits-Do, fits-Full, fits-If, fits-Return, fits-Switch, fits-While, inside-fits}
 use Rattle.dm_frame.proofs.frame.Frame.begin_form.Goals as goal
+
+all : (n : ℕ) → n ≤ n
+all n = omega arith
 
 pub returns-in_ok-ends-in-Full-clause-same : goal.returns-in_ok-ends-in-Full-clause-same
 returns-in_ok-ends-in-Full-clause-same c = λ table.
@@ -23,6 +26,12 @@ returns-in_ok-ends-in-Full-clause-same c = λ table.
     c.in_ok-ends-in-Full.ensures.objects (begun-seen table c.begun.result c.get.result use_of.Drops c.in-Full.tree c.begun.ensures c.get.ensures)
     (ends-led table c.args.self.now c.ends.new.self c.in_ok-ends-in-Full.ensures.objects c.in_ok-ends-in-Full.ensures.tasks)
     (λ program names memory. refl)
+
+pub returns-in_ok-ends-in-Full-clause-fits : goal.returns-in_ok-ends-in-Full-clause-fits
+returns-in_ok-ends-in-Full-clause-fits c = λ table fits formed. (
+  ends-fit table c.args.self.now c.ends.new.self c.in_ok-ends-in-Full.ensures.objects c.in_ok-ends-in-Full.ensures.tasks fits,
+  subst (BegunFits table) (sym c.begun.ensures) (subst (ExpressionFits table) (sym c.get.ensures) (fits-Full table c.in-Full.tree (subst (FormFits table) c.in-Full.is formed)), tt),
+)
 
 pub returns-in_ok-ends-in-If-clause-same : goal.returns-in_ok-ends-in-If-clause-same
 returns-in_ok-ends-in-If-clause-same c = λ table.
@@ -40,13 +49,11 @@ returns-in_ok-ends-in-If-clause-same c = λ table.
 
 pub returns-in_ok-ends-in-If-clause-fits : goal.returns-in_ok-ends-in-If-clause-fits
 returns-in_ok-ends-in-If-clause-fits c = λ table fits formed.
-    let n : ℕ = length table.shapes in
-    let parts = and_parts _ _ (sym (known-If n c.in-If.condition c.in-If.first c.in-If.second) ∙ (ap (are_known_in_form n) (sym c.in-If.is) ∙ formed)) in
-    let others = and_parts _ _ parts.1 in (
+    let parts = fits-If table c.in-If.condition c.in-If.first c.in-If.second (subst (FormFits table) c.in-If.is formed) in (
       ends-fit table c.args.self.now c.ends-in-If.new.self c.in_ok-ends-in-If.ensures.objects c.in_ok-ends-in-If.ensures.tasks fits,
       subst (BegunFits table) (sym c.begun-in-If.ensures) (
-        subst (TreeFits table) (sym c.get-in-If.ensures) parts.0,
-        (subst (TreeFits table) (sym c.get-chosen.ensures) others.0, c.inside-other.ensures.fits table others.1),
+        subst (ExpressionFits table) (sym c.get-in-If.ensures) parts.0,
+        (subst (TreeFits table) (sym c.get-chosen.ensures) parts.1, inside-fits (TreeFits table) c.in-If.second c.inside-other.result c.inside-other.ensures.inside parts.2),
       ),
     )
 
@@ -61,6 +68,35 @@ returns-in_ok-push-in-Switch-clause-same c = λ table.
     (λ program names memory.
     ap (λ (items : List Core). onward before.objects (evaluation (view table c.in-Switch.operand) (states.selects (map (view table) items)) ∷ states.ends_switch before.objects ∷ tasks_of table before) memory) c.items.ensures
     ∙ switch-meant program names before.objects (tasks_of table before) memory (view table c.in-Switch.operand) (map (view table) c.in-Switch.items))
+
+pub returns-in_ok-push-in-Switch-clause-fits : goal.returns-in_ok-push-in-Switch-clause-fits
+returns-in_ok-push-in-Switch-clause-fits c = λ table fits formed.
+    let before = c.args.self.now in
+    let parts = fits-Switch table c.in-Switch.operand c.in-Switch.items (subst (FormFits table) c.in-Switch.is formed) in
+    let led : c.push.new.self ≡ task.EndsSwitch (length before.objects) ∷ before.tasks = c.in_ok-push-in-Switch.ensures.ok ∙ ap (λ n. task.EndsSwitch n ∷ before.tasks) c.len-alive.ensures in (
+      subst (TasksFit table (length before.objects)) (sym led) (all (length before.objects), fits),
+      subst (BegunFits table) (sym c.begun-in-Switch.ensures) (
+        subst (ExpressionFits table) (sym c.get-in-Switch.ensures) parts.0,
+        subst (TreesFit table) (sym c.items.ensures) parts.1,
+      ),
+    )
+
+pub returns-in_ok-begin_do-in-Do-clause-fits : goal.returns-in_ok-begin_do-in-Do-clause-fits
+returns-in_ok-begin_do-in-Do-clause-fits c = λ table fits formed.
+    let parts = fits-Do table c.in-Do.body c.in-Do.condition (subst (FormFits table) c.in-Do.is formed) in
+    (c.in_ok-begin_do-in-Do.ensures.fits table fits (subst (TreeFits table) (sym c.get-in-Do.ensures) parts.0) (subst (ExpressionFits table) (sym c.get-in-Do-2.ensures) parts.1), tt)
+
+pub returns-in_ok-tests-in-While-clause-fits : goal.returns-in_ok-tests-in-While-clause-fits
+returns-in_ok-tests-in-While-clause-fits c = λ table fits formed.
+    let before = c.args.self.now in
+    let middle = c.ends-in-While.new.self in
+    let loop : Loop = record { condition = Some c.get-in-While.result; after = None; body = c.get-in-While-2.result } in
+    let parts = fits-While table c.in-While.condition c.in-While.body (subst (FormFits table) c.in-While.is formed) in (
+      tests-fit table middle c.tests.new.self loop c.in_ok-tests-in-While.ensures.objects c.in_ok-tests-in-While.ensures.tasks
+          (subst (ExpressionFits table) (sym c.get-in-While.ensures) parts.0, tt, subst (TreeFits table) (sym c.get-in-While-2.ensures) parts.1)
+          (ends-fit table before middle c.in_ok-ends-in-While.ensures.objects c.in_ok-ends-in-While.ensures.tasks fits),
+      tt,
+    )
 
 pub returns-in_ok-tests-in-While-clause-same : goal.returns-in_ok-tests-in-While-clause-same
 returns-in_ok-tests-in-While-clause-same c = λ table.
@@ -90,8 +126,8 @@ returns-in_ok-begun-in-Return-clause-same c = λ table program names memory.
 
 pub returns-in_ok-begun-in-Return-clause-fits : goal.returns-in_ok-begun-in-Return-clause-fits
 returns-in_ok-begun-in-Return-clause-fits c = λ table fits formed.
-    let n : ℕ = length table.shapes in
-    c.in_ok-begun-in-Return.ensures.fits table (c.inside.ensures.fits table (sym (known-Return n c.in-Return.value) ∙ (ap (are_known_in_form n) (sym c.in-Return.is) ∙ formed)))
+    c.in_ok-begun-in-Return.ensures.fits table
+    (inside-fits (ExpressionFits table) c.in-Return.value c.inside.result c.inside.ensures.inside (fits-Return table c.in-Return.value (subst (FormFits table) c.in-Return.is formed)))
 
 pub returns-in_ok-ends-in_default-clause-same : goal.returns-in_ok-ends-in_default-clause-same
 returns-in_ok-ends-in_default-clause-same c = λ table.

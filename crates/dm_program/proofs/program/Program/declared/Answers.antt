@@ -1,5 +1,5 @@
 -- The declaration of a number is the item at that place.
-use Rattle.std.proofs.Common.{◌≡◌, None, Some, Option, Bor, rules, subst}
+use Rattle.std.proofs.Common.{◌≡◌, None, Some, rules, subst}
 use Rattle.std.specs.Option.{MatchOption}
 use Rattle.dm_type.specs.Tables.{IsId}
 use Rattle.dm_tree.specs.Views.{view_of_declared}

@@ -1,8 +1,8 @@
 -- What follows the body fits, and so do the tasks behind the loop, which name fewer objects.
-use Rattle.std.proofs.Common.{Some, length, subst}
+use Rattle.std.proofs.Common.{Some, length, refl, subst}
 use Rattle.dm_frame.specs.declared.next.Next.{Next}
 use Rattle.dm_frame.specs.Nexts.{NextFits}
-use Rattle.dm_frame.specs.Tasks.{OptionFits}
+use Rattle.dm_frame.specs.Tasks.{ExpressionFits, FitsIfThere}
 use Rattle.dm_frame.proofs.TaskLemmas.{more-fit}
 use Rattle.dm_state.proofs.running.Running.unfold.Goals as goal
 
@@ -17,4 +17,4 @@ returns-in-Some-clause-fits c = λ table fits.
     let frame = c.args.self.now.frame in
     let here = subst (λ (next : Next). NextFits table (length frame.objects) (Some next) frame.tasks) c.in-Again.is fits in
     let loop_fits = second (first here) in
-    ((subst (OptionFits table) c.in-Some.is loop_fits.1, loop_fits), more-fit table c.in-Again.alive (length frame.objects) frame.tasks (first (first here)) (second here))
+    (refl, (subst (FitsIfThere (ExpressionFits table)) c.in-Some.is loop_fits.1, loop_fits), more-fit table c.in-Again.alive (length frame.objects) frame.tasks (first (first here)) (second here))

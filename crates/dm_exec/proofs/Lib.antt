@@ -1,0 +1,7 @@
+pub mod SeenLemmas
+pub mod RunLemmas
+pub mod StageLemmas
+pub mod DueLemmas
+pub mod BeginLemmas
+pub mod EvaluatedLemmas
+pub mod TakeLemmas

@@ -1,0 +1,5 @@
+pub mod CallLemmas
+pub mod FormLemmas
+pub mod OperandLemmas
+pub mod SettleLemmas
+pub mod MoveLemmas

@@ -1,0 +1,118 @@
+//! The state that the step of a node leaves.
+
+ghost use Rattle.std.specs.Prelude.{◌≡◌, ℕ, ◌+◌, ◌≤◌, List, None, length, map, IfOk};
+ghost use Rattle.dm_type.specs.Tables.{Table, type_of};
+ghost use Rattle.dm_meaning.specs.Choices.{in_order};
+ghost use Rattle.dm_meaning.specs.Expressions.{goes, lifted};
+ghost use Rattle.dm_meaning.specs.Operations.{World};
+ghost use Rattle.dm_meaning.specs.Programs as programs;
+ghost use Rattle.dm_meaning.specs.Running.{Run, filled_in, hole_in};
+ghost use Rattle.dm_meaning.specs.States as states;
+ghost use Rattle.dm_meaning.specs.Steps.{moved};
+ghost use Rattle.dm_program.specs.Sources.{meant};
+ghost use Rattle.dm_row.specs.Counts.{weight_in};
+ghost use Rattle.dm_frame.specs.Frames.{tasks_of};
+ghost use Rattle.dm_frame.specs.Tasks.{view_of_use, UseFits};
+ghost use Rattle.dm_state.specs.declared.full.Ongoing.{Ongoing as AnyOngoing};
+ghost use Rattle.dm_state.specs.Fits.{RunningFits};
+ghost use Rattle.dm_state.specs.Standing.{world_of};
+ghost use Rattle.dm_state.specs.Turns.{IsLeft};
+ghost use Rattle.dm_value.specs.Places.{view_of_at};
+ghost use Rattle.dm_move.specs.Settling.{gap, own_locks, state_before, GoesOn, IsLacking};
+ghost use Rattle.dm_move.specs.Steps.{view_of_step, Keeps, OperandFits, StepFits};
+
+use crate::leaving::{give, give_unlocked, leave, pick};
+use crate::step::Step;
+use dm_expression::{Doing, Waiting};
+use dm_operate::{Evaluation, Operand};
+use dm_program::Program;
+use dm_state::{Full, Ongoing, Running, Turn};
+use dm_token::Memory;
+use dm_tree::Core;
+use std::alloc::Global;
+
+/// What a node did is put in its place in a full expression that lacks it and the locks of its operands.
+pub(crate) fn settle<'a>(
+    running: &mut Running<'a>,
+    alloc: Global,
+    program: &Program<'a>,
+    ongoing: Ongoing<'a>,
+    node: &'a Core,
+    locks: usize,
+    step: Step<'a>,
+) -> Result<Turn, Memory>
+    requires none { running.old.full ≡ None }
+    requires fits { RunningFits program.now.table running.old }
+    requires use_of { UseFits program.now.table ongoing.use_of }
+    requires room { weight_in ongoing.expression.row.0 + locks ≤ length ongoing.expression.locks.items }
+    requires lacking { IsLacking program.now.table ongoing.expression locks }
+    requires node { OperandFits program.now.table node.now }
+    requires step { StepFits program.now step }
+    ensures { (tasks : List states.Task) (before : World) → Keeps before (world_of program.now.table running.old.blocks running.old.streams) step.entry
+        → IfOk result (λ turn. IsLeft program.now.table turn running.new
+        (moved (meant program.now) (in_order before.memory) (state_before program.now.table tasks before running.old) (tasks_of program.now.table running.old.frame) ongoing.entry.place
+        (view_of_use program.now.table ongoing.entry.use_of)
+        (lifted (filled_in (gap program.now.table ongoing.entry.expression locks)) (hole_in (gap program.now.table ongoing.entry.expression locks))
+        (view_of_step program.now.table (type_of program.now.table node.now.kind) node.now.place (map view_of_at (own_locks ongoing.entry.expression locks))
+        (world_of program.now.table running.old.blocks running.old.streams) step.entry)))) }
+{
+    match step {
+        Step::Gives(result, lock) => {
+            let operand = Operand {
+                kind: node.kind,
+                result,
+            };
+            let next = give(ongoing, locks, operand, lock)?;
+            Ok(go_on(running, next))
+        }
+        Step::Releases(value) => {
+            let operand = Operand {
+                kind: node.kind,
+                result: Evaluation::Value(value),
+            };
+            let next = give_unlocked(ongoing, locks, operand)?;
+            Ok(go_on(running, next))
+        }
+        Step::Tests(operand) => {
+            let waiting = Waiting {
+                doing: Doing::GivesTruth,
+                node,
+            };
+            let next = pick(alloc, ongoing, locks, waiting, operand)?;
+            Ok(go_on(running, next))
+        }
+        Step::Picks(operand) => {
+            let waiting = Waiting {
+                doing: Doing::GivesValue,
+                node,
+            };
+            let next = pick(alloc, ongoing, locks, waiting, operand)?;
+            Ok(go_on(running, next))
+        }
+        Step::Calls(function, arguments) => {
+            let left = leave(ongoing, locks)?;
+            running.call(
+                alloc,
+                program,
+                function,
+                arguments.as_slice(),
+                node.kind,
+                left,
+            )?;
+            Ok(Turn::Went)
+        }
+        Step::Fails(cause) => Ok(Turn::Undefined(cause, node.place)),
+        Step::Exits(status) => Ok(Turn::Exited(status)),
+    }
+}
+
+/// A full expression goes on.
+fn go_on<'a>(running: &mut Running<'a>, ongoing: Ongoing<'a>) -> Turn
+    ensures { (table : Table) (program : programs.Program) (names : ℕ → ℕ) (tasks : List states.Task) (before : World) (old : AnyOngoing) (run : Run)
+        → RunningFits table running.old → GoesOn table old ongoing.entry run → IsLeft table result running.new
+        (moved program names (state_before table tasks before running.old) (tasks_of table running.old.frame) old.place (view_of_use table old.use_of)
+        (goes (world_of table running.old.blocks running.old.streams) run)) }
+{
+    running.full = Some(Full::Goes(ongoing));
+    Turn::Went
+}

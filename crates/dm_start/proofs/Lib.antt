@@ -1,0 +1,7 @@
+mod CompletingLemmas
+mod LoopLemmas
+mod MakingLemmas
+mod InitialLemmas
+mod MovingLemmas
+mod StoringLemmas
+mod StartLemmas

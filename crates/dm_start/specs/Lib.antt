@@ -1,0 +1,5 @@
+pub mod Tables
+pub mod Scenes
+pub mod Making
+pub mod Storing
+pub mod Beginnings

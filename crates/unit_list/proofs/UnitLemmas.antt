@@ -1,0 +1,17 @@
+-- The defines of a lawful unit are no longer than a file.
+use Rattle.std.proofs.Common.{◌≡◌, ◌≤◌, ℕ, zero, suc, true, List, [], ◌∷◌, length, All, arith}
+use Rattle.std.specs.List.{list_all}
+use Rattle.std.proofs.lemmas.Bool.{and_parts, leb-true}
+use Rattle.dm_token.specs.Limits.{source_length_limit}
+use Rattle.dm_token.specs.declared.unit.Unit.{Unit as Source}
+use Rattle.dm_manifest.specs.Defines.{is_define}
+use Rattle.dm_manifest.specs.Units.{IsLawful, is_definable}
+
+short_defines : (defines : List (List ℕ)) → list_all is_definable defines ≡ true → All (λ (define : List ℕ). length define ≤ source_length_limit) defines
+unfolding is_define
+short_defines [] lawful k d below = absurd (omega arith)
+short_defines (define ∷ defines) lawful zero d below = leb-true _ _ (and_parts _ _ (and_parts _ _ (and_parts _ _ (and_parts _ _ lawful).0).0).0).0
+short_defines (define ∷ defines) lawful (suc k) d below = short_defines defines (and_parts _ _ lawful).1 k d (omega arith)
+
+pub lawful-short : (unit : Source) → IsLawful unit → All (λ (define : List ℕ). length define ≤ source_length_limit) unit.define
+lawful-short unit lawful = short_defines unit.define lawful.define
