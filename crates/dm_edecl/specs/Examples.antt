@@ -1,4 +1,4 @@
--- Small units, and what their typing comes to: the examples that tests compute.
+-- Small units, and what their typing comes to: the examples of `src/examples.rt`.
 --     rule_of tokens externals      the rule that a unit of these tokens breaks, and the token at which it does
 --     kinds_of tokens externals      the types of its entries
 use Rattle.std.specs.Prelude.{ℕ, ◌+◌, pos, ℤ, false, List, [], ◌∷◌, Option, Some, None, map, codes}

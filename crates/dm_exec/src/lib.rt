@@ -3,6 +3,7 @@
 #![tactic(auto)]
 
 mod due;
+mod examples;
 mod laws;
 mod order;
 mod outcome;
@@ -11,12 +12,10 @@ mod state;
 mod steps;
 mod taking;
 
+pub use examples::orders_choose_as_their_generator_says;
 pub use laws::shown_states_step;
 pub use order::Choices;
 pub use outcome::Outcome;
 pub use run::run_for;
 pub use state::State;
 pub use steps::{start, step};
-
-#[cfg(test)]
-mod tests;

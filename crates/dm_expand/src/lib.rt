@@ -23,8 +23,6 @@ mod progress;
 mod sign;
 mod string;
 mod substitute;
-#[cfg(test)]
-mod tests;
 mod trails;
 
 use dm_macro::MacroTable;

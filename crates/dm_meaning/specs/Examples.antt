@@ -1,4 +1,4 @@
--- Small programs as typed trees: the examples that tests run.
+-- Small programs as typed trees: the examples of `src/examples.rt`.
 --     by_choice choice steps input program      how the program stands after so many steps that take the same choice, and what it has written
 use Rattle.std.specs.Prelude.{ℕ, zero, suc, true, false, List, [], ◌∷◌, ◌++◌, replicate, Option, Some, None, option_map, pos, codes}
 use Rattle.dm_token.specs.declared.place.Place.{Place}
@@ -225,6 +225,13 @@ struct_copy part = alone (local (codes "s") (struct 0) ∷ local (codes "t") (st
     statement (assigned 0 int (tree 0 (member 0) int (named (struct 0) 1 ∷ [])) (constant 5)) ∷
     statement (assigned 0 (struct 0) (named (struct 0) 2) (value_at 0 (struct 0) (named (struct 0) 1))) ∷
     returned (value_at 7 int (tree 0 (member part) int (named (struct 0) 2 ∷ []))) ∷ [])
+
+-- int a[2] = { 4, 5 }; struct { int a; int b; } *p = (void *)&a; return p->b;
+abbrev pub struct_over_array : Program
+struct_over_array = alone (local (codes "a") (array int (Some 2)) ∷ local (codes "p") (pointer (struct 0)) ∷ [])
+    (declared_with 1 (Some (in_braces (more_items one_expression (more_items one_expression no_items)))) (constant 4 ∷ constant 5 ∷ []) ∷
+    declared_as 2 (tree 0 convert (pointer (struct 0)) (tree 0 convert (pointer void) (tree 0 address (pointer (array int (Some 2))) (named (array int (Some 2)) 1 ∷ []) ∷ []) ∷ [])) ∷
+    returned (value_at 8 int (tree 7 (member 1) int (tree 6 follow (struct 0) (value_at 0 (pointer (struct 0)) (named (pointer (struct 0)) 2) ∷ []) ∷ []))) ∷ [])
 
 -- int *p; int *q; { int x = 1; p = &x; } q = p; return 0; or return *q;
 abbrev dead_pointer : Tree → Program

@@ -6,8 +6,6 @@ mod header;
 mod joining;
 mod laws;
 mod loader;
-#[cfg(test)]
-mod tests;
 
 pub use laws::{searched_names_are_normal, the_first_file_is_found};
 pub use loader::Loader;

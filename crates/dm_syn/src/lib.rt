@@ -21,6 +21,3 @@ pub use statement::{
 };
 pub use symbol::{Symbol, infix_level, symbol_of};
 pub use tokens::yield_of;
-
-#[cfg(test)]
-mod tests;

@@ -13,6 +13,3 @@ pub use evaluation::{counted, is_nonzero, unary, updated};
 pub use kinds::{in_range, integer_kind, may_stand_right};
 pub use tree::{Core, Form, Initial, Local, Sign};
 pub use unit::{CoreExternal, CoreExternalForm, CoreUnit, Declared, Linkage, Sort};
-
-#[cfg(test)]
-mod tests;

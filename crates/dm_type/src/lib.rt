@@ -10,8 +10,6 @@ mod members;
 mod shape;
 mod sizes;
 mod spell;
-#[cfg(test)]
-mod tests;
 mod types;
 
 pub use members::Members;

@@ -1,4 +1,4 @@
--- Small expressions without names, and what their typing comes to: the examples that tests compute.
+-- Small expressions without names, and what their typing comes to: the examples of `src/examples.rt`.
 --     type_of tokens expr      the type of an expression of these tokens
 --     value_of tokens expr      its value, if it is an integer constant expression
 --     rule_of tokens expr      the rule that it breaks, and the token at which it does

@@ -3,6 +3,7 @@
 #![tactic(auto)]
 
 pub mod access;
+mod examples;
 mod extent;
 mod known;
 mod laws;
@@ -14,6 +15,9 @@ mod sizes;
 mod typer;
 pub mod values;
 
+pub use examples::{
+    operands_come_to_a_common_type, sizes_are_unsigned_long, the_first_broken_rule_has_a_place,
+};
 pub use extent::Extent;
 pub use known::Known;
 pub use laws::{
@@ -22,6 +26,3 @@ pub use laws::{
     operators_give_well_typed_values,
 };
 pub use typer::Typer;
-
-#[cfg(test)]
-mod tests;

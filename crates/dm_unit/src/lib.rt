@@ -28,8 +28,6 @@ mod reader;
 mod section;
 mod sign;
 mod stops;
-#[cfg(test)]
-mod tests;
 mod text;
 
 use conditional::end;

@@ -1,6 +1,0 @@
-use Rattle.std.proofs.Common.{IsTrue, length}
-use Rattle.dm_tree.specs.TypeNumbers.{are_known}
-use Rattle.dm_tree.proofs.tests.commas.Given as goal
-
-abbrev pub invariant-loop-part : goal.invariant-loop-part
-invariant-loop-part l = IsTrue (are_known (length l.types.shapes) l.tree)

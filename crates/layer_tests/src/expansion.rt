@@ -1,0 +1,291 @@
+//! Worked expansions.
+
+use dm_expand::{Expanded, Work, expand};
+use dm_lex::tokens;
+use dm_macro::MacroTable;
+use dm_phase::flatten;
+use dm_token::{List, Mark, Origin, PpToken, Stop, Text, Trail, source_length_limit};
+use std::process::Abort;
+use std::test::Fail;
+
+/// The tokens of a text.
+fn tokens_of<R: Abort + AllocGlobal>(rt: &R, text: &[u8]) -> Result<List<PpToken>, Stop> {
+    assert!(rt; text.len() <= source_length_limit());
+    let flat = flatten(rt.alloc(), 0, text)?;
+    tokens(rt.alloc(), 0, &flat, text)
+}
+
+/// The macros that lines define.
+fn table_of<R: Abort + AllocGlobal>(rt: &R, lines: &[&str]) -> Result<MacroTable, Stop> {
+    let mut table = MacroTable::new(rt.alloc())?;
+    for line in lines {
+        let list = tokens_of(rt, line.as_bytes())?;
+        assert!(rt; !list.is_empty());
+        assert!(rt; table.definitions().len() < 1_000);
+        table.define(list.items(), Origin::File, true)?;
+    }
+    Ok(table)
+}
+
+/// What a text expands to, where lines define the macros and the next expansion has the number 5.
+fn expanded<R: Abort + AllocGlobal>(rt: &R, lines: &[&str], text: &str) -> Result<Expanded, Stop> {
+    let table = table_of(rt, lines)?;
+    let group = tokens_of(rt, text.as_bytes())?;
+    let files = [Text::new(rt.alloc(), "a.c")?];
+    let mut work = Work { spent: 10 };
+    expand(rt.alloc(), &table, &files, group.items(), 5, &mut work)
+}
+
+/// Each token by its spelling, with a space before it where a blank stands there.
+fn shown<R: Abort + AllocGlobal>(rt: &R, lines: &[&str], text: &str) -> Result<Vec<u8>, Stop> {
+    let expanded = expanded(rt, lines, text)?;
+    let mut spelled = Vec::new(rt.alloc());
+    for token in expanded.tokens.items() {
+        if token.pp.blank_before {
+            spelled.push(b' ')?;
+        }
+        spelled.extend_from_slice(token.pp.spelling.bytes())?;
+    }
+    Ok(spelled)
+}
+
+/// Each text of the rows, which are a text and then what it expands to, in turn.
+fn expect_shown<R: Abort + AllocGlobal>(rt: &R, lines: &[&str], rows: &[&str]) -> Result<(), Fail> {
+    for row in rows.chunks(2) {
+        if let [text, wanted] = row {
+            let spelled = shown(rt, lines, text)?;
+            assert!(rt; spelled.as_slice() == wanted.as_bytes(), "{text}");
+        }
+    }
+    Ok(())
+}
+
+#[test]
+fn expands_the_examples_of_the_standard(rt: HostRuntime) -> Result<(), Fail> {
+    // 6.10.3.5p5, with the second definition of x.
+    expect_shown(
+        &rt,
+        &[
+            "#define x 2",
+            "#define f(a) f(x * (a))",
+            "#define g f",
+            "#define z z[0]",
+            "#define h g(~",
+            "#define m(a) a(w)",
+            "#define w 0,1",
+            "#define t(a) a",
+            "#define p() int",
+            "#define q(x) x",
+            "#define r(x,y) x ## y",
+            "#define str(x) # x",
+        ],
+        &[
+            "f(y+1) + f(f(z)) % t(t(g)(0) + t)(1);",
+            " f(2 * (y+1)) + f(2 * (f(2 * (z[0])))) % f(2 * (0)) + t(1);",
+            "g(x+(3,4)-w) | h 5) & m(f)^m(m);",
+            " f(2 * (2+(3,4)-0,1)) | f(2 * (~ 5)) & f(2 * (0,1))^m(0,1);",
+            "p() i[q()] = { q(1), r(2,3), r(4,), r(,5), r(,) };",
+            " int i[] = { 1, 23, 4, 5, };",
+            "char c[2][6] = { str(hello), str() };",
+            " char c[2][6] = { \"hello\", \"\" };",
+        ],
+    )?;
+    // 6.10.3.5p6
+    expect_shown(
+        &rt,
+        &[
+            "#define str(s) # s",
+            "#define xstr(s) str(s)",
+            "#define debug(s, t) printf(\"x\" # s \"= %d, x\" # t \"= %s\", x ## s, x ## t)",
+            "#define INCFILE(n) vers ## n",
+            "#define glue(a, b) a ## b",
+            "#define xglue(a, b) glue(a, b)",
+            "#define HIGHLOW \"hello\"",
+            "#define LOW LOW \", world\"",
+        ],
+        &[
+            "debug(1, 2);",
+            " printf(\"x\" \"1\" \"= %d, x\" \"2\" \"= %s\", x1, x2);",
+            "fputs(str(strncmp(\"abc\\0d\", \"abc\", '\\4') // this goes away\n== 0) str(: @\\n), s);",
+            " fputs(\"strncmp(\\\"abc\\\\0d\\\", \\\"abc\\\", '\\\\4') == 0\" \": @\\n\", s);",
+            "xstr(INCFILE(2).h)",
+            " \"vers2.h\"",
+            "glue(HIGH, LOW);",
+            " \"hello\";",
+            "xglue(HIGH, LOW)",
+            " \"hello\" \", world\"",
+        ],
+    )?;
+    // 6.10.3.5p7 and p9
+    expect_shown(
+        &rt,
+        &[
+            "#define t(x,y,z) x ## y ## z",
+            "#define debug(...) fprintf(stderr, __VA_ARGS__)",
+            "#define showlist(...) puts(#__VA_ARGS__)",
+            "#define report(test, ...) ((test)?puts(#test): printf(__VA_ARGS__))",
+        ],
+        &[
+            "int j[] = { t(1,2,3), t(,4,5), t(6,,7), t(8,9,), t(10,,), t(,11,), t(,,12), t(,,) };",
+            " int j[] = { 123, 45, 67, 89, 10, 11, 12, };",
+            "debug(\"Flag\");",
+            " fprintf(stderr, \"Flag\");",
+            "showlist(The first, second, and third items.);",
+            " puts(\"The first, second, and third items.\");",
+            "report(x>y, \"x is %d but y is %d\", x, y);",
+            " ((x>y)?puts(\"x>y\"): printf(\"x is %d but y is %d\", x, y));",
+        ],
+    )?;
+    // 6.10.3.3p4
+    expect_shown(
+        &rt,
+        &[
+            "#define hash_hash # ## #",
+            "#define mkstr(a) # a",
+            "#define in_between(a) mkstr(a)",
+            "#define join(c, d) in_between(c hash_hash d)",
+        ],
+        &[
+            "char p[] = join(x, y);",
+            " char p[] = \"x ## y\";",
+            "a hash_hash b",
+            " a ## b",
+        ],
+    )
+}
+
+#[test]
+fn hides_names_and_finds_parentheses_in_the_rescan(rt: HostRuntime) -> Result<(), Fail> {
+    expect_shown(
+        &rt,
+        &[
+            "#define f(a) a*g",
+            "#define g(a) f(a)",
+            "#define A B",
+            "#define B C",
+            "#define C A",
+            "#define ID(x) x",
+            "#define LATER(x) ID",
+            "#define G(x) x",
+            "#define V(...) <__VA_ARGS__>",
+            "#define W(a,...) <a|__VA_ARGS__>",
+            "#define P(a,b) a##b",
+            "#define S(a) #a",
+            "#define N",
+        ],
+        &[
+            "f(2)(9)",
+            " 2*9*g",
+            "A B C",
+            " A B C",
+            "ID(ID)(1)",
+            " ID(1)",
+            "G(LATER(2))(3)",
+            " 3",
+            "V() V(a,b) W(1) W(1,) W(1,2,3)",
+            " <> <a,b> <1|> <1|> <1|2,3>",
+            "P(1,2) P(,x) P(x,) P(,) P(N,N)",
+            " 12 x x NN",
+            "S( a  \"b\\n\" 'c' ) S() S(N)",
+            " \"a \\\"b\\\\n\\\" 'c'\" \"\" \"N\"",
+            "ID(1\n+ 2)",
+            " 1 + 2",
+        ],
+    )
+}
+
+/// The number and the column of a refusal, or zeros.
+fn refused<R: Abort + AllocGlobal>(rt: &R, lines: &[&str], text: &str) -> Result<(u8, u32), Stop> {
+    match expanded(rt, lines, text) {
+        Ok(_) => Ok((0, 0)),
+        Err(Stop::Refused(refusal)) => Ok((refusal.number, refusal.place.column)),
+        Err(stop) => Err(stop),
+    }
+}
+
+#[test]
+fn refuses_at_the_name(rt: HostRuntime) -> Result<(), Fail> {
+    let lines = [
+        "#define P(a,b) a##b",
+        "#define T(a,b) a b",
+        "#define Z() z",
+        "#define V(a,b,...) a",
+    ];
+    assert_eq!(rt; refused(&rt, &lines, "x P(+,x)")?, (10, 3));
+    assert_eq!(rt; refused(&rt, &lines, " T(1")?, (9, 2));
+    assert_eq!(rt; refused(&rt, &lines, "T(1,2,3)")?, (9, 1));
+    assert_eq!(rt; refused(&rt, &lines, "Z(1)")?, (9, 1));
+    assert_eq!(rt; refused(&rt, &lines, "Z( )")?, (0, 0));
+    assert_eq!(rt; refused(&rt, &lines, "V(1)")?, (9, 1));
+    assert_eq!(rt; refused(&rt, &lines, "V(1,2)")?, (0, 0));
+    assert_eq!(rt; refused(&rt, &lines, "T(P(+,x),T(1))")?, (10, 3));
+    Ok(())
+}
+
+/// A trail of these marks.
+fn trail_of<R: Abort + AllocGlobal>(rt: &R, marks: &[Mark]) -> Result<Trail, Stop> {
+    let mut trail = Trail::empty(rt.alloc());
+    for mark in marks {
+        assert!(rt; trail.length() < u32::MAX);
+        trail = trail.grow(*mark)?;
+    }
+    Ok(trail)
+}
+
+#[test]
+fn numbers_expansions_and_keeps_trails(rt: HostRuntime) -> Result<(), Fail> {
+    let lines = [
+        "#define F(x) G(x)+__LINE__",
+        "#define G(y) y",
+        "#define S(z) #z",
+    ];
+    let outer = Mark::Expansion {
+        definition: 0,
+        instance: 5,
+    };
+    let inner = Mark::Expansion {
+        definition: 1,
+        instance: 6,
+    };
+    let argument = Mark::Argument {
+        parameter: 0,
+        occurrence: 0,
+    };
+    let expanded = expanded(&rt, &lines, "\nF(1) S(G)")?;
+    let tokens = expanded.tokens.items();
+    assert!(rt; tokens.len() == 4);
+    assert!(rt; tokens[0].trail == trail_of(&rt, &[outer, inner, argument, argument])?);
+    assert!(rt; tokens[1].trail == trail_of(&rt, &[outer])?);
+    assert!(rt; tokens[2].pp.spelling.bytes() == b"2".as_slice());
+    assert!(rt; tokens[3].pp.spelling.bytes() == b"\"G\"".as_slice());
+    let expansions = expanded.expansions.items();
+    assert!(rt; expansions.len() == 3);
+    assert!(rt; expansions[1].trail == trail_of(&rt, &[outer])?);
+    assert!(rt; expansions[2].instance == 7 && expansions[2].name.column == 6);
+    assert!(rt; !expansions[0].taken && !expansions[1].foreign);
+    Ok(())
+}
+
+/// How many tokens a text gives that has an opening so often, then a token, and then as many closings.
+fn nested<R: Abort + AllocGlobal>(rt: &R, opening: &str, count: usize) -> Result<usize, Stop> {
+    let table = table_of(rt, &["#define ID(x) x"])?;
+    let mut text = Vec::new(rt.alloc());
+    for _ in 0..count {
+        text.extend_from_slice(opening.as_bytes())?;
+    }
+    text.push(b'1')?;
+    for _ in 0..count {
+        text.push(b')')?;
+    }
+    let group = tokens_of(rt, &text)?;
+    let mut work = Work { spent: 10 };
+    let expanded = expand(rt.alloc(), &table, &[], group.items(), 5, &mut work)?;
+    Ok(expanded.tokens.len())
+}
+
+#[test]
+fn nesting_takes_no_stack(rt: HostRuntime) -> Result<(), Fail> {
+    assert_eq!(rt; nested(&rt, "(", 10_000)?, 20_001);
+    assert_eq!(rt; nested(&rt, "ID(", 300)?, 1);
+    Ok(())
+}
