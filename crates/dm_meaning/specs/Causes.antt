@@ -94,6 +94,10 @@ access_causes layout memory locks access at =
     ++ absence_causes memory at.name
     ++ when OtherType (is_other access (reached layout memory at))
 
+-- a member of an object is named, by way of an lvalue of this type: the object has to be there (6.2.4p2), and of that type (6.5.2.3p3, 6.5p7)
+abbrev pub member_causes : Layout → Memory → CType → At → List Cause
+member_causes layout memory access at = absence_causes memory at.name ++ when OtherType (is_other access (reached layout memory at))
+
 -- a scalar that was never set
 abbrev pub is_unset_object : Value → Reached → Bool
 is_unset_object value (object_of type fixed) = is_unset value

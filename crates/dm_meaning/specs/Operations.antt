@@ -25,7 +25,7 @@ use Rattle.dm_meaning.specs.Values.{Name, numbered, literal_of, part, Path, At, 
 use Rattle.dm_meaning.specs.Objects.{Layout, byte_of}
 use Rattle.dm_meaning.specs.Programs.{Program, layout, declaration_of}
 use Rattle.dm_meaning.specs.Memory.{Memory, Block, look, contents_at, or_unset, written}
-use Rattle.dm_meaning.specs.Causes.{earliest, when, fault_cause, read_causes, store_causes, update_causes, use_causes, follow_causes, moved_pointer, moved_causes, pointer_distance, distance_causes, order_causes, is_null, is_unset}
+use Rattle.dm_meaning.specs.Causes.{earliest, when, fault_cause, member_causes, read_causes, store_causes, update_causes, use_causes, follow_causes, moved_pointer, moved_causes, pointer_distance, distance_causes, order_causes, is_null, is_unset}
 
 -- what evaluating an expression gives (6.5p1)
 pub data Result : Type 0 where
@@ -171,9 +171,11 @@ followed world other = ill
 abbrev pub member_value : World → Value → Did
 member_value world value = unless (when Unset (is_unset value)) (plain world value)
 
-abbrev pub member_of : World → ℕ → Result → Did
-member_of world n (of_value value) = member_value world (or_unset (part_value value (part n ∷ [])))
-member_of world n (designates at) = gives world (designates (part_of at n)) []
+-- a member of what has this type: of a value, or of an object that is one of that type
+abbrev pub member_of : Scene → World → ℕ → CType → Result → Did
+member_of scene world n kind (of_value value) = member_value world (or_unset (part_value value (part n ∷ [])))
+member_of scene world n kind (designates at) =
+    unless (member_causes (layout scene.program) world.memory kind at) (gives world (designates (part_of at n)) [])
 
 -- 0 for a null pointer and 1 for any other, as a truth value of an integer type
 abbrev pub truth_in : CType → Bool → Value
@@ -402,7 +404,7 @@ operate scene world locks decay kind operands = on_one operands (λ a. on_place 
 operate scene world locks convert kind operands = on_one operands (λ a. convert_to world kind a.result)
 operate scene world locks address kind operands = on_one operands (λ a. on_place a.result (λ at. plain world (pointer_value (to at))))
 operate scene world locks follow kind operands = on_one operands (λ a. on_value a.result (followed world))
-operate scene world locks (member n) kind operands = on_one operands (λ a. member_of world n a.result)
+operate scene world locks (member n) kind operands = on_one operands (λ a. member_of scene world n a.kind a.result)
 operate scene world locks (unary sign) kind operands = on_one operands (λ a. on_value a.result (signed world kind sign))
 operate scene world locks (binary op) kind operands =
     on_two operands (λ a b. on_value a.result (λ x. on_value b.result (combined scene world kind a.kind op x)))

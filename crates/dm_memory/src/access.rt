@@ -135,6 +135,19 @@ fn not_writable(blocks: &Blocks, name: &Name, reached: &Reached) -> Option<Cause
     )
 }
 
+/// Why naming a member of a place as one of an object of this type is undefined, if it is: the object isn't there, or is of another type.
+pub fn to_member(layout: &Layout, blocks: &Blocks, access: TypeId, at: &At) -> Option<Cause>
+    requires access { IsId layout.now access }
+    requires known { AreKnown layout.now blocks.now }
+    ensures { result ≡ table.earliest (table.member_causes (laid_out layout.now) (view_of_blocks layout.now blocks.now)
+        (type_of layout.now access) (view_of_at at.now)) }
+{
+    let reached = reached_at(layout, blocks, at);
+    let absent = absence(blocks, &at.name);
+    let other = when(Cause::OtherType, is_other(layout, access, &reached));
+    sooner(absent, other)
+}
+
 /// Why reading a place is undefined, if it is.
 pub fn to_read(
     layout: &Layout,

@@ -94,8 +94,9 @@ impl Evaluation {
 impl Operands {
     /// The operand, where there is one.
     pub(crate) fn into_one(self) -> Option<Operand>
-        ensures { (table : Table) (next : operations.Operand → operations.Did) → MatchOption result (operations.on_one (view_of_operands table self) next ≡ operations.ill)
+        ensures given { (table : Table) (next : operations.Operand → operations.Did) → MatchOption result (operations.on_one (view_of_operands table self) next ≡ operations.ill)
             (λ a. operations.on_one (view_of_operands table self) next ≡ next (view_of_operand table a)) }
+        ensures known { (table : Table) → AreKnownOperands table self → IfSome result (λ a. IsId table a.kind) }
     {
         match self {
             Operands::One(a) => Some(a),

@@ -84,7 +84,7 @@ fn performed(
             None => Ok(Did::ill()),
         },
         Operator::Member(number) => match operands.into_one() {
-            Some(a) => Ok(member(alloc, number, &a.result)?),
+            Some(a) => Ok(member(alloc, layout, blocks, number, &a)?),
             None => Ok(Did::ill()),
         },
         Operator::Value(own) => match operands.into_value() {

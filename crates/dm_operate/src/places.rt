@@ -10,10 +10,10 @@ ghost use Rattle.dm_value.specs.Views.{view_of_pointer, view_of_value};
 ghost use Rattle.dm_memory.specs.Blocks.{AreKnown};
 ghost use Rattle.dm_operate.specs.Evaluations.{view_of_did, view_of_evaluation, Does};
 
-use crate::evaluation::{Did, Evaluation};
+use crate::evaluation::{Did, Evaluation, Operand};
 use dm_layout::Layout;
 use dm_meaning::Cause;
-use dm_memory::{Blocks, to_follow, to_read};
+use dm_memory::{Blocks, to_follow, to_member, to_read};
 use dm_token::{Memory, Text};
 use dm_type::TypeId;
 use dm_value::{At, Name, Part, Pointer, Value};
@@ -103,17 +103,27 @@ fn followed(blocks: &Blocks, pointer: &Pointer) -> Result<Did, Memory>
 }
 
 /// A member of a struct (6.5.2.3).
-pub(crate) fn member(alloc: Global, number: u32, operand: &Evaluation) -> Result<Did, Memory>
-    ensures { (world : World) → IfOk result (λ did. view_of_did world did ≡ operations.member_of world number (view_of_evaluation operand.now)) }
+pub(crate) fn member(
+    alloc: Global,
+    layout: &Layout,
+    blocks: &Blocks,
+    number: u32,
+    operand: &Operand,
+) -> Result<Did, Memory>
+    requires kind { IsId layout.now operand.now.kind }
+    requires known { AreKnown layout.now blocks.now }
+    ensures { IfOk result (λ did. Does layout.now blocks.now blocks.now did (λ scene world. operations.member_of scene world
+        number (type_of layout.now operand.now.kind) (view_of_evaluation operand.now.result))) }
 {
-    match operand {
+    match &operand.result {
         Evaluation::Value(value) => {
             let inner = value.part_or_unset(&[Part::Inner(number)])?;
             Ok(member_value(inner))
         }
         Evaluation::Object(at) => {
+            let cause = to_member(layout, blocks, operand.kind, at);
             let part = at.part(alloc, number)?;
-            Ok(Did::object(part))
+            Ok(Did::unless(cause, Did::object(part)))
         }
     }
 }
