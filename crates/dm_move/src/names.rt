@@ -10,15 +10,12 @@ ghost use Rattle.dm_program.specs.Sources.{meant};
 use dm_frame::Stack;
 use dm_operate::{Did, number};
 use dm_program::Program;
+use dm_state::Names;
 use dm_tree::Sort;
 use dm_type::TypeId;
 
 /// The object that a declaration names: one of static storage duration, or one of the function that is running.
-pub(crate) fn named(
-    statics: &Stack<(u32, u64)>,
-    objects: &Stack<(u32, u64)>,
-    declared: u32,
-) -> Option<u64>
+pub(crate) fn named(statics: &Names, objects: &Stack<(u32, u64)>, declared: u32) -> Option<u64>
     ensures { result ≡ operations.object_named (statics.now ++ objects.now) declared }
 {
     match statics.named(declared) {

@@ -38,6 +38,7 @@ use dm_memory::Blocks;
 use dm_operate::{Did, Operand, designated, number, operate};
 use dm_primitive::Streams;
 use dm_program::Program;
+use dm_state::Names;
 use dm_token::Memory;
 use dm_tree::Core;
 use dm_type::TypeId;
@@ -48,7 +49,7 @@ use std::alloc::Global;
 pub(crate) fn take_step<'a>(
     alloc: Global,
     program: &Program<'a>,
-    statics: &Stack<(u32, u64)>,
+    statics: &Names,
     objects: &Stack<(u32, u64)>,
     blocks: &mut Blocks,
     streams: &mut Streams,
@@ -98,7 +99,7 @@ fn as_value<'a>(operands: Results<Operand>) -> Step<'a>
 fn evaluate<'a>(
     alloc: Global,
     program: &Program<'a>,
-    statics: &Stack<(u32, u64)>,
+    statics: &Names,
     objects: &Stack<(u32, u64)>,
     blocks: &mut Blocks,
     streams: &mut Streams,

@@ -1,4 +1,3 @@
-pub mod Tables
 pub mod Scenes
 pub mod Making
 pub mod Storing

@@ -7,7 +7,6 @@ ghost use Rattle.dm_value.specs.Views.{view_of_value};
 ghost use Rattle.dm_start.specs.Beginnings.{HasStatics, IsArgv, IsStart};
 
 use crate::making::{make, zeroed};
-use crate::names::Names;
 use crate::scene::Scene;
 use crate::storing::{first_values, store};
 use dm_frame::{Stack, open};
@@ -15,7 +14,7 @@ use dm_int::Kind;
 use dm_memory::Blocks;
 use dm_primitive::Streams;
 use dm_program::Program;
-use dm_state::Running;
+use dm_state::{Names, Running};
 use dm_token::{List, Memory};
 use dm_value::{At, Integer, Name, Part, Path, Pointer, Value};
 use std::alloc::Global;
@@ -41,7 +40,7 @@ pub fn start<'a>(
         frame,
         full: None,
         callers: Stack::new(alloc),
-        statics: names.into_objects(),
+        statics: names,
         blocks,
         streams: Streams {
             input,

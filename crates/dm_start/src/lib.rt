@@ -8,7 +8,6 @@ mod completing;
 mod initial;
 mod making;
 mod moving;
-mod names;
 mod scalar;
 mod scene;
 mod storing;

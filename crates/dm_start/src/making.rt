@@ -9,11 +9,11 @@ ghost use Rattle.dm_program.specs.Sources.{meant};
 ghost use Rattle.dm_program.specs.Statics.{StaticFits};
 ghost use Rattle.dm_start.specs.Making.{numbers_of, zero_block, IsMade};
 
-use crate::names::Names;
 use dm_first::{Scalars, first_value};
 use dm_layout::{Layout, is_const};
 use dm_memory::{Block, Blocks};
 use dm_program::{Program, Static};
+use dm_state::Names;
 use dm_token::Memory;
 use dm_type::TypeId;
 use std::alloc::Global;

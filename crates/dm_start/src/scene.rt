@@ -8,10 +8,10 @@ ghost use Rattle.dm_program.specs.Sources.{meant};
 ghost use Rattle.dm_value.specs.Places.{view_of_name};
 ghost use Rattle.dm_start.specs.Scenes.{program_in};
 
-use crate::names::Names;
 use dm_layout::Layout;
 use dm_memory::Blocks;
 use dm_program::Program;
+use dm_state::Names;
 use dm_token::{Memory, Text};
 use dm_value::Name;
 use std::alloc::Global;
@@ -36,7 +36,7 @@ impl<'s, 'a> Scene<'s, 'a> {
         ensures { IfOk result (λ name. view_of_name name ≡ units.name_of (operations.object_named self.now.names.now declared)
             (units.identifier_of (programs.declaration_of (program_in self.now) declared))) }
     {
-        match self.names.get(declared) {
+        match self.names.named(declared) {
             Some(number) => Ok(Name::Numbered(number)),
             None => {
                 let identifier = identifier(alloc, self.program, declared)?;

@@ -69,7 +69,7 @@ fn first_value_of(alloc: Global, scene: &Scene, one: &Static) -> Result<Option<K
     let Some(initial) = one.initial else {
         return Ok(None);
     };
-    let Some(number) = scene.names.get(one.declared) else {
+    let Some(number) = scene.names.named(one.declared) else {
         return Ok(None);
     };
     let Some(entry) = scene.program.declared(one.declared) else {

@@ -6,11 +6,13 @@ mod close;
 mod conclude;
 mod full;
 mod hand_back;
+mod named;
 mod running;
 mod turn;
 mod turns;
 mod unfold;
 
 pub use full::{Full, Ongoing};
+pub use named::Names;
 pub use running::{Caller, Running};
 pub use turn::Turn;

@@ -1,6 +1,7 @@
 //! States of a run that goes on (6.2.4, 6.9.1).
 
 use crate::full::Full;
+use crate::named::Names;
 use dm_expression::Expression;
 use dm_frame::{Frame, Stack, Use};
 use dm_memory::Blocks;
@@ -33,7 +34,7 @@ pub struct Running<'a> {
     pub full: Option<Full<'a>>,
     pub callers: Stack<Caller<'a>>,
     /// The objects of static storage duration.
-    pub statics: Stack<(u32, u64)>,
+    pub statics: Names,
     pub blocks: Blocks,
     pub streams: Streams<'a>,
 }

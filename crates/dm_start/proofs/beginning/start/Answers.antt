@@ -25,18 +25,16 @@ returns c =
       statics = statics;
       world = record { memory = view_of_blocks table c.open.new.blocks; input = c.args.input.now; output = output };
     } in
-    let by_callers : List Caller → states.State = λ callers. shown (map (view_of_caller table) callers) c.into_objects.result c.new-2.result in
-    let by_statics : Objects → states.State = λ statics. shown [] statics c.new-2.result in
+    let by_callers : List Caller → states.State = λ callers. shown (map (view_of_caller table) callers) c.make_statics.new.names c.new-2.result in
     let arguments = ap (map view_of_value) c.as_slice.ensures.value ∙ c.in_ok-arguments.ensures in
     record {
       main = main;
       is_main = c.main-main.ensures.main;
       same = ap by_callers c.new.ensures
-          ∙ (ap by_statics c.into_objects.ensures
           ∙ (ap (shown [] c.make_statics.new.names) c.new-2.ensures
           ∙ started source c.args.input.now main (view_of_frame table c.in_ok-frame.frame) c.make_statics.new.names c.in_ok-argv.argv c.make_statics.new.blocks c.make_argv.new.blocks
           (view_of_blocks table c.open.new.blocks) (map view_of_value c.as_slice.result.now) c.in_ok-make_statics.ensures c.in_ok-argv.ensures arguments
-          c.in_ok-frame.ensures.frame c.in_ok-frame.ensures.memory));
+          c.in_ok-frame.ensures.frame c.in_ok-frame.ensures.memory);
       fits = record {
         frame = c.in_ok-frame.ensures.fits;
         full = tt;

@@ -2,7 +2,7 @@
 
 ghost use Rattle.std.specs.Prelude.{◌≡◌, ℕ, ◌<◌, ◌∷◌, [], OnOk, vec_len};
 ghost use Rattle.dm_meaning.specs.Operations as operations;
-ghost use Rattle.dm_start.specs.Tables.{at_number};
+ghost use Rattle.dm_state.specs.Named.{at_number};
 
 use dm_frame::Stack;
 use dm_token::Memory;
@@ -12,7 +12,7 @@ use std::marker::Model;
 
 /// Objects by their declarations. Contracts see the numbers of each, the newest first.
 #[derive(Drop)]
-pub(crate) struct Names {
+pub struct Names {
     objects: Stack<(u32, u64)>,
     /// By the numbers of the declarations.
     table: Vec<Option<u64>>,
@@ -20,7 +20,7 @@ pub(crate) struct Names {
 
 impl Model for Names {
     ghost use Rattle.dm_meaning.specs.Operations.{Objects};
-    ghost use Rattle.dm_start.specs.Tables.{IsTable};
+    ghost use Rattle.dm_state.specs.Named.{IsTable};
 
     ghost Value = { Objects };
 
@@ -39,8 +39,8 @@ impl Names {
         }
     }
 
-    /// The object that a declaration names.
-    pub fn get(&self, declared: u32) -> Option<u64>
+    /// The object that a declaration names, the newest where there are several.
+    pub fn named(&self, declared: u32) -> Option<u64>
         ensures { result ≡ operations.object_named self.now declared }
     {
         match nth(self.table.as_slice(), declared as usize) {
@@ -57,14 +57,6 @@ impl Names {
         self.objects.push((declared, number))?;
         self.table[declared as usize] = Some(number);
         Ok(())
-    }
-
-    /// The numbers of declarations and objects alone.
-    pub fn into_objects(self) -> Stack<(u32, u64)>
-        ensures { result ≡ self }
-    {
-        let Names { objects, table: _ } = self;
-        objects
     }
 }
 
