@@ -118,6 +118,8 @@ def wrong_words(run):
     run.put("a.c")
     for words in [[], ["apply"], ["apply", "a.c", "a.c"], ["apply", "a.c", ""], ["plan", "a.c"]]:
         run.expect(words, 1, USAGE)
+    for words in [["run", "a.c"], ["run", "a.c", "a.c", "--order"], ["run", "a.c", "a.c", "--steps", "-1"], ["run", "a.c", "a.c", "--order", "18446744073709551616"]]:
+        run.expect(words, 1, USAGE)
     for words in [["expand"], ["expand", "a.c"], ["expand", "", "a.c"], ["expand", "--", "a.c"], ["expand", "a.c", "--help"]]:
         run.expect(words, 1, USAGE)
     run.holds("a.c", OLD)
@@ -355,6 +357,56 @@ def a_listing_that_can_not_be_put(run):
     run.has_only("a.c")
 
 
+MAIN = b"int main(void) { %s }\n"
+PUTS = b"#include <stdio.h>\n" + MAIN
+
+
+def a_program_is_run(run):
+    run.put("a.c", MAIN % b"return 0;")
+    for words, end in [([], b"exit 0"), (["--steps", "20"], b"exit 0"), (["--steps", "4"], b"exit 0"), (["--steps", "3"], b"steps"), (["--steps=0"], b"steps")]:
+        run.expect(["run", "a.c", "a.c", *words], 0, b"[%s]\n" % end)
+    run.put("a.c", MAIN % b"for (;;) ;")
+    run.expect(["run", "--steps", "10", "a.c", "a.c"], 0, b"[steps]\n")
+    run.put("a.c", PUTS % b"putchar('a') + putchar('b'); return 0;")
+    run.expect(["run", "a.c", "a.c"], 0, b"ab[exit 0]\n")
+    run.expect(["run", "a.c", "--order", "1", "a.c"], 0, b"ba[exit 0]\n")
+    run.expect(["run", "a.c", "--order=0001", "a.c"], 0, b"ba[exit 0]\n")
+    run.put("a.c", b"int main(void) {\n    int i = 0;\n    i = i++;\n    return i;\n}\n")
+    run.expect(["run", "a.c", "a.c"], 0, b"[undefined conflict a.c:3:5]\n")
+    run.put("a.c", PUTS % b"int c; while ((c = getchar()) != -1) putchar(c + 1); return 300;")
+    run.put("in.txt", b"HAL")
+    run.expect(["run", "a.c", "a.c", "--input", "in.txt"], 0, b"IBM[exit 44]\n")
+    run.expect(["run", "a.c", "a.c"], 0, b"[exit 44]\n")
+    run.put("a.c", b"#include <stdio.h>\n#define SQ(x) ((x)*(x))\nint main(void) { putchar(SQ(6)+29); return 0; }\n")
+    run.put("m.json", b'{"units": [{"file": "a.c"}]}')
+    run.expect(["run", "m.json", "a.c"], 0, b"A[exit 0]\n")
+    run.put("a.c", b"int f(int n) { return n ? f(n - 1) : 7; }\nint main(void) { return f(100000); }\n")
+    run.expect(["run", "a.c", "a.c", "--steps", "10000000"], 0, b"[exit 7]\n")
+    run.has_only("a.c", "in.txt", "m.json")
+
+
+def what_can_not_be_run_is_explained(run):
+    run.expect(["run", "a.c", "b.c"], 2, b"manifest M7 b.c\n")
+    run.expect(["run", "a.c", "a.c"], 3, b"a.c:1:1: refusal 7 NotFound\n")
+    run.put("a.c", b"int a;\n")
+    run.expect(["run", "a.c", "a.c"], 3, b"a.c:1:1: refusal 19 NoMain\n")
+    for name in ["in.txt", "../in.txt"]:
+        run.expect(["run", "a.c", "a.c", "--input", name], 2, b"manifest M8 %s\n" % name.encode())
+    run.put("in.txt", b" " * (LIMIT + 1))
+    run.expect(["run", "a.c", "a.c", "--input", "in.txt"], 4, b"limit L1 in.txt\n")
+    run.put("in.txt", b"", 0)
+    run.expect(["run", "a.c", "a.c", "--input", "in.txt"], 5, b"read fault in.txt\n")
+    run.put("a.c", b"int main(void) { return b; }\n")
+    run.expect(["run", "a.c", "a.c"], 3, b"a.c:1:25: refusal 17 Type C1\n")
+    run.put("a.c", b"int main(void) { return 0 }\n")
+    run.expect(["run", "a.c", "a.c"], 3, b"a.c:1:1: refusal 16 Syntax\n")
+    lines = b"".join(b"#define N%d 1\n" % number for number in range(4096))
+    run.put("a.c", lines + MAIN % b"return 0;")
+    run.expect(["run", "a.c", "a.c"], 0, b"[exit 0]\n")
+    run.put("a.c", b"#define M 1\n" + lines + MAIN % b"return 0;")
+    run.expect(["run", "a.c", "a.c"], 4, b"limit L8 a.c\n")
+
+
 RUNS = [
     wrong_words,
     words_that_are_not_utf8,
@@ -373,6 +425,8 @@ RUNS = [
     what_can_not_be_expanded_is_explained,
     units_of_the_greatest_size,
     a_listing_that_can_not_be_put,
+    a_program_is_run,
+    what_can_not_be_run_is_explained,
 ]
 
 

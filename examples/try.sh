@@ -1,11 +1,11 @@
 #!/bin/sh
 # Proves and builds the tool, showing each function as it is proved and how long it takes, expands an example in two ways,
-# applies the tool to a copy of another example, and shows what became of that. Ends with the status of the build where it
-# fails, and else with the first status of the tool that isn't 0.
+# runs two others, applies the tool to a copy of another example, and shows what became of that. Ends with the status of the
+# build where it fails, and else with the first status of the tool that isn't 0.
 top=$(cd "$(dirname "$0")/.." && pwd) || exit 2
 work=$(mktemp -d) || exit 2
 trap 'rm -rf "$work"' EXIT
-echo "Proving and building the tool. The first time on a machine this takes 10 to 20 minutes, and later some seconds." >&2
+echo "Proving and building the tool. The first time on a machine this takes an hour or two, and later some seconds." >&2
 began=$(date +%s)
 # Where the build succeeds it ends with a run of the tool, whose output and status count for nothing here.
 {
@@ -30,9 +30,12 @@ call() {
     echo
 }
 
-cp "$top/examples/letter.c" "$top/examples/light.c" "$top/examples/light.h" "$top/examples/light.json" "$work" && cd "$work" || exit 2
+cp "$top"/examples/*.c "$top"/examples/light.h "$top"/examples/light.json "$work" && cd "$work" || exit 2
 call expand light.c light.c
 call expand light.json light.c
+call run turns.c turns.c
+call run turns.c turns.c --order 1
+call run clash.c clash.c
 call apply letter.c
 cat letter.c
 exit "$failed"

@@ -4,18 +4,17 @@ use Rattle.clap.specs.declared.parser.matches.Found.{Found}
 use Rattle.clap.specs.Words.{first_value, rows_of}
 use Rattle.clap.proofs.WalkLemmas.{first_value-rows}
 use Rattle.std.proofs.Common.{is_some, option_map, ◌≡◌, ◌∙◌, ℕ, Bool, true, false, not, ◌&&◌, ◌||◌, if◌then◌else◌, refl, sym, ap, ap₂, List, [], ◌∷◌, Option, Some, None, codes, bytes_eq, option_and_then}
-use Rattle.std.specs.Prelude.{◌==◌}
 use Rattle.std.specs.Option.{option_map_or}
 use Rattle.std.proofs.lemmas.Bool.{false≢true}
-use Rattle.clap.specs.Words.{App, Rule, Shape, built, first_of, is_simple, matches_of, new_app, new_rule, takes, with_rule}
+use Rattle.clap.specs.Words.{App, Rule, Shape, built, first_of, is_simple, matches_of, takes}
 use Rattle.clap.specs.Lexer.{strip_byte, long_of, long_of_rest, short_of, short_of_rest}
 use Rattle.clap.specs.Walk.{Held, Step, Walk, after_step, arg_by_index, finished, idle, long_or_other, nothing_held, short_or_plain, to_positional, trailing, value, walk, walk_from, walked, word_met}
 use Rattle.std.specs.List.{list_all}
 use Rattle.clap.specs.Takes.{settle_passes, default_passes, is_valid, level_passes, bundle_passes, flag_word_passes, step_passes, turn_passes, walk_passes, word_passes}
-use Rattle.clap.proofs.OnLiterals.{clap_on_literals}
 use Rattle.clap.proofs.TakesLemmas.{leaf_takes}
 use Rattle.demacro.specs.CommandLine.{expand_command as command}
-use Rattle.demacro.specs.Words.{is_plain_word, Request, apply, expand, request_of}
+use Rattle.dm_words.specs.Requests.{is_plain_word}
+use Rattle.demacro.specs.Words.{apply, expand, request_of}
 
 -- what is so where its negation isn't
 not_true : (b : Bool) → not b ≡ true → b ≡ false

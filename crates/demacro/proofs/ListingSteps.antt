@@ -1,11 +1,11 @@
 -- Steps of the listing of a unit's tokens.
-use Rattle.std.proofs.Common.{◌≡◌, ◌≢◌, ◌∙◌, ℕ, suc, ◌+◌, ◌<◌, ◌≤◌, List, [], ◌∷◌, ◌++◌, length, drop, get_or, refl, sym, ap, ap₂, arith, append_assoc, drop-cons, drop_of_length-le, add-one}
+use Rattle.std.proofs.Common.{◌≡◌, ◌≢◌, ◌∙◌, ℕ, ◌+◌, ◌<◌, ◌≤◌, List, [], ◌∷◌, ◌++◌, length, drop, get_or, refl, sym, ap, ap₂, arith, append_assoc, drop-cons, drop_of_length-le, add-one}
 use Rattle.std.proofs.lemmas.Bool.{eq-eqb, ne_eqb}
 use Rattle.dm_token.specs.declared.place.Place.{Place}
 use Rattle.dm_token.specs.declared.token.Token.{Token}
 use Rattle.dm_token.specs.declared.expansion.Expansion.{Expansion}
 use Rattle.dm_expand.specs.Predefined.{name_of}
-use Rattle.demacro.specs.Listings.{AgreesFrom, gap, listed_behind, listing_of, root}
+use Rattle.demacro.specs.Listings.{AgreesFrom, gap, listed_behind, root}
 
 -- the name of the first expansion, where it has the number
 pub name_of-first : (instance : ℕ) (expansions : List Expansion) (first : Expansion) (others : List Expansion) (other : Place) → expansions ≡ first ∷ others → first.instance ≡ instance

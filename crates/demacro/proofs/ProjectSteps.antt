@@ -1,21 +1,17 @@
 -- Steps of the search for a unit in a project.
-use Rattle.std.proofs.Common.{◌≡◌, ◌∙◌, ℕ, zero, suc, ◌+◌, ◌<◌, ◌≤◌, Bool, true, false, List, [], ◌∷◌, length, take, get_or, Option, Some, None, Result, Ok, Err, IfOk, All, inl, inr, refl, sym, ap, ap₂, subst, arith, if◌then◌else◌, nat_lt, find, bytes_eq}
-use Rattle.std.proofs.lemmas.Bool.{false≢true}
+use Rattle.std.proofs.Common.{◌≡◌, ◌∙◌, ℕ, suc, ◌+◌, Bool, true, false, List, [], ◌∷◌, length, take, Option, Some, None, Result, Ok, Err, IfOk, All, inl, inr, refl, sym, ap, ap₂, subst, arith, if◌then◌else◌, nat_lt, bytes_eq}
 use Rattle.std.specs.List.{list_all}
 use Rattle.dm_token.specs.declared.unit.Unit.{Unit as Source}
 use Rattle.dm_token.specs.declared.stop.Memory.{Memory as NoMemory}
 use Rattle.dm_token.specs.Names.{is_normal_name}
-use Rattle.dm_token.specs.Limits.{source_length_limit}
-use Rattle.dm_io.specs.declared.folder.Got.{Got}
-use Rattle.dm_io.specs.declared.folder.Got.TheVariants.{Bytes, Absent, Long, Failed}
+use Rattle.dm_io.specs.declared.folder.Got.TheVariants.{Bytes, Long}
 use Rattle.dm_io.specs.Files.{Files, file_at}
 use Rattle.dm_io.specs.Answers.{IsAnswer, reading_of}
-use Rattle.dm_manifest.specs.declared.fault.ManifestFault.TheVariants.{Memory, Json, Shape, Name, Define, Twice, TooMany}
 use Rattle.dm_manifest.specs.Units.{IsLawful, is_folder, is_definable, are_distinct}
 use Rattle.demacro.specs.declared.project.Sought.{Sought}
 use Rattle.demacro.specs.declared.project.Sought.TheVariants.{Found, Missing}
 use Rattle.demacro.specs.declared.project.NoUnit.TheVariants.{ProjectName, NoManifest, TooLong, ReadFault, Manifest, Unlisted}
-use Rattle.demacro.specs.Outside.{HasText}
+use Rattle.dm_lines.specs.Outside.{HasText}
 use Rattle.demacro.specs.Projects.{AloneGives, HasManifest, IsProject, IsSought, ListGives, ManifestGives, NamesFile, alone, unit_named}
 
 -- a C file alone is a lawful unit

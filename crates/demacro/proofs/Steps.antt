@@ -1,5 +1,5 @@
 -- From what the steps of a call do to how it ends.
-use Rattle.std.proofs.Common.{◌≡◌, ◌≢◌, ℕ, ◌≤◌, ◌<◌, ◌⊎◌, inl, inr, List, [], ◌∷◌, length, Option, Some, None, true, is_some, refl, sym, ap, subst, ◌∙◌, arith, append_assoc, IsSome, unwrap_or, Result, Ok, Err, IfOk, OnOk, OnErr, MatchResult}
+use Rattle.std.proofs.Common.{◌≡◌, ◌≢◌, ℕ, ◌≤◌, ◌<◌, ◌⊎◌, inl, inr, List, [], ◌∷◌, length, Option, Some, None, true, is_some, refl, sym, ap, subst, ◌∙◌, arith, append_assoc, IsSome, unwrap_or, Result, Ok, Err, IfOk, OnOk, OnErr, MatchResult, codes}
 use Rattle.std.proofs.lemmas.Bool.{false≢true}
 use Rattle.dm_token.specs.Limits.{source_length_limit}
 use Rattle.dm_core.specs.Programs.{Program, text_of, rewritten}
@@ -17,20 +17,22 @@ use Rattle.dm_token.specs.declared.stop.Memory.{Memory}
 use Rattle.demacro.specs.declared.planning.Plan.{Plan}
 use Rattle.demacro.specs.declared.planning.Plan.TheVariants.{Apply, Explain}
 use Rattle.demacro.specs.declared.applying.Committed.TheVariants.{Done, WriteFailed, OutputFailed}
-use Rattle.demacro.specs.Outside.{Outside, HasText, IsAbsent, IsTooLong, Puts, PutsText, KeepsFiles}
-use Rattle.demacro.specs.Texts.{write_fault_line, usage_line}
-use Rattle.demacro.specs.Words.{Request, apply, expand, request_of}
-use Rattle.demacro.specs.UnitEndings as unit
+use Rattle.dm_lines.specs.Puts.{PutsText}
+use Rattle.dm_lines.specs.Outside.{Outside, HasText, IsAbsent, IsTooLong, Puts, KeepsFiles}
+use Rattle.dm_lines.specs.Lines.{write_fault_line}
+use Rattle.demacro.specs.Texts.{usage_line}
+use Rattle.dm_words.specs.Requests.{RunRequest, AsksToRun}
+use Rattle.demacro.specs.RunEndings.{EndsRunningAs}
+use Rattle.demacro.specs.declared.words.Command.{Command}
+use Rattle.demacro.specs.declared.words.Command.TheVariants as command
+use Rattle.demacro.specs.Words.{Request, apply, expand, run, request_of, Asks, AsksFor, AsksForOther}
 use Rattle.demacro.specs.UnitEndings.{EndsExpandingAs}
 use Rattle.demacro.specs.Plans.{IsPlan, IsReady, IsChange, line_for, status_for}
 use Rattle.demacro.specs.Commits.{IsCommittedAs, changed_files}
 use Rattle.std.specs.declared.io.ErrorKind.{ErrorKind}
+use Rattle.dm_running.proofs.RunSteps.{Rose-earlier}
 use Rattle.demacro.specs.Arguments.{PutsUsage, EndsUnread, is_want_of_memory}
 use Rattle.demacro.specs.Endings.{Ending, done, wrong_words, file_absent, form_left, file_too_long, read_failed, write_failed, output_failed, memory_wanted, status_of, EndsAt, EndsFor, Ends, EndsAs, EndsNamed, IsWanting, IsApplied, HoldsProgram, report_on}
-
--- faults that rose since a later moment rose since an earlier one
-Rose-earlier : (before middle after : ℕ) → before ≤ middle → Rose middle after → Rose before after
-Rose-earlier before middle after order rose = omega arith
 
 -- a file with a text is there
 pub HasFile-text : (told : Option Files) (name bytes : List ℕ) → HasText told name bytes → HasFile told name
@@ -173,10 +175,8 @@ ends_told name alias before after plan trouble (Ok status) planned is same keeps
 ends_told name alias before after plan trouble (Err error) planned is same keeps puts status_is unwritten = (keeps, unwritten)
 
 -- a call ends for want of memory, whatever its words are
-pub ends_wanting : (request : Option Request) (before after : Outside) → IsWanting before after → EndsFor request before after 8
-ends_wanting None before after wanting = (memory_wanted, refl, wanting)
-ends_wanting (Some (apply name)) before after wanting = (memory_wanted, refl, wanting)
-ends_wanting (Some (expand project file)) before after wanting = (unit.memory_wanted, refl, wanting)
+pub ends_wanting : (words : List (List ℕ)) (before after : Outside) → IsWanting before after → Ends words before after 8
+ends_wanting words before after wanting = inr (refl, wanting)
 
 -- where the arguments can't be read, the process ends as with wrong words
 pub ends_unread : (kind : ErrorKind) (before after : Outside) (status : ℕ) → KeepsFiles before after → PutsUsage before.written after.written before.sink_faults after.sink_faults status
@@ -190,26 +190,70 @@ pub at_error : {A E : Type 0} (result : Result A E) (error : E) (P : A → Type 
 at_error result error P Q is holds = subst (λ told. MatchResult told P Q) (sym is) holds
 
 -- a call with other words puts the usage line, or ends for want of memory
-pub ends_unnamed : (words : List (List ℕ)) (before after : Outside) (result : Result ℕ Memory) → request_of words ≡ None → KeepsFiles before after → OnOk result (Puts before after usage_line)
+pub ends_unnamed : (words : List (List ℕ)) (before after : Outside) (result : Result ℕ Memory) → Asks words None → KeepsFiles before after → OnOk result (Puts before after usage_line)
     → IfOk result (λ status. status ≡ 1) → OnErr result (after.written ≡ before.written) → EndsAs words before after result
 ends_unnamed words before after (Ok status) none keeps puts is unwritten =
-    subst (λ request. EndsFor request before after status) (sym none) (wrong_words, is, (keeps, puts))
+    inl (None, none, (wrong_words, is, (keeps, puts)))
 ends_unnamed words before after (Err error) none keeps puts is unwritten = (keeps, unwritten)
 
 -- a call to apply a file ends as applying it does
 pub ends_named : (words : List (List ℕ)) (name : List ℕ) (before after : Outside) (result : Result ℕ Memory) → request_of words ≡ Some (apply name) → EndsNamed name before after result → EndsAs words before after result
-ends_named words name before after (Ok status) asks ends = subst (λ request. EndsFor request before after status) (sym asks) ends
+ends_named words name before after (Ok status) asks ends = inl (Some (apply name), asks, ends)
 ends_named words name before after (Err error) asks ends = ends
 
 -- a call to expand a unit ends as expanding it does
 pub ends_expanding : (words : List (List ℕ)) (project file : List ℕ) (before after : Outside) (result : Result ℕ Memory) → request_of words ≡ Some (expand project file)
     → EndsExpandingAs project file before after result → EndsAs words before after result
-ends_expanding words project file before after (Ok status) asks ends = subst (λ request. EndsFor request before after status) (sym asks) ends
+ends_expanding words project file before after (Ok status) asks ends = inl (Some (expand project file), asks, ends)
 ends_expanding words project file before after (Err error) asks ends = ends
+
+-- a call to run a program ends as running it does
+pub ends_running : (words : List (List ℕ)) (request : RunRequest) (before after : Outside) (result : Result ℕ Memory) → AsksToRun words request
+    → EndsRunningAs request before after result → EndsAs words before after result
+ends_running words request before after (Ok status) asks ends = inl (Some (run request), asks, ends)
+ends_running words request before after (Err error) asks ends = ends
+
+-- the words of `run` are those of no other command
+apart : (words : List (List ℕ)) (request : RunRequest) → AsksToRun words request → request_of words ≡ None
+apart words request asks = ap request_of asks.command ∙ at asks.behind
+  where
+    at : (behind : List (List ℕ)) → request_of (codes "run" ∷ behind) ≡ None
+    at [] = refl
+    at (first ∷ []) = refl
+    at (first ∷ second ∷ []) = refl
+    at (first ∷ second ∷ third ∷ more) = refl
+
+-- what the words ask for is one request
+pub asks_that : (words : List (List ℕ)) (request : Request) (asked : Option Request) → Asks words asked → request_of words ≡ Some request → asked ≡ Some request
+asks_that words request None asks is = sym asks.0 ∙ is
+asks_that words request (Some (apply file)) asks is = sym asks ∙ is
+asks_that words request (Some (expand project file)) asks is = sym asks ∙ is
+asks_that words request (Some (run one)) asks is =
+    let none : None ≡ Some request = sym (apart words one asks) ∙ is in
+    absurd cc
+
+pub asks_that_run : (words : List (List ℕ)) (request : RunRequest) (asked : Option Request) → ((w : List (List ℕ)) (a b : RunRequest) → AsksToRun w a → AsksToRun w b → a ≡ b) → Asks words asked → AsksToRun words request
+    → asked ≡ Some (run request)
+asks_that_run words request None once asks is = absurd (asks.1 request is)
+asks_that_run words request (Some (apply file)) once asks is =
+    let none : None ≡ Some (apply file) = sym (apart words request is) ∙ asks in
+    absurd cc
+asks_that_run words request (Some (expand project file)) once asks is =
+    let none : None ≡ Some (expand project file) = sym (apart words request is) ∙ asks in
+    absurd cc
+asks_that_run words request (Some (run one)) once asks is = ap (λ r. Some (run r)) (once words one request asks is)
 
 -- where the words are good, the file holds a program and nothing fails, the status says that all is done
 pub complete_for : (words : List (List ℕ)) (name : List ℕ) (before after : Outside) (program : Program) (status : ℕ) → Ends words before after status → request_of words ≡ Some (apply name)
     → HoldsProgram before.files name program → ¬ Rose before.folder_faults after.folder_faults → ¬ Rose before.sink_faults after.sink_faults → (status ≡ 0) ⊎ (status ≡ 8)
-complete_for words name before after program status ends asks holds folder sink =
-    let named = subst (λ request. EndsFor request before after status) asks ends in
+complete_for words name before after program status (inr wanting) asks holds folder sink = inr wanting.0
+complete_for words name before after program status (inl ends) asks holds folder sink =
+    let named = subst (λ request. EndsFor request before after status) (asks_that words (apply name) ends.0 ends.1 asks) ends.2 in
     subst (λ n. (n ≡ 0) ⊎ (n ≡ 8)) (sym named.1) (complete name before after program named.0 holds named.2 folder sink)
+
+-- words that ask for no run ask for another command, or for nothing
+pub asks_for_other : (words : List (List ℕ)) (found : Option Command) → ((request : RunRequest) → ¬ AsksToRun words request) → AsksForOther words found → AsksFor words found
+asks_for_other words None no_run asks = (asks, no_run)
+asks_for_other words (Some (command.Apply file)) no_run asks = asks
+asks_for_other words (Some command.Expand) no_run asks = asks
+asks_for_other words (Some (command.Run asked)) no_run asks = absurd asks

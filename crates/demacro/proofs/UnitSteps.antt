@@ -1,13 +1,12 @@
 -- From what is found of a unit to how a call of `expand` ends.
-use Rattle.std.proofs.Common.{◌≡◌, ◌≢◌, ◌∙◌, ℕ, zero, suc, ◌≤◌, ◌<◌, ◌⊎◌, inl, inr, Bool, true, false, List, [], ◌∷◌, length, Option, Some, None, is_some, Result, Ok, Err, IfOk, OnOk, OnErr, All, IsUtf8, refl, sym, ap, subst, arith}
-use Rattle.std.proofs.lemmas.Bool.{and_parts, leb-true, true≢false}
-use Rattle.std.specs.List.{list_all}
+use Rattle.std.proofs.Common.{◌≡◌, ◌≢◌, ◌∙◌, ℕ, ◌≤◌, ◌<◌, ◌⊎◌, inl, inr, true, List, length, Option, Some, None, is_some, Result, Ok, Err, IfOk, OnOk, OnErr, refl, sym, ap, subst, arith}
+use Rattle.std.proofs.lemmas.Bool.{true≢false}
 use Rattle.dm_token.specs.declared.stop.Memory.{Memory}
 use Rattle.dm_token.specs.declared.stop.Stop.{Stop}
 use Rattle.dm_token.specs.declared.stop.Stop.TheVariants as stop
 use Rattle.dm_token.specs.declared.unit.Unit.{Unit as Source}
 use Rattle.dm_token.specs.declared.unit.UnitTokens.{UnitTokens}
-use Rattle.dm_io.specs.Files.{Files, file_at}
+use Rattle.dm_io.specs.Files.{Files}
 use Rattle.dm_io.specs.Output.{appended, MayHaveAppended}
 use Rattle.dm_io.specs.Faults.{Rose}
 use Rattle.dm_search.specs.Loaded.{Loaded, name_of}
@@ -23,34 +22,23 @@ use Rattle.std.specs.Prelude.{is_ok}
 use Rattle.dm_manifest.specs.declared.fault.ManifestFault.{ManifestFault}
 use Rattle.dm_manifest.specs.declared.fault.ManifestFault.TheVariants as fault
 use Rattle.dm_manifest.specs.Answers.{IsManifest, HasFault}
-use Rattle.dm_manifest.specs.Defines.{is_define}
-use Rattle.dm_manifest.specs.Units.{IsLawful, is_definable, manifest_of}
+use Rattle.dm_manifest.specs.Units.{manifest_of}
 use Rattle.demacro.specs.declared.project.NoUnit.TheVariants.{ProjectName, NoManifest, TooLong, ReadFault, Manifest, Unlisted}
-use Rattle.demacro.specs.Outside.{HasText, Outside, KeepsFiles, Puts, PutsText}
+use Rattle.dm_lines.specs.Puts.{PutsText}
+use Rattle.dm_lines.specs.Outside.{HasText, Outside, KeepsFiles, Puts}
 use Rattle.demacro.specs.Projects.{HasManifest, HasNoUnit, HasUnit, IsManifestFault, IsProject, NamesManifest, unit_named, line_of_no_unit, status_of_no_unit}
+use Rattle.dm_running.proofs.RunSteps.{Rose-earlier}
+use Rattle.demacro.proofs.Steps.{asks_that}
 use Rattle.demacro.specs.Endings.{Ends, EndsFor}
 use Rattle.demacro.specs.Words.{expand, request_of}
-use Rattle.demacro.specs.UnitEndings.{UnitEnding, listed, unit_missing, refused, limit_passed, file_unread, listing_failed, memory_wanted, status_of_unit, IsReading, listing, EndsWith, EndsWithAs, EndsExpanding, EndsExpandingAs, HoldsUnit, line_of_stop, status_of_stop}
-
--- faults that rose since a later moment rose since an earlier one
-Rose-earlier : (before middle after : ℕ) → before ≤ middle → Rose middle after → Rose before after
-Rose-earlier before middle after order rose = omega arith
+use Rattle.dm_lines.specs.Stops.{line_of_stop, status_of_stop}
+use Rattle.demacro.specs.UnitEndings.{UnitEnding, listed, unit_missing, refused, limit_passed, file_unread, listing_failed, memory_wanted, status_of_unit, IsReading, listing, EndsWith, EndsWithAs, EndsExpanding, EndsExpandingAs, HoldsUnit}
 
 -- what a call for the unit gives is its reading
 pub is_reading : (told : Option Files) (unit : Source) (old new : Loaded) (result : Result UnitTokens Stop) → old ≡ fresh
     → ((files : Files) → told ≡ Some files → IsReadAs (setting_of old new files unit) unit old result new) → IsReading told unit result new
 is_reading None unit old new result is gives = tt
 is_reading (Some files) unit old new result is gives = subst (λ (loaded : Loaded). IsReadAs (setting_of loaded new files unit) unit loaded result new) is (gives files refl)
-
--- the defines of a lawful unit are no longer than a file
-short_defines : (defines : List (List ℕ)) → list_all is_definable defines ≡ true → All (λ (define : List ℕ). length define ≤ source_length_limit) defines
-unfolding is_define
-short_defines [] lawful k d below = absurd (omega arith)
-short_defines (define ∷ defines) lawful zero d below = leb-true _ _ (and_parts _ _ (and_parts _ _ (and_parts _ _ (and_parts _ _ lawful).0).0).0).0
-short_defines (define ∷ defines) lawful (suc k) d below = short_defines defines (and_parts _ _ lawful).1 k d (omega arith)
-
-pub lawful-short : (unit : Source) → IsLawful unit → All (λ (define : List ℕ). length define ≤ source_length_limit) unit.define
-lawful-short unit lawful = short_defines unit.define lawful.define
 
 -- a unit that was read is listed, or its listing fails, or memory is wanted
 pub ends_listed : (unit : Source) (before after : Outside) (tokens : UnitTokens) (files : Loaded) (result : Result ℕ Memory) → IsReading before.files unit (Ok tokens) files → KeepsFiles before after
@@ -178,7 +166,7 @@ one_project files project a b (inr left) (inl right) = absurd (true≢false (sym
 one_project files project a b (inr left) (inr right) =
     one_list right.0 a b (subst (λ bytes. IsManifest bytes a) (one_text files project left.0 right.0 left.1.1 right.1.1) left.2) right.2
 
-one_unit : (files : Files) (project file : List ℕ) (a b : Source) → HasUnit (Some files) project file a → HasUnit (Some files) project file b → a ≡ b
+pub one_unit : (files : Files) (project file : List ℕ) (a b : Source) → HasUnit (Some files) project file a → HasUnit (Some files) project file b → a ≡ b
 one_unit files project file a b left right =
     let same : Some a ≡ Some b = sym left.2 ∙ ap (unit_named file) (one_project files project left.0 right.0 left.1 right.1) ∙ right.2 in
     cc
@@ -194,7 +182,7 @@ manifest_of_project told project units names (inl is) = absurd (true≢false (sy
 manifest_of_project told project units names (inr is) = is
 
 -- a project with the unit lacks it for no reason but a fault of the folder
-has_unit : (files : Files) (project file : List ℕ) (unit : Source) (before after : ℕ) (why : NoUnit) → HasUnit (Some files) project file unit → HasNoUnit (Some files) project file before after why
+pub has_unit : (files : Files) (project file : List ℕ) (unit : Source) (before after : ℕ) (why : NoUnit) → HasUnit (Some files) project file unit → HasNoUnit (Some files) project file before after why
     → ¬ Rose before after → ⊥
 has_unit files project file unit before after ProjectName has none quiet = true≢false (sym (normal (Some files) project has.0 has.1) ∙ none)
 has_unit files project file unit before after NoManifest has none quiet =
@@ -256,6 +244,7 @@ complete_unit project file before after memory_wanted holds ends folder sink = i
 -- where the unit is read and nothing fails, it is put
 pub complete_unit_for : (words : List (List ℕ)) (project file : List ℕ) (before after : Outside) (status : ℕ) → Ends words before after status → request_of words ≡ Some (expand project file)
     → HoldsUnit before.files project file → ¬ Rose before.folder_faults after.folder_faults → ¬ Rose before.sink_faults after.sink_faults → (status ≡ 0) ⊎ (status ≡ 8)
-complete_unit_for words project file before after status ends asks holds folder sink =
-    let named = subst (λ request. EndsFor request before after status) asks ends in
+complete_unit_for words project file before after status (inr wanting) asks holds folder sink = inr wanting.0
+complete_unit_for words project file before after status (inl ends) asks holds folder sink =
+    let named = subst (λ request. EndsFor request before after status) (asks_that words (expand project file) ends.0 ends.1 asks) ends.2 in
     subst (λ n. (n ≡ 0) ⊎ (n ≡ 8)) (sym named.1) (complete_unit project file before after named.0 holds named.2 folder sink)

@@ -5,7 +5,8 @@ use Rattle.std.specs.declared.io.ErrorKind.{ErrorKind}
 use Rattle.std.specs.declared.io.ErrorKind.TheVariants.{OutOfMemory}
 use Rattle.std.specs.declared.vec.IntoIter.{IntoIter}
 use Rattle.demacro.specs.Texts.{usage_line}
-use Rattle.demacro.specs.Outside.{Outside, PutsText}
+use Rattle.dm_lines.specs.Puts.{PutsText}
+use Rattle.dm_lines.specs.Outside.{Outside}
 use Rattle.demacro.specs.Endings.{Ending, status_of, memory_wanted, EndsWithoutFile}
 
 -- what an iterator is still to give

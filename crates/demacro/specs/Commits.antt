@@ -6,7 +6,7 @@ use Rattle.dm_io.specs.Faults.{Rose}
 use Rattle.demacro.specs.declared.planning.Prepared.{Prepared}
 use Rattle.demacro.specs.declared.applying.Committed.{Committed}
 use Rattle.demacro.specs.declared.applying.Committed.TheVariants.{Done, WriteFailed, OutputFailed}
-use Rattle.demacro.specs.Outside.{Outside, Puts}
+use Rattle.dm_lines.specs.Outside.{Outside, Puts}
 
 -- memory is taken for the new bytes of the file
 abbrev pub HasRoom : Option (List ℕ) → ℕ → Type 0

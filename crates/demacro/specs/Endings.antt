@@ -1,17 +1,20 @@
 -- How a call of the program ends.
-use Rattle.std.specs.Prelude.{◌≡◌, ◌≢◌, ◌≤◌, ℕ, List, length, Option, Some, None, Result, Ok, Err}
+use Rattle.std.specs.Prelude.{◌≡◌, ◌≢◌, ◌≤◌, ◌⊎◌, ℕ, List, length, Option, Some, None, Result, Ok, Err}
 use Rattle.dm_token.specs.declared.stop.Memory.{Memory}
-use Rattle.dm_token.specs.Places.{line_at, column_at}
+use Rattle.dm_token.specs.Places.{place_of}
 use Rattle.dm_token.specs.Limits.{source_length_limit}
 use Rattle.dm_core.specs.Programs.{Program, IsFirstForm, text_of, rewritten}
 use Rattle.dm_core.specs.Forms.{first_of, LeavesFormAt, MeansTheSame}
 use Rattle.dm_io.specs.Files.{Files, file_at, with_file, MayHaveSpoiled}
 use Rattle.dm_io.specs.Output.{appended, MayHaveAppended}
 use Rattle.dm_io.specs.Faults.{Rose}
-use Rattle.demacro.specs.Words.{Request, apply, expand, request_of}
-use Rattle.demacro.specs.Texts.{usage_line, refusal_line, limit_line, read_fault_line, write_fault_line, report_of}
+use Rattle.demacro.specs.Words.{Request, apply, expand, run, Asks}
+use Rattle.dm_lines.specs.Lines.{refusal_line, limit_line, read_fault_line, write_fault_line}
+use Rattle.demacro.specs.Texts.{usage_line, report_of}
 use Rattle.demacro.specs.UnitEndings.{UnitEnding, status_of_unit, EndsExpanding}
-use Rattle.demacro.specs.Outside.{Outside, HasText, IsAbsent, IsTooLong, Puts, KeepsFiles}
+use Rattle.demacro.specs.Plans.{absent_refusal, form_refusal}
+use Rattle.demacro.specs.RunEndings.{ProgramEnding, status_of_program, EndsRunning}
+use Rattle.dm_lines.specs.Outside.{Outside, HasText, IsAbsent, IsTooLong, Puts, KeepsFiles}
 
 -- the endings, with the program that was applied, or with the bytes that are no program and where they leave the form
 pub data Ending : Type 0 where
@@ -57,9 +60,9 @@ EndsAt name before after (done program) =
     IsApplied before name program × IsRewritten before after name program × (after.written ≡ appended before.written (report_on name program))
 EndsAt name before after wrong_words = ⊥
 EndsAt name before after file_absent =
-    IsAbsent before.files name × KeepsFiles before after × Puts before after (refusal_line name 1 1 7)
+    IsAbsent before.files name × KeepsFiles before after × Puts before after (refusal_line name absent_refusal)
 EndsAt name before after (form_left bytes offset) =
-    HasText before.files name bytes × LeavesFormAt bytes offset × KeepsFiles before after × Puts before after (refusal_line name (line_at bytes offset) (column_at bytes offset) 20)
+    HasText before.files name bytes × LeavesFormAt bytes offset × KeepsFiles before after × Puts before after (refusal_line name (form_refusal (place_of 0 bytes offset)))
 EndsAt name before after file_too_long =
     IsTooLong before.files name × KeepsFiles before after × Puts before after (limit_line 1 name)
 EndsAt name before after read_failed =
@@ -82,14 +85,17 @@ EndsFor None before after status = (ending : Ending) × (status ≡ status_of en
 EndsFor (Some (apply name)) before after status = (ending : Ending) × (status ≡ status_of ending) × EndsAt name before after ending
 EndsFor (Some (expand project file)) before after status =
     (ending : UnitEnding) × (status ≡ status_of_unit ending) × EndsExpanding project file before after ending
-
--- a call with these words ends with this status
-abbrev pub Ends : List (List ℕ) → Outside → Outside → ℕ → Type 0
-Ends words before after status = EndsFor (request_of words) before after status
+EndsFor (Some (run request)) before after status =
+    (ending : ProgramEnding) × (status ≡ status_of_program ending) × EndsRunning request before after ending
 
 -- nothing is done for want of memory
 abbrev pub IsWanting : Outside → Outside → Type 0
 IsWanting before after = KeepsFiles before after × (after.written ≡ before.written)
+
+-- A call with these words ends with this status: what the words ask for is done, or memory is wanted.
+abbrev pub Ends : List (List ℕ) → Outside → Outside → ℕ → Type 0
+Ends words before after status =
+    ((asked : Option Request) × Asks words asked × EndsFor asked before after status) ⊎ ((status ≡ 8) × IsWanting before after)
 
 -- a call that applies a file ends: with a status, or for want of memory
 abbrev pub EndsNamed : List ℕ → Outside → Outside → Result ℕ Memory → Type 0

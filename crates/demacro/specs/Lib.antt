@@ -3,9 +3,9 @@ pub mod CommandLine
 pub mod Commits
 pub mod Endings
 pub mod Listings
-pub mod Outside
 pub mod Plans
 pub mod Projects
+pub mod RunEndings
 pub mod Texts
 pub mod UnitEndings
 pub mod Words

@@ -1,5 +1,7 @@
 -- What is found before anything is changed.
 use Rattle.std.specs.Prelude.{◌≡◌, ◌≢◌, ℕ, List, Option, Some, None}
+use Rattle.dm_token.specs.declared.place.Place.{Place}
+use Rattle.dm_token.specs.declared.stop.Refusal.{Refusal}
 use Rattle.dm_token.specs.Places.{place_of}
 use Rattle.dm_core.specs.declared.form.First.{First}
 use Rattle.dm_core.specs.Programs.{Program, text_of, rewritten}
@@ -11,8 +13,9 @@ use Rattle.demacro.specs.declared.planning.Trouble.TheVariants.{NotFound, NotYet
 use Rattle.demacro.specs.declared.planning.Prepared.{Prepared}
 use Rattle.demacro.specs.declared.planning.Plan.{Plan}
 use Rattle.demacro.specs.declared.planning.Plan.TheVariants.{Apply, Explain}
-use Rattle.demacro.specs.Texts.{report_of, refusal_line, limit_line, read_fault_line, write_fault_line}
-use Rattle.demacro.specs.Outside.{HasText, IsAbsent, IsTooLong}
+use Rattle.dm_lines.specs.Lines.{refusal_line, limit_line, read_fault_line, write_fault_line}
+use Rattle.demacro.specs.Texts.{report_of}
+use Rattle.dm_lines.specs.Outside.{HasText, IsAbsent, IsTooLong}
 
 -- the change of a file: none where its bytes stay, and else the new ones
 abbrev pub IsChange : List ℕ → List ℕ → Option (List ℕ) → Type 0
@@ -47,10 +50,17 @@ IsPlan files name before after (Explain (NotYet place)) = (bytes : List ℕ) × 
 IsPlan files name before after (Explain TooLong) = IsTooLong files name
 IsPlan files name before after (Explain ReadFault) = Rose before after
 
+-- an absent file is refused as 7 at its beginning, and one of another form as 20
+abbrev pub absent_refusal : Refusal
+absent_refusal = record { number = 7; detail = 0; place = record { file = 0; byte = 0; line = 1; column = 1 } }
+
+abbrev pub form_refusal : Place → Refusal
+form_refusal place = record { number = 20; detail = 0; place = place }
+
 -- the line that explains why there is nothing to apply, and the status
 abbrev pub line_for : List ℕ → Trouble → List ℕ
-line_for name NotFound = refusal_line name 1 1 7
-line_for name (NotYet place) = refusal_line name place.line place.column 20
+line_for name NotFound = refusal_line name absent_refusal
+line_for name (NotYet place) = refusal_line name (form_refusal place)
 line_for name TooLong = limit_line 1 name
 line_for name ReadFault = read_fault_line name
 

@@ -13,9 +13,9 @@ use Rattle.demacro.specs.declared.project.Sought.{Sought}
 use Rattle.demacro.specs.declared.project.Sought.TheVariants.{Found, Missing}
 use Rattle.demacro.specs.declared.project.NoUnit.{NoUnit}
 use Rattle.demacro.specs.declared.project.NoUnit.TheVariants.{ProjectName, NoManifest, TooLong, ReadFault, Manifest, Unlisted}
-use Rattle.demacro.specs.Outside.{HasText, IsAbsent, IsTooLong}
+use Rattle.dm_lines.specs.Outside.{HasText, IsAbsent, IsTooLong}
 use Rattle.demacro.specs.Words.{is_c_file}
-use Rattle.demacro.specs.Texts.{manifest_line, limit_line, read_fault_line}
+use Rattle.dm_lines.specs.Lines.{manifest_line, limit_line, read_fault_line}
 
 -- the unit of a C file alone
 abbrev pub alone : List ℕ → Source

@@ -1,5 +1,5 @@
 -- How a call of `expand` ends.
-use Rattle.std.specs.Prelude.{◌≡◌, ℕ, List, [], slice_index_or, Option, Some, None, Result, Ok, Err}
+use Rattle.std.specs.Prelude.{◌≡◌, ℕ, List, Option, Some, None, Result, Ok, Err}
 use Rattle.dm_token.specs.declared.stop.Memory.{Memory}
 use Rattle.dm_token.specs.declared.stop.Refusal.{Refusal}
 use Rattle.dm_token.specs.declared.stop.Limit.{Limit}
@@ -16,8 +16,8 @@ use Rattle.dm_unit.specs.Units.{IsReadAs, setting_of}
 use Rattle.demacro.specs.declared.project.NoUnit.{NoUnit}
 use Rattle.demacro.specs.Projects.{HasUnit, HasNoUnit, line_of_no_unit, status_of_no_unit}
 use Rattle.demacro.specs.Listings.{listing_of}
-use Rattle.demacro.specs.Texts.{refusal_line, limit_line, read_fault_line}
-use Rattle.demacro.specs.Outside.{Outside, Puts, KeepsFiles}
+use Rattle.dm_lines.specs.Lines.{refusal_line, limit_line, read_fault_line}
+use Rattle.dm_lines.specs.Outside.{Outside, Puts, KeepsFiles}
 
 -- the endings, with what was found of the unit, and with the files by number where one of them is named
 pub data UnitEnding : Type 0 where
@@ -56,7 +56,7 @@ EndsWith unit before after (listed tokens files) =
 EndsWith unit before after (unit_missing why) = ⊥
 EndsWith unit before after (refused refusal files) =
     IsReading before.files unit (Err (stop.Refused refusal)) files × KeepsFiles before after
-    × Puts before after (refusal_line (name_of files refusal.place.file) refusal.place.line refusal.place.column refusal.number)
+    × Puts before after (refusal_line (name_of files refusal.place.file) refusal)
 EndsWith unit before after (limit_passed limit files) =
     IsReading before.files unit (Err (stop.Limit limit)) files × KeepsFiles before after × Puts before after (limit_line limit.number (name_of files limit.file))
 EndsWith unit before after (file_unread file files) =
@@ -83,20 +83,6 @@ EndsWithAs unit before after (Err error) = EndsWith unit before after memory_wan
 abbrev pub EndsExpandingAs : List ℕ → List ℕ → Outside → Outside → Result ℕ Memory → Type 0
 EndsExpandingAs project file before after (Ok status) = (ending : UnitEnding) × (status ≡ status_of_unit ending) × EndsExpanding project file before after ending
 EndsExpandingAs project file before after (Err error) = EndsExpanding project file before after memory_wanted
-
--- the line that says why a unit's reading stopped, and the status
-abbrev pub line_of_stop : List (List ℕ) → Stop → List ℕ
-line_of_stop names stop.Memory = []
-line_of_stop names (stop.Refused refusal) =
-    refusal_line (slice_index_or names refusal.place.file []) refusal.place.line refusal.place.column refusal.number
-line_of_stop names (stop.Limit limit) = limit_line limit.number (slice_index_or names limit.file [])
-line_of_stop names (stop.ReadFault file) = read_fault_line (slice_index_or names file [])
-
-abbrev pub status_of_stop : Stop → ℕ
-status_of_stop stop.Memory = 8
-status_of_stop (stop.Refused refusal) = 3
-status_of_stop (stop.Limit limit) = 4
-status_of_stop (stop.ReadFault file) = 5
 
 -- the files are told, the project has the unit, and its reading gives these tokens
 pub record HoldsUnit (told : Option Files) (project file : List ℕ) : Type 0 where

@@ -2,7 +2,7 @@ ghost use Rattle.std.specs.Prelude.{◌≡◌, ◌≤◌, IsSome, OnOk, OnErr, f
 ghost use Rattle.std.specs.Bool.{OnTrue, OnFalse};
 ghost use Rattle.dm_io.specs.Files.{HasFile, MayHaveSpoiled};
 ghost use Rattle.dm_io.specs.Faults.{Rose};
-ghost use Rattle.demacro.specs.Outside.{outside};
+ghost use Rattle.dm_lines.specs.Outside.{outside};
 ghost use Rattle.demacro.specs.Commits.{HasRoom, HasOutputRoom, IsCommitted, changed_files, status_after};
 
 use crate::planning::Prepared;

@@ -1,12 +1,13 @@
 ghost use Rattle.std.specs.Prelude.{◌≡◌, ◌≤◌, true};
 ghost use Rattle.dm_manifest.specs.Units.{IsLawful};
-ghost use Rattle.demacro.specs.Outside.{outside};
+ghost use Rattle.dm_lines.specs.Outside.{outside};
 ghost use Rattle.demacro.specs.UnitEndings.{EndsExpandingAs, EndsWithAs};
 
-use crate::explaining::{explain_no_unit, explain_stop};
+use crate::explaining::explain_no_unit;
 use crate::listing::put_listing;
 use crate::project::{Sought, find_unit};
 use dm_io::{Folder, Sink};
+use dm_lines::explain_stop;
 use dm_search::Loader;
 use dm_token::{Memory, Text, Unit};
 use dm_unit::unit_tokens;

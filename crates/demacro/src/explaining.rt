@@ -1,16 +1,15 @@
-ghost use Rattle.std.specs.Prelude.{◌≡◌, ◌≢◌, ◌≤◌, [], slice_index_or, IfOk, OnOk, OnErr};
-ghost use Rattle.demacro.specs.Outside.{PutsText};
-ghost use Rattle.demacro.specs.Plans.{line_for, status_for};
+ghost use Rattle.std.specs.Prelude.{◌≡◌, ◌≤◌, IfOk, OnOk, OnErr};
+ghost use Rattle.dm_lines.specs.Puts.{PutsText};
+ghost use Rattle.demacro.specs.Plans.{absent_refusal, form_refusal, line_for, status_for};
 ghost use Rattle.demacro.specs.Projects.{line_of_fault, line_of_no_unit, status_of_fault, status_of_no_unit};
-ghost use Rattle.demacro.specs.UnitEndings.{line_of_stop, status_of_stop};
 ghost use Rattle.demacro.specs.Texts.{usage_line};
 
 use crate::planning::Trouble;
 use crate::project::NoUnit;
-use crate::reporting::{limit_line, manifest_line, read_fault_line, refusal_line};
 use dm_io::Sink;
+use dm_lines::{limit_line, manifest_line, put_line, read_fault_line, refusal_line};
 use dm_manifest::ManifestFault;
-use dm_token::{Limit, Memory, Refusal, Stop, Text};
+use dm_token::{Memory, Place, Refusal};
 use std::alloc::Global;
 
 /// The usage line.
@@ -121,88 +120,39 @@ fn status_about_fault(fault: &ManifestFault) -> u8
     }
 }
 
-/// Puts why a unit's reading stopped, and answers the status, where these are the files' names by number.
-pub fn explain_stop<S: Sink>(
-    alloc: Global,
-    out: &mut S,
-    names: &[Text],
-    stop: Stop,
-) -> Result<u8, Memory>
-    ensures put { OnOk result (PutsText (S.written out.old) (S.written out.new) (S.faults out.old) (S.faults out.new) (line_of_stop names.now stop)) }
-    ensures status { IfOk result (λ status. (status ≡ status_of_stop stop) × (stop ≢ Stop.Memory)) }
-    ensures err { OnErr result (S.written out.new ≡ S.written out.old) }
-    ensures later { S.faults out.old ≤ S.faults out.new }
-{
-    let line = line_about_stop(alloc, names, stop)?;
-    put_line(alloc, out, line.as_slice())?;
-    Ok(status_about_stop(stop))
-}
-
-fn line_about_stop(alloc: Global, names: &[Text], stop: Stop) -> Result<Vec<u8>, Memory>
-    ensures line { IfOk result (λ line. line.items ≡ line_of_stop names.now stop) }
-    ensures known { OnOk result (stop ≢ Stop.Memory) }
-{
-    match stop {
-        Stop::Memory => Err(Memory),
-        Stop::Refused(
-            Refusal {
-                number,
-                detail: _,
-                place,
-            },
-        ) => {
-            let file = name_by_number(names, place.file);
-            refusal_line(alloc, file, place.line, place.column, number)
-        }
-        Stop::Limit(Limit { number, file }) => limit_line(
-            alloc,
-            number,
-            name_by_number(names, file),
-        ),
-        Stop::ReadFault(file) => read_fault_line(alloc, name_by_number(names, file)),
-    }
-}
-
-fn status_about_stop(stop: Stop) -> u8
-    ensures { result ≡ status_of_stop stop }
-{
-    match stop {
-        Stop::Memory => 8,
-        Stop::Refused(_) => 3,
-        Stop::Limit(_) => 4,
-        Stop::ReadFault(_) => 5,
-    }
-}
-
-/// The name of a number, which is empty where there is none.
-fn name_by_number(names: &[Text], file: u32) -> &[u8]
-    ensures { result.now ≡ slice_index_or names.now file [] }
-{
-    match names.get(file as usize) {
-        Some(name) => name.bytes(),
-        None => &[],
-    }
-}
-
-/// Makes the sink ready for a line, and puts it.
-fn put_line<S: Sink>(alloc: Global, out: &mut S, line: &[u8]) -> Result<(), Memory>
-    ensures put { OnOk result (PutsText (S.written out.old) (S.written out.new) (S.faults out.old) (S.faults out.new) line.now) }
-    ensures err { OnErr result (S.written out.new ≡ S.written out.old) }
-    ensures later { S.faults out.old ≤ S.faults out.new }
-{
-    out.ready(alloc, line.len())?;
-    let _ = out.put(line);
-    Ok(())
-}
-
 fn line_about(alloc: Global, name: &[u8], trouble: Trouble) -> Result<Vec<u8>, Memory>
     ensures { IfOk result (λ line. line.items ≡ line_for name.now trouble) }
 {
     match trouble {
-        Trouble::NotFound => refusal_line(alloc, name, 1, 1, 7),
-        Trouble::NotYet(place) => refusal_line(alloc, name, place.line, place.column, 20),
+        Trouble::NotFound => refusal_line(alloc, name, absent()),
+        Trouble::NotYet(place) => refusal_line(alloc, name, other_form(place)),
         Trouble::TooLong => limit_line(alloc, 1, name),
         Trouble::ReadFault => read_fault_line(alloc, name),
+    }
+}
+
+fn absent() -> Refusal
+    ensures { result ≡ absent_refusal }
+{
+    Refusal {
+        number: 7,
+        detail: 0,
+        place: Place {
+            file: 0,
+            byte: 0,
+            line: 1,
+            column: 1,
+        },
+    }
+}
+
+fn other_form(place: Place) -> Refusal
+    ensures { result ≡ form_refusal place }
+{
+    Refusal {
+        number: 20,
+        detail: 0,
+        place,
     }
 }
 

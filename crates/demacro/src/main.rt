@@ -5,13 +5,13 @@
 mod applying;
 mod expanding;
 mod explaining;
-mod joining;
 mod listing;
 mod parsing;
 mod planning;
 mod process;
 mod project;
 mod reporting;
+mod running;
 mod top;
 mod words;
 

@@ -2,9 +2,10 @@ ghost use Rattle.std.specs.Prelude.{◌≡◌, ◌≤◌, IfOk, length};
 ghost use Rattle.dm_token.specs.Limits.{source_length_limit};
 ghost use Rattle.demacro.specs.Plans.{IsChange, IsPrepared, IsPlan, IsPlanFor};
 
-use crate::reporting::{report, write_fault_line};
+use crate::reporting::report;
 use dm_core::First;
 use dm_io::{Folder, Got};
+use dm_lines::write_fault_line;
 use dm_plan::first;
 use dm_token::{List, Memory, Place, Stop, Text, source_length_limit};
 use std::alloc::Global;

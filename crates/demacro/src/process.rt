@@ -3,7 +3,7 @@ ghost use Rattle.std.specs.IoError.{error_kind};
 ghost use Rattle.std.specs.Process.{exit_status};
 ghost use Rattle.demacro.specs.Arguments.{EndsUnread, PutsUsage, is_want_of_memory, items_of};
 ghost use Rattle.demacro.specs.Endings.{Ends};
-ghost use Rattle.demacro.specs.Outside.{outside};
+ghost use Rattle.dm_lines.specs.Outside.{outside};
 
 use crate::explaining::explain_usage;
 use crate::top::run;

@@ -1,118 +1,12 @@
 ghost use Rattle.std.specs.Prelude.{◌≡◌, ◌++◌, count_by, not, IfOk, OnOk};
 ghost use Rattle.dm_core.specs.declared.form.Named.{Named};
-ghost use Rattle.demacro.specs.Texts.{refusal_line as refusal_text, refusal_name as name_of_refusal, limit_line as limit_text, manifest_line as manifest_text, read_fault_line as read_fault_text, write_fault_line as write_fault_text, rewritten_line, kept_line, named_line, summary_line, report_of};
+ghost use Rattle.demacro.specs.Texts.{rewritten_line, kept_line, named_line, summary_line, report_of};
 
-use crate::joining::append_all;
 use dm_core::Named;
+use dm_lines::append_all;
 use dm_token::Memory;
 use itoa::Buffer;
 use std::alloc::Global;
-
-/// `FILE:LINE:COLUMN: refusal K Name`.
-pub fn refusal_line(
-    alloc: Global,
-    file: &[u8],
-    line: u32,
-    column: u32,
-    number: u8,
-) -> Result<Vec<u8>, Memory>
-    ensures { IfOk result (λ text. text.items ≡ refusal_text file.now line column number) }
-{
-    let name = refusal_name(number).as_bytes();
-    let mut line_digits = Buffer::new();
-    let mut column_digits = Buffer::new();
-    let mut digits = Buffer::new();
-    let line = line_digits.format(line).as_bytes();
-    let column = column_digits.format(column).as_bytes();
-    let number = digits.format(number).as_bytes();
-    let mut text = Vec::new(alloc);
-    append_all(
-        &mut text,
-        &[
-            file,
-            b":",
-            line,
-            b":",
-            column,
-            b": refusal ",
-            number,
-            b" ",
-            name,
-            b"\n",
-        ],
-    )?;
-    Ok(text)
-}
-
-/// The name of a refusal.
-#[tactic(auto, unfolding(crate::specs::Texts::refusal_name))]
-fn refusal_name<'a>(number: u8) -> &'a str
-    ensures { result.now ≡ name_of_refusal number }
-{
-    match number {
-        1 => "Byte",
-        2 => "Comment",
-        3 => "Literal",
-        4 => "Directive",
-        5 => "Form",
-        6 => "Conditionals",
-        7 => "NotFound",
-        8 => "Splice",
-        9 => "Arguments",
-        10 => "Paste",
-        11 => "HashOperand",
-        12 => "Redefinition",
-        13 => "Condition",
-        14 => "Error",
-        15 => "Constant",
-        16 => "Syntax",
-        17 => "Type",
-        18 => "OutOfSubset",
-        19 => "NoMain",
-        20 => "NotYet",
-        _ => "",
-    }
-}
-
-/// `limit Lk FILE`.
-pub fn limit_line(alloc: Global, number: u8, file: &[u8]) -> Result<Vec<u8>, Memory>
-    ensures { IfOk result (λ text. text.items ≡ limit_text number file.now) }
-{
-    let mut digits = Buffer::new();
-    let number = digits.format(number).as_bytes();
-    let mut text = Vec::new(alloc);
-    append_all(&mut text, &[b"limit L", number, b" ", file, b"\n"])?;
-    Ok(text)
-}
-
-/// `manifest Mk PATH`.
-pub fn manifest_line(alloc: Global, number: u8, path: &[u8]) -> Result<Vec<u8>, Memory>
-    ensures { IfOk result (λ text. text.items ≡ manifest_text number path.now) }
-{
-    let mut digits = Buffer::new();
-    let number = digits.format(number).as_bytes();
-    let mut text = Vec::new(alloc);
-    append_all(&mut text, &[b"manifest M", number, b" ", path, b"\n"])?;
-    Ok(text)
-}
-
-/// `read fault FILE`.
-pub fn read_fault_line(alloc: Global, file: &[u8]) -> Result<Vec<u8>, Memory>
-    ensures { IfOk result (λ text. text.items ≡ read_fault_text file.now) }
-{
-    let mut text = Vec::new(alloc);
-    append_all(&mut text, &[b"read fault ", file, b"\n"])?;
-    Ok(text)
-}
-
-/// `write fault FILE`.
-pub fn write_fault_line(alloc: Global, file: &[u8]) -> Result<Vec<u8>, Memory>
-    ensures { IfOk result (λ text. text.items ≡ write_fault_text file.now) }
-{
-    let mut text = Vec::new(alloc);
-    append_all(&mut text, &[b"write fault ", file, b"\n"])?;
-    Ok(text)
-}
 
 /// A line for each macro, and the numbers of those that are rewritten and kept.
 #[tactic(auto, unfolding(crate::specs::Texts::report_of))]

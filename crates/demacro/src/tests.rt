@@ -8,7 +8,10 @@ use std::io::{self, ErrorKind};
 use std::process::{Abort, ExitCode};
 use std::test::Fail;
 
+mod calls;
 mod expanding;
+mod programs;
+mod running;
 
 /// A call on a folder with the one file `a.c`, and what has to come of it.
 #[derive(Clone, Copy)]

@@ -1,66 +1,8 @@
 //! Calls of `expand` on small projects.
 
-use super::{USAGE, numbers};
-use crate::top::run;
-use dm_io::{MemoryFolder, MemorySink};
-use dm_token::{List, Text};
-use std::alloc::Global;
-use std::process::Abort;
+use super::USAGE;
+use super::calls::{expect, expect_failing};
 use std::test::Fail;
-
-/// The words of a call, with one space between two of them.
-fn words_of(alloc: Global, line: &str) -> Result<Vec<String>, Fail> {
-    let mut words = Vec::new(alloc);
-    for word in line.split(' ') {
-        words.push(String::from_str(alloc, word)?)?;
-    }
-    Ok(words)
-}
-
-/// A folder with files that stand one after another in a text, each behind a line `== NAME`.
-fn folder_of(alloc: Global, failing: List<u32>, files: &str) -> Result<MemoryFolder, Fail> {
-    let mut folder = MemoryFolder::new(alloc, failing);
-    for file in files.split("== ") {
-        if let Some((name, bytes)) = file.split_once('\n') {
-            let name = Text::new(alloc, name)?;
-            if folder.file(&name).is_none() {
-                folder.add(&name, bytes.as_bytes())?;
-            }
-        }
-    }
-    Ok(folder)
-}
-
-/// Makes a call in which these calls of the folder and of the sink fail, and compares the status and the output.
-fn expect_failing<R: Abort + AllocGlobal>(
-    rt: &R,
-    line: &str,
-    files: &str,
-    failing: &[u32],
-    failing_puts: &[u32],
-    status: u8,
-    output: &str,
-) -> Result<(), Fail> {
-    let alloc = rt.alloc();
-    let mut folder = folder_of(alloc, numbers(alloc, failing)?, files)?;
-    let mut out = MemorySink::new(alloc, numbers(alloc, failing_puts)?);
-    let words = words_of(alloc, line)?;
-    let ended = run(alloc, &words, &mut folder, &mut out);
-    assert_eq!(rt; ended, status, "{line} of {files}");
-    assert_eq!(rt; out.bytes(), output.as_bytes(), "{line} of {files}");
-    Ok(())
-}
-
-/// The same, in which none fails.
-fn expect<R: Abort + AllocGlobal>(
-    rt: &R,
-    line: &str,
-    files: &str,
-    status: u8,
-    output: &str,
-) -> Result<(), Fail> {
-    expect_failing(rt, line, files, &[], &[], status, output)
-}
 
 #[test]
 fn lists_the_tokens_of_one_file(rt: HostRuntime) -> Result<(), Fail> {

@@ -1,8 +1,7 @@
 -- A unit that is found is expanded, and else it is explained why there is none.
 use Rattle.std.proofs.Common.{refl, subst}
-use Rattle.demacro.specs.Outside.{outside}
-use Rattle.demacro.specs.Projects.{IsSought, line_of_no_unit}
-use Rattle.demacro.specs.UnitEndings.{EndsExpandingAs}
+use Rattle.dm_lines.specs.Outside.{outside}
+use Rattle.demacro.specs.Projects.{IsSought}
 use Rattle.demacro.proofs.UnitSteps.{ends_found, ends_missing, ends_too, puts_about}
 use Rattle.demacro.proofs.expanding.expand.Goals as goal
 

@@ -1,7 +1,8 @@
 -- A unit is listed, or its stop is explained.
 use Rattle.std.proofs.Common.{ap, Err}
-use Rattle.demacro.specs.Outside.{outside}
-use Rattle.demacro.proofs.UnitSteps.{ends_listed, ends_stopped, is_reading, lawful-short}
+use Rattle.dm_lines.specs.Outside.{outside}
+use Rattle.dm_running.proofs.RunSteps.{lawful-short}
+use Rattle.demacro.proofs.UnitSteps.{ends_listed, ends_stopped, is_reading}
 use Rattle.demacro.proofs.expanding.expand_unit.Goals as goal
 
 pub unit_tokens-requires-clause-short : goal.unit_tokens-requires-clause-short

@@ -1,9 +1,9 @@
 -- What `clap` makes of good words.
 use Rattle.std.proofs.Common.{◌∙◌, sym, ap, ap₂, map, string_bytes, Some}
 use Rattle.clap.proofs.TakesLemmas.{passed_up}
-use Rattle.clap.specs.Words.{app_of, found_of, kind_of}
+use Rattle.clap.specs.Words.{app_of, found_of}
 use Rattle.demacro.proofs.CommandReading as reading
-use Rattle.demacro.specs.Words.{expand, request_of}
+use Rattle.demacro.specs.Words.{expand}
 use Rattle.demacro.proofs.parsing.project_and_unit.Goals as goal
 
 pub returns-in_err-matches-clause-fault : goal.returns-in_err-matches-clause-fault

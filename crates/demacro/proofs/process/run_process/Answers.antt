@@ -4,7 +4,7 @@ use Rattle.std.specs.IoError.{error_kind}
 use Rattle.std.specs.Process.{exit_status}
 use Rattle.demacro.specs.Arguments.{EndsUnread, items_of}
 use Rattle.demacro.specs.Endings.{Ends}
-use Rattle.demacro.specs.Outside.{outside}
+use Rattle.dm_lines.specs.Outside.{outside}
 use Rattle.demacro.proofs.Steps.{at_error, ends_unread}
 use Rattle.demacro.proofs.process.run_process.Goals as goal
 

@@ -1,5 +1,5 @@
 -- A C file alone, and a manifest.
-use Rattle.std.proofs.Common.{◌≡◌, ◌≤◌, length, rules, subst, arith, IfOk}
+use Rattle.std.proofs.Common.{◌≤◌, length, rules, subst, arith, IfOk}
 use Rattle.dm_io.specs.Answers.{IsAnswer, HasAtMost}
 use Rattle.dm_token.specs.Limits.{source_length_limit}
 use Rattle.demacro.specs.Projects.{HasManifest, NamesFile, NamesManifest, ManifestGives}

@@ -1,6 +1,6 @@
 -- What the plan says, and how applying or explaining it ends.
 use Rattle.std.proofs.Common.{refl}
-use Rattle.demacro.specs.Outside.{outside}
+use Rattle.dm_lines.specs.Outside.{outside}
 use Rattle.demacro.proofs.Steps.{ends_applied, ends_told}
 use Rattle.demacro.proofs.top.apply.Goals as goal
 

@@ -1,6 +1,6 @@
 -- Good words name a project and a unit, and reading them fails only for want of memory.
 use Rattle.std.proofs.Common.{map, string_bytes}
-use Rattle.demacro.specs.Outside.{outside}
+use Rattle.dm_lines.specs.Outside.{outside}
 use Rattle.demacro.proofs.Steps.{ends_expanding}
 use Rattle.demacro.proofs.top.expand_named.Goals as goal
 

@@ -1,6 +1,6 @@
 -- Good words say what is done, and other words are explained.
 use Rattle.std.proofs.Common.{refl, map, string_bytes}
-use Rattle.demacro.specs.Outside.{outside}
+use Rattle.dm_lines.specs.Outside.{outside}
 use Rattle.demacro.proofs.Steps.{ends_named, ends_unnamed}
 use Rattle.demacro.proofs.top.run_words.Goals as goal
 

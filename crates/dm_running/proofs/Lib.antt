@@ -1,0 +1,3 @@
+pub mod CompleteRuns
+mod FinishSteps
+pub mod RunSteps

@@ -1,0 +1,4 @@
+pub mod Endings
+pub mod Finishes
+pub mod Inputs
+pub mod Readings

@@ -1,0 +1,5 @@
+#define SQ(x) ((x)*(x))
+int main(void) {
+    int i = 3;
+    return SQ(i++);
+}
