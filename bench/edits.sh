@@ -8,6 +8,7 @@ work=$(mktemp -d) || exit 2
 trap 'rm -rf "$work"' EXIT
 git clone -q "$top" "$work/checkout" && cd "$work/checkout" || exit 2
 for name in "$@"; do
+    [ -d "crates/$name/more-must-fail" ] || continue
     mkdir -p "crates/$name/must-fail" && mv "crates/$name/more-must-fail"/*.edit "crates/$name/must-fail/" || exit 2
 done
 rt must-fail "$@"
