@@ -6,8 +6,14 @@ use dm_token::Memory;
 use std::alloc::Global;
 use std::marker::Model;
 
-/// How many hide sets are kept with what they became.
-const KEPT: usize = 16;
+/// How many places there are at first for hide sets with what they became, a power of 2.
+const FIRST_PLACES: usize = 16;
+
+/// How many there are at most.
+const MOST_PLACES: usize = 4_096;
+
+/// How many macros a set hides at most whose extensions are kept.
+const MOST_HIDDEN: usize = 4_096;
 
 /// A hide set, and the same with one macro more. Contracts see what it became.
 #[derive(Drop)]
@@ -74,16 +80,18 @@ impl Extension {
     }
 }
 
-/// What hide sets became with one macro more: some of the last, so that tokens of the same way share them.
+/// What hide sets became with one macro more, so that tokens of the same way share them. Each has its place by the macro and
+/// by how many others are hidden, and gives it up to the next one there. There are twice as many places as soon as one is
+/// taken, up to the most.
 #[derive(Drop)]
 pub struct Extensions {
-    made: Vec<Extension>,
+    places: Vec<Option<Extension>>,
 }
 
 impl Extensions {
     pub fn new(alloc: Global) -> Extensions {
         Extensions {
-            made: Vec::new(alloc),
+            places: Vec::new(alloc),
         }
     }
 
@@ -91,36 +99,69 @@ impl Extensions {
     pub fn with(&mut self, hidden: &Hidden, number: u32) -> Result<Hidden, Memory>
         ensures { IfOk result (λ more. more ≡ set.insert hidden.now number) }
     {
-        let index = number as usize % KEPT;
-        if let Some(more) = self.known(index, hidden, number)? {
+        if hidden.count() > MOST_HIDDEN {
+            return hidden.with(number);
+        }
+        if let Some(more) = self.known(hidden, number)? {
             return Ok(more);
         }
         let extension = Extension::new(hidden, number)?;
         let more = extension.after()?;
-        self.keep(index, extension)?;
+        self.keep(extension)?;
         Ok(more)
     }
 
-    // The same, where it is kept at an index.
-    fn known(&self, index: usize, hidden: &Hidden, number: u32) -> Result<Option<Hidden>, Memory>
+    // The same, where it is kept.
+    fn known(&self, hidden: &Hidden, number: u32) -> Result<Option<Hidden>, Memory>
         ensures { IfOk result (λ found. IfSome found (λ more. more ≡ set.insert hidden.now number)) }
     {
-        match self.made.as_slice().get(index) {
-            None => Ok(None),
-            Some(extension) => {
+        let index = place_of(self.places.len(), hidden, number);
+        match self.places.as_slice().get(index) {
+            Some(Some(extension)) => {
                 let found = extension.of(hidden, number)?;
                 Ok(found)
             }
+            _ => Ok(None),
         }
     }
 
-    // Keeps one at an index, or behind the others where there are fewer.
-    fn keep(&mut self, index: usize, extension: Extension) -> Result<(), Memory> {
-        if index < self.made.len() {
-            self.made[index] = extension;
-        } else {
-            self.made.push(extension)?;
+    // Keeps one at its place.
+    fn keep(&mut self, extension: Extension) -> Result<(), Memory> {
+        if self.is_taken(&extension) && self.places.len() < MOST_PLACES {
+            self.places = more_places(*self.places.allocator(), self.places.len())?;
+        }
+        let index = place_of(self.places.len(), &extension.before, extension.number);
+        if index < self.places.len() {
+            self.places[index] = Some(extension);
         }
         Ok(())
     }
+
+    // Whether there is no place for one, or another one has it.
+    fn is_taken(&self, extension: &Extension) -> bool {
+        let index = place_of(self.places.len(), &extension.before, extension.number);
+        match self.places.as_slice().get(index) {
+            None => true,
+            Some(place) => place.is_some(),
+        }
+    }
+}
+
+// The place among so many, a power of 2, of what a set becomes with one macro more. A chain of macros has different ones.
+fn place_of(places: usize, hidden: &Hidden, number: u32) -> usize {
+    if places == 0 {
+        return 0;
+    }
+    let depth = hidden.count();
+    (number as usize ^ depth.wrapping_mul(2)) & (places - 1)
+}
+
+// Twice as many places, all of them free.
+fn more_places(alloc: Global, count: usize) -> Result<Vec<Option<Extension>>, Memory> {
+    let wanted = count.saturating_mul(2).max(FIRST_PLACES);
+    let mut places = Vec::with_capacity(alloc, wanted)?;
+    for _ in 0..wanted {
+        places.push(None)?;
+    }
+    Ok(places)
 }

@@ -1,9 +1,10 @@
-ghost use Rattle.std.specs.Prelude.{◌≡◌, ◌≤◌, [], ◌∷◌, ◌++◌, List, IfOk, OnOk, length, option_map};
+ghost use Rattle.std.specs.Prelude.{◌≡◌, ◌≤◌, [], ◌∷◌, ◌++◌, List, None, IfOk, OnOk, IsTrue, length, option_map};
 ghost use Rattle.std.specs.FinSet as set;
 ghost use Rattle.dm_macro.specs.Signs as sign;
 ghost use Rattle.dm_expand.specs.Items.{Item as Token};
 ghost use Rattle.dm_expand.specs.Arguments as arguments;
 ghost use Rattle.dm_expand.specs.Expansion as expansion;
+ghost use Rattle.dm_expand.specs.Laws.{IsNoName};
 ghost use Rattle.dm_expand.specs.Trails as trails;
 ghost use Rattle.dm_expand.specs.HeadViews.{macros_of, macro_value, head_value, replace_with, Stays, PutsNothing};
 
@@ -11,7 +12,7 @@ use crate::arguments::{Enclosed, arguments_of, next_of, take_enclosed};
 use crate::extension::Extensions;
 use crate::hidden::Hidden;
 use crate::item::Item;
-use crate::predefined::replaced;
+use crate::predefined::{may_be_predefined, replaced};
 use crate::progress::Progress;
 use crate::sign::{is_identifier, is_left_parenthesis};
 use crate::trails::{begins_with, come_otherwise};
@@ -70,6 +71,24 @@ fn macro_of<'a>(macros: &Macros<'a>, token: &PpToken) -> Option<Macro<'a>>
         number,
         definition: macros.table.definition(number),
     })
+}
+
+// Whether no macro has a token's name.
+#[tactic(auto, unfolding(crate::specs::Expansion::macro_of, crate::specs::Expansion::numbered))]
+fn is_no_macro(macros: &Macros, token: &PpToken) -> bool
+    ensures { IsTrue result → expansion.macro_of (macros_of macros.now) token.now ≡ None }
+{
+    macro_of(macros, token).is_none()
+}
+
+/// Whether it is sure that a token stays as it is, since it names no macro and nothing that is predefined.
+pub fn names_nothing(macros: &Macros, item: &Item) -> bool
+    ensures { IsTrue result → IsNoName (macros_of macros.now) item.now }
+{
+    if !is_identifier(&item.pp) {
+        return true;
+    }
+    !may_be_predefined(&item.pp) && is_no_macro(macros, &item.pp)
 }
 
 // An object-like macro's name.

@@ -61,6 +61,18 @@ impl Hidden {
         }
     }
 
+    /// How many numbers are put in.
+    pub fn count(&self) -> usize {
+        self.numbers().len()
+    }
+
+    // Whether it is sure that nothing is hidden.
+    fn is_nothing(&self) -> bool
+        ensures { IsTrue result → self.now ≡ set.empty }
+    {
+        self.numbers.is_none()
+    }
+
     pub fn holds(&self, number: u32) -> bool
         ensures { result ≡ set.contains self.now number }
     {
@@ -189,6 +201,10 @@ impl Hiding {
         ensures besides { IfOk result (λ both. both ≡ set.union other.now self.old) }
         ensures same { self.new ≡ self.old }
     {
+        if other.is_nothing() {
+            let mine = self.hidden.copy()?;
+            return Ok(mine);
+        }
         if are_same(&self.last, other) {
             return self.became.copy();
         }
@@ -240,17 +256,16 @@ fn is_among(numbers: &[u32], number: u32) -> bool
     found
 }
 
-// Whether a list begins with another.
+// Whether a list begins with another. No number ends the look, so several are compared at once.
 fn is_front(front: &[u32], numbers: &[u32]) -> bool
     ensures { IsTrue result → numbers.now ≡ front.now ++ drop (length front.now) numbers.now }
 {
     if numbers.len() < front.len() {
         return false;
     }
+    let mut same = true;
     for (index, number) in front.iter().enumerate() {
-        if *number != numbers[index] {
-            return false;
-        }
+        same &= *number == numbers[index];
     }
-    true
+    same
 }

@@ -15,12 +15,11 @@ ghost use Rattle.dm_expand.specs.Works.{outward, load, completed, completed_from
 use crate::arguments::next_of;
 use crate::extension::Extensions;
 use crate::fill::argument_for;
-use crate::head::{Head, Invocation, Macros, head_of};
+use crate::head::{Head, Invocation, Macros, head_of, names_nothing};
 use crate::hidden::Hidden;
 use crate::item::{Item, copied};
 use crate::paste::{Pieces, Site};
 use crate::progress::Progress;
-use crate::sign::is_identifier;
 use crate::substitute::{Whole, complete, fill_from, fill_whole, has_paste};
 use crate::trails::grown;
 use dm_token::{Definition, List, Mark, Memory, Place, Refusal, Stop};
@@ -237,7 +236,7 @@ fn scan_next<'a>(
     ensures stop { IfErr result (λ stop.
         StopsAs (tokens_before level.old.out.items (expanded (macros_of macros.now) (item ∷ level.old.rest.items) progress.now)) stop) }
 {
-    if !is_identifier(&item.pp) {
+    if names_nothing(macros, &item) {
         level.out.push(item)?;
         return Ok(None);
     }

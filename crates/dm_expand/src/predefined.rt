@@ -58,8 +58,8 @@ fn line_number(alloc: Global, line: u32) -> Result<Text, Memory>
     Text::from_bytes(alloc, digits.as_bytes())
 }
 
-// Whether a token may be a predefined name: each begins with `_`.
-fn may_be_predefined(token: &PpToken) -> bool
+/// Whether a token may be a predefined name: each begins with `_`.
+pub fn may_be_predefined(token: &PpToken) -> bool
     ensures { result ≡ false → predefined.is_predefined token.now ≡ false }
 {
     match token.spelling.bytes() {

@@ -1,6 +1,6 @@
 //! Text groups.
 
-ghost use Rattle.std.specs.Prelude.{IfOk, IfErr, OnOk};
+ghost use Rattle.std.specs.Prelude.{◌≡◌, ◌++◌, IfOk, IfErr, OnOk};
 ghost use Rattle.dm_unit.specs.Loaders.{shown};
 ghost use Rattle.dm_unit.specs.Readings.{after_text};
 ghost use Rattle.dm_unit.specs.Views.{IsFaultless, state_of, LeadsTo, ExpansionStops, IsCounted, Follows, Expands};
@@ -9,7 +9,7 @@ use crate::reader::Reader;
 use crate::stops::{in_unit, passed};
 use dm_expand::{Expanded, expand};
 use dm_search::Loader;
-use dm_token::{PpToken, Stop, Text};
+use dm_token::{Memory, PpToken, Stop, Text};
 use std::alloc::Global;
 
 /// The greatest number of tokens of a unit.
@@ -29,11 +29,24 @@ pub(crate) fn read_text(
 {
     let expanded = expand_in(alloc, reader, loader.names(), group)?;
     let Expanded { tokens, expansions } = expanded;
-    reader.expansions.append(&mut expansions.into_vec())?;
-    reader.tokens.append(&mut tokens.into_vec())?;
+    add_behind(expansions.into_vec(), &mut reader.expansions)?;
+    add_behind(tokens.into_vec(), &mut reader.tokens)?;
     if reader.tokens.len() > MAX_TOKENS {
         return Err(passed(2, reader.main));
     }
+    Ok(())
+}
+
+// Puts items behind others. Where there are no others, none is moved.
+fn add_behind<T: Drop>(items: Vec<T>, others: &mut Vec<T>) -> Result<(), Memory>
+    ensures { OnOk result (others.new.items ≡ others.old.items ++ items.items) }
+{
+    if others.is_empty() {
+        *others = items;
+        return Ok(());
+    }
+    let mut items = items;
+    others.append(&mut items)?;
     Ok(())
 }
 

@@ -1,27 +1,25 @@
-use Rattle.std.proofs.Common.{◌≡◌, false, List, Err, ap, ◌∙◌, sym, subst}
+use Rattle.std.proofs.Common.{◌≡◌, List, Err, ap, ◌∙◌, sym, subst}
 use Rattle.dm_token.specs.declared.stop.Stop.{Stop}
-use Rattle.dm_macro.specs.Signs.{is_identifier}
 use Rattle.dm_expand.specs.declared.head.Head as code_head
 use Rattle.dm_expand.specs.Items.{Item}
 use Rattle.dm_expand.specs.Steps.{Progress}
 use Rattle.dm_expand.specs.Expansion as expansion
 use Rattle.dm_expand.specs.HeadViews.{macros_of, head_value, Stays}
 use Rattle.dm_expand.specs.ListViews.{tokens_before, invocation_value}
-use Rattle.dm_expand.proofs.LawLemmas.{head_of-no_name, other-no_name}
+use Rattle.dm_expand.proofs.LawLemmas.{head_of-no_name}
 use Rattle.dm_expand.proofs.ProgressLemmas.{expanded-put, expanded-replace, expanded-refuse}
 use Rattle.dm_expand.proofs.StepLemmas.{stops-as}
 use Rattle.dm_expand.proofs.SubstitutionLemmas.{tokens_before-token}
 use Rattle.dm_expand.proofs.machine.scan_next.Goals as goal
 
-pub returns-then-not-is_identifier-clause-found : goal.returns-then-not-is_identifier-clause-found
-returns-then-not-is_identifier-clause-found c =
+pub returns-then-names_nothing-clause-found : goal.returns-then-names_nothing-clause-found
+returns-then-names_nothing-clause-found c =
     let macros : expansion.Macros = macros_of c.args.macros.now in
     let progress : Progress = c.args.progress.now in
     let rest : List Item = c.args.level.now.rest.items in
     let out : List Item = c.args.level.now.out.items in
     let item : Item = c.args.item in
-    let other : false ≡ is_identifier item.pp = c.if-not-is_identifier.ensures ∙ ap (λ (x : Item). is_identifier x.pp) c.item.view_is in
-    ap (tokens_before out) (expanded-put macros item item rest progress (head_of-no_name macros item rest progress (other-no_name macros item (sym other))))
+    ap (tokens_before out) (expanded-put macros item item rest progress (head_of-no_name macros item rest progress (c.names_nothing.ensures c.if-names_nothing.true)))
     ∙ tokens_before-token out item (expansion.expanded macros rest progress)
     ∙ ap (λ (xs : List Item). tokens_before xs (expansion.expanded macros rest progress)) (sym c.in_ok-push.ensures.items)
 
