@@ -22,9 +22,10 @@ use Rattle.dm_frame.proofs.TaskLemmas.{more-fit}
 use Rattle.dm_primitive.specs.declared.streams.Streams.{Streams}
 use Rattle.dm_state.specs.declared.full.Full.{Full}
 use Rattle.dm_state.specs.declared.full.Full.TheVariants as variant
+use Rattle.dm_state.specs.declared.full.Ongoing.{Ongoing}
 use Rattle.dm_state.specs.declared.running.Caller.{Caller}
 use Rattle.dm_state.specs.declared.running.Running.{Running}
-use Rattle.dm_state.specs.Fits.{CallersFit, FullFits, RunningFits}
+use Rattle.dm_state.specs.Fits.{CallersFit, FullFits, OngoingFits, RunningFits}
 use Rattle.dm_state.specs.Standing.{world_of}
 use Rattle.dm_state.specs.Turns.{state_with}
 use Rattle.dm_state.specs.Views.{tasks_with, view_of_caller, view_of_full, view_of_running}
@@ -174,6 +175,31 @@ unfolded-full table (variant.Goes ongoing) rest = refl
 pub some-unfolded : (table : Table) (full : Option Full) (frame : Frame) → IsSome full → unfolded (tasks_with table full frame) ≡ tasks_with table full frame
 some-unfolded table None frame some = absurd (cc)
 some-unfolded table (Some full) frame some = unfolded-full table full (tasks_of table frame)
+
+-- a full expression that was under evaluation comes next
+pub full-due : (table : Table) (full : Full) (one : Ongoing) (before after : Running) → before.full ≡ Some full → view_of_full table (variant.Goes one) ≡ view_of_full table full → OngoingFits table one
+    → FrameFits table before.frame → after.frame ≡ before.frame → after.callers ≡ before.callers → after.statics ≡ before.statics → after.blocks ≡ before.blocks → after.streams ≡ before.streams
+    → after.full ≡ None → IsDue table (tasks_with table before.full before.frame) (comes.Evaluates one) before after
+full-due table full one before after is same fits frame_fits frame callers statics blocks streams none = record {
+  function = ap (λ (frame : Frame). frame.function) frame;
+  objects = ap (λ (frame : Frame). frame.objects) frame;
+  callers = callers;
+  statics = statics;
+  blocks = blocks;
+  streams = streams;
+  none = none;
+  left =
+      ap (λ (full : Option Full). unfolded (tasks_with table full before.frame)) is
+      ∙ (unfolded-full table full (tasks_of table before.frame)
+      ∙ (ap (λ (first : Task). first ∷ tasks_of table before.frame) (sym same)
+      ∙ ap (λ (frame : Frame). view_of_full table (variant.Goes one) ∷ tasks_of table frame) (sym frame)));
+  fits = (fits, subst (FrameFits table) (sym frame) frame_fits);
+}
+
+-- where none was, what is left to do in the frame is all
+pub task-due : (table : Table) (due : Due) (before after : Running) → before.full ≡ None → IsDue table (tasks_of table before.frame) due before after
+    → IsDue table (tasks_with table before.full before.frame) due before after
+task-due table due before after none h = subst (λ (full : Option Full). IsDue table (tasks_with table full before.frame) due before after) (sym none) h
 
 -- in two parts
 pub due-behind : (table : Table) (tasks others : List Task) (one : Due) (before middle after : Running) → middle.frame.function ≡ before.frame.function → middle.frame.objects ≡ before.frame.objects

@@ -1,27 +1,25 @@
 -- How far a run has come by a step.
-use Rattle.std.proofs.Common.{◌≡◌, ℕ, ap, sym, ◌∙◌, subst}
-use Rattle.dm_token.specs.declared.place.Place.{Place}
+use Rattle.std.proofs.Common.{◌≡◌, ap, sym, ◌∙◌}
 use Rattle.dm_type.specs.Tables.{Table}
-use Rattle.dm_meaning.specs.declared.cause.Cause.{Cause}
 use Rattle.dm_meaning.specs.States.{State}
 use Rattle.dm_state.specs.declared.running.Running.{Running}
 use Rattle.dm_state.specs.declared.turn.Turn.{Turn}
 use Rattle.dm_state.specs.declared.turn.Turn.TheVariants as variant
-use Rattle.dm_state.specs.Turns.{IsLeft}
-use Rattle.dm_state.specs.Views.{view_of_running}
-use Rattle.dm_exec.specs.Shown.{goes_on, has_exited, is_undefined, seen, seen_by}
+use Rattle.dm_state.specs.Turns.{turn_of, IsLeft}
+use Rattle.dm_exec.specs.Shown.{has_exited, is_undefined, seen, seen_at, seen_by, TurnFits}
 
-pub went-seen : (table : Table) (turn : Turn) (running : Running) (next : State) → turn ≡ variant.Went → IsLeft table turn running next → goes_on (view_of_running table running) ≡ seen next
-went-seen table turn running next is left = ap seen (subst (λ (turn : Turn). IsLeft table turn running next) is left).same
+-- what shows is what the step left
+pub left-seen : (table : Table) (turn : Turn) (running : Running) (next : State) → IsLeft table turn running next → seen_at table turn running ≡ seen next
+left-seen table variant.Went running next left = ap seen left.same
+left-seen table (variant.Exited status) running next left = sym (ap (λ standing. seen_by standing next) left.0 ∙ ap (has_exited status) left.1)
+left-seen table (variant.Undefined cause place) running next left = sym (ap (λ standing. seen_by standing next) left.0 ∙ ap (is_undefined cause place) left.1)
 
-pub exited-seen : (table : Table) (turn : Turn) (running : Running) (next : State) (status : ℕ) → turn ≡ variant.Exited status → IsLeft table turn running next
-    → has_exited status running.streams.output ≡ seen next
-exited-seen table turn running next status is left =
-    let ended = subst (λ (turn : Turn). IsLeft table turn running next) is left in
-    sym (ap (λ standing. seen_by standing next) ended.0 ∙ ap (has_exited status) ended.1)
+pub left-turn : (table : Table) (turn : Turn) (running : Running) (next : State) → IsLeft table turn running next → turn ≡ turn_of next.standing
+left-turn table variant.Went running next left = ap (λ (state : State). turn_of state.standing) left.same
+left-turn table (variant.Exited status) running next left = sym (ap turn_of left.0)
+left-turn table (variant.Undefined cause place) running next left = sym (ap turn_of left.0)
 
-pub undefined-seen : (table : Table) (turn : Turn) (running : Running) (next : State) (cause : Cause) (place : Place) → turn ≡ variant.Undefined cause place → IsLeft table turn running next
-    → is_undefined cause place running.streams.output ≡ seen next
-undefined-seen table turn running next cause place is left =
-    let ended = subst (λ (turn : Turn). IsLeft table turn running next) is left in
-    sym (ap (λ standing. seen_by standing next) ended.0 ∙ ap (is_undefined cause place) ended.1)
+pub left-fits : (table : Table) (turn : Turn) (running : Running) (next : State) → IsLeft table turn running next → TurnFits table running turn
+left-fits table variant.Went running next left = left.fits
+left-fits table (variant.Exited status) running next left = tt
+left-fits table (variant.Undefined cause place) running next left = tt

@@ -3,4 +3,3 @@ pub mod Shown
 pub mod Runs
 pub mod Outcomes
 pub mod Due
-pub mod Taken

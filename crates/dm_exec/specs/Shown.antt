@@ -8,10 +8,11 @@ use Rattle.dm_type.specs.Tables.{Table}
 use Rattle.dm_meaning.specs.declared.cause.Cause.{Cause}
 use Rattle.dm_meaning.specs.Machines.{Standing, going, exited, undefined}
 use Rattle.dm_meaning.specs.States as states
+use Rattle.dm_state.specs.declared.running.Running.{Running}
+use Rattle.dm_state.specs.declared.turn.Turn.{Turn}
+use Rattle.dm_state.specs.declared.turn.Turn.TheVariants as variant
 use Rattle.dm_state.specs.Fits.{RunningFits}
 use Rattle.dm_state.specs.Views.{view_of_running}
-use Rattle.dm_exec.specs.declared.state.Stage.{Stage}
-use Rattle.dm_exec.specs.declared.state.Stage.TheVariants as stage
 use Rattle.dm_exec.specs.declared.state.State.{State}
 
 -- All of the state where the run goes on; of one that has ended how it has, and what it has written.
@@ -36,19 +37,20 @@ standing_of (is_undefined cause place output) = undefined cause place
 
 -- ---- states of the code
 
-abbrev pub seen_at : Table → Stage → Seen
-seen_at table (stage.GoesOn running) = goes_on (view_of_running table running)
-seen_at table (stage.Exited status output) = has_exited status output
-seen_at table (stage.Undefined cause place output) = is_undefined cause place output
+-- behind a step that did this
+abbrev pub seen_at : Table → Turn → Running → Seen
+seen_at table variant.Went running = goes_on (view_of_running table running)
+seen_at table (variant.Exited status) running = has_exited status running.streams.output
+seen_at table (variant.Undefined cause place) running = is_undefined cause place running.streams.output
 
 -- nothing after a want of memory
 abbrev pub shown : Table → State → Option Seen
-shown table state = option_map (seen_at table) state.stage
+shown table state = option_map (λ turn. seen_at table turn state.running) state.turn
 
-abbrev pub StageFits : Table → Stage → Type 0
-StageFits table (stage.GoesOn running) = RunningFits table running
-StageFits table (stage.Exited status output) = Unit {0}
-StageFits table (stage.Undefined cause place output) = Unit {0}
+abbrev pub TurnFits : Table → Running → Turn → Type 0
+TurnFits table running variant.Went = RunningFits table running
+TurnFits table running (variant.Exited status) = Unit {0}
+TurnFits table running (variant.Undefined cause place) = Unit {0}
 
 abbrev pub StateFits : Table → State → Type 0
-StateFits table state = IfSome state.stage (StageFits table)
+StateFits table state = IfSome state.turn (TurnFits table state.running)

@@ -12,9 +12,10 @@ use crate::order::Choices;
 use crate::outcome::Outcome;
 use crate::state::State;
 use crate::steps::{start, step};
+use dm_primitive::Streams;
 use dm_program::Program;
-use dm_state::Turn;
-use dm_token::Memory;
+use dm_state::{Running, Turn};
+use dm_token::{List, Memory};
 use std::alloc::Global;
 
 /// A run of so many steps on an input, in the order of a number: of order 0 each step is the first from the left, of order 1 the
@@ -59,8 +60,24 @@ fn take_steps<'a>(
 fn outcome_of(state: State) -> Result<Outcome, Memory>
     ensures { (table : Table) → IfOk result (λ outcome. option_map outcome_seen (shown table state.entry) ≡ Some outcome) }
 {
-    match state.stage {
-        Some(stage) => Ok(stage.into_outcome()),
+    let State { running, turn } = state;
+    let output = output_of(running);
+    match turn {
+        Some(Turn::Went) => Ok(Outcome::Running { output }),
+        Some(Turn::Exited(status)) => Ok(Outcome::Exited { output, status }),
+        Some(Turn::Undefined(cause, place)) => Ok(Outcome::Undefined {
+            output,
+            cause,
+            place,
+        }),
         None => Err(Memory),
     }
+}
+
+/// What a run has written.
+fn output_of(running: Running) -> List<u8>
+    ensures { result ≡ running.entry.streams.output }
+{
+    let Streams { input: _, output } = running.streams;
+    output
 }

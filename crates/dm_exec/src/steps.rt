@@ -1,12 +1,13 @@
 //! The start of a run and its steps (5.1.2.3).
 
-ghost use Rattle.std.specs.Prelude.{Some, IfOk};
+ghost use Rattle.std.specs.Prelude.{IfOk};
 ghost use Rattle.dm_program.specs.Sources.{meant};
-ghost use Rattle.dm_exec.specs.Outcomes.{IsStart, IsStep};
-ghost use Rattle.dm_exec.specs.Shown.{seen_at, shown, StageFits, StateFits};
-ghost use Rattle.dm_exec.specs.Taken.{seen_in, turn_in};
+ghost use Rattle.dm_state.specs.Fits.{RunningFits};
+ghost use Rattle.dm_state.specs.Views.{view_of_running};
+ghost use Rattle.dm_exec.specs.Outcomes.{IsStart, IsStep, IsStepOf};
+ghost use Rattle.dm_exec.specs.Shown.{shown, StateFits};
 
-use crate::state::{Stage, State};
+use crate::state::State;
 use crate::taking::take_step;
 use dm_program::Program;
 use dm_state::Turn;
@@ -20,7 +21,8 @@ pub fn start<'a>(alloc: Global, program: &Program<'a>, input: &'a [u8]) -> Resul
 {
     let running = dm_start::start(alloc, program, input)?;
     Ok(State {
-        stage: Some(Stage::GoesOn(running)),
+        running,
+        turn: Some(Turn::Went),
     })
 }
 
@@ -36,45 +38,30 @@ pub fn step<'a>(
     ensures step { IsStep (meant program.now) choice (shown program.now.table state.old) result (shown program.now.table state.new) }
     ensures fits { StateFits program.now.table state.new }
 {
-    let Some(stage) = state.stage.take() else {
-        return Err(Memory);
-    };
-    let taken = next_stage(alloc, program, stage, choice as usize)?;
-    state.stage = Some(taken.stage);
-    Ok(taken.turn)
+    match state.turn {
+        Some(Turn::Went) => {
+            let turn = next_step(alloc, program, state, choice as usize)?;
+            Ok(turn)
+        }
+        Some(Turn::Exited(status)) => Ok(Turn::Exited(status)),
+        Some(Turn::Undefined(cause, place)) => Ok(Turn::Undefined(cause, place)),
+        None => Err(Memory),
+    }
 }
 
-/// What a step did, and how far the run has come by it.
-#[derive(Drop)]
-struct Taken<'a> {
-    turn: Turn,
-    stage: Stage<'a>,
-}
-
-/// The step of a run that is known.
-fn next_stage<'a>(
+/// The same of one that goes on.
+fn next_step<'a>(
     alloc: Global,
     program: &Program<'a>,
-    stage: Stage<'a>,
+    state: &mut State<'a>,
     choice: usize,
-) -> Result<Taken<'a>, Memory>
-    requires { StageFits program.now.table stage }
-    ensures step { IsStep (meant program.now) choice (Some (seen_at program.now.table stage.entry)) (turn_in result) (seen_in program.now.table result) }
-    ensures fits { IfOk result (λ taken. StageFits program.now.table taken.stage) }
+) -> Result<Turn, Memory>
+    requires { RunningFits program.now.table state.old.running }
+    ensures step { IsStepOf (meant program.now) choice (view_of_running program.now.table state.old.running) result (shown program.now.table state.new) }
+    ensures fits { StateFits program.now.table state.new }
 {
-    match stage {
-        Stage::GoesOn(mut running) => {
-            let turn = take_step(alloc, program, &mut running, choice)?;
-            let stage = Stage::behind(turn, running);
-            Ok(Taken { turn, stage })
-        }
-        Stage::Exited(status, output) => Ok(Taken {
-            turn: Turn::Exited(status),
-            stage: Stage::Exited(status, output),
-        }),
-        Stage::Undefined(cause, place, output) => Ok(Taken {
-            turn: Turn::Undefined(cause, place),
-            stage: Stage::Undefined(cause, place, output),
-        }),
-    }
+    state.turn = None;
+    let turn = take_step(alloc, program, &mut state.running, choice)?;
+    state.turn = Some(turn);
+    Ok(turn)
 }

@@ -1,6 +1,6 @@
 //! Steps of a run that goes on (5.1.2.3).
 
-ghost use Rattle.std.specs.Prelude.{◌≡◌, ◌∷◌, ◌++◌, ℕ, List, [], None, Some, length, IfOk};
+ghost use Rattle.std.specs.Prelude.{◌≡◌, ◌∷◌, ◌++◌, ℕ, List, [], None, Some, length, IfOk, IsSome};
 ghost use Rattle.dm_meaning.specs.States.{Task};
 ghost use Rattle.dm_frame.specs.Frames.{tasks_of};
 ghost use Rattle.dm_frame.specs.Nexts.{next_task, NextFits};
@@ -17,14 +17,14 @@ ghost use Rattle.dm_state.specs.Views.{view_of_full, view_of_running};
 ghost use Rattle.dm_exec.specs.Due.{chosen_step, TakesStep};
 ghost use Rattle.dm_exec.specs.Runs.{next_state};
 
-use crate::due::{Due, take_due};
+use crate::due::{Due, begin, task_due};
 use dm_expression::{Expression, Waiting};
 use dm_frame::Next;
 use dm_move::advance;
 use dm_operate::{Evaluation, Operand};
 use dm_program::Program;
 use dm_row::{Item, Row};
-use dm_state::{Ongoing, Running, Turn};
+use dm_state::{Full, Ongoing, Running, Turn};
 use dm_token::Memory;
 use dm_value::At;
 use std::alloc::Global;
@@ -39,7 +39,52 @@ pub(crate) fn take_step<'a>(
     requires { RunningFits program.now.table running.old }
     ensures { IfOk result (λ turn. IsLeft program.now.table turn running.new (next_state (meant program.now) choice (view_of_running program.now.table running.old))) }
 {
-    match take_due(alloc, program, running)? {
+    if running.full.is_some() {
+        let turn = go_on(alloc, program, running, choice)?;
+        Ok(turn)
+    } else {
+        let turn = go_to(alloc, program, running, choice)?;
+        Ok(turn)
+    }
+}
+
+/// The same where a full expression is under evaluation, of which maybe nothing is evaluated.
+fn go_on<'a>(
+    alloc: Global,
+    program: &Program<'a>,
+    running: &mut Running<'a>,
+    choice: usize,
+) -> Result<Turn, Memory>
+    requires some { IsSome running.old.full }
+    requires fits { RunningFits program.now.table running.old }
+    ensures { IfOk result (λ turn. IsLeft program.now.table turn running.new (next_state (meant program.now) choice (view_of_running program.now.table running.old))) }
+{
+    match running.full.take() {
+        Some(Full::Goes(ongoing)) => {
+            let turn = evaluate(alloc, program, running, ongoing, choice)?;
+            Ok(turn)
+        }
+        Some(Full::Begins(begun)) => {
+            let ongoing = begin(alloc, program, begun)?;
+            let turn = evaluate(alloc, program, running, ongoing, choice)?;
+            Ok(turn)
+        }
+        None => unreachable!(),
+    }
+}
+
+/// The same where no full expression is under evaluation.
+fn go_to<'a>(
+    alloc: Global,
+    program: &Program<'a>,
+    running: &mut Running<'a>,
+    choice: usize,
+) -> Result<Turn, Memory>
+    requires none { running.old.full ≡ None }
+    requires fits { RunningFits program.now.table running.old }
+    ensures { IfOk result (λ turn. IsLeft program.now.table turn running.new (next_state (meant program.now) choice (view_of_running program.now.table running.old))) }
+{
+    match task_due(alloc, program, running)? {
         Due::Evaluates(ongoing) => {
             let turn = evaluate(alloc, program, running, ongoing, choice)?;
             Ok(turn)

@@ -6,22 +6,24 @@ use Rattle.dm_state.specs.Turns.{IsLeft}
 use Rattle.dm_state.specs.Views.{tasks_with}
 use Rattle.dm_exec.specs.declared.due.Due.{Due}
 use Rattle.dm_exec.specs.Due.{IsDue, TakesStep}
-use Rattle.dm_exec.proofs.DueLemmas.{closes, due-fits, due-stepped, unfolded-none, unfolded-takes}
-use Rattle.dm_exec.proofs.taking.take_step.Goals as goal
+use Rattle.dm_exec.proofs.DueLemmas.{closes, due-fits, due-stepped, task-due, unfolded-none, unfolded-takes}
+use Rattle.dm_exec.proofs.taking.go_to.Goals as goal
 
 pub take-requires-clause-fits : goal.take-requires-clause-fits
 take-requires-clause-fits c =
     let table = c.args.program.now.table in
     let old = c.args.running.now in
-    due-fits table (tasks_with table old.full old.frame) c.in_ok-ongoing.field-0 old c.take_due.new.running c.in_ok-ongoing.ensures c.requires
+    let found = task-due table c.in_ok-ongoing.field-0 old c.task_due.new.running c.requires.none c.in_ok-ongoing.ensures in
+    due-fits table (tasks_with table old.full old.frame) c.in_ok-ongoing.field-0 old c.task_due.new.running found c.requires.fits
 
 pub returns-in_ok-turn-in-Evaluates : goal.returns-in_ok-turn-in-Evaluates
 returns-in_ok-turn-in-Evaluates c =
     let table = c.args.program.now.table in
     let old = c.args.running.now in
     let tasks = tasks_with table old.full old.frame in
-    let middle = c.take_due.new.running in
-    let found = subst (λ (due : Due). IsDue table tasks due old middle) c.in-Evaluates.is c.in_ok-ongoing.ensures in
+    let middle = c.task_due.new.running in
+    let all = task-due table c.in_ok-ongoing.field-0 old middle c.requires.none c.in_ok-ongoing.ensures in
+    let found = subst (λ (due : Due). IsDue table tasks due old middle) c.in-Evaluates.is all in
     subst (λ (state : State). IsLeft table c.in_ok-turn-in-Evaluates.turn c.evaluate.new.running state)
     (sym (due-stepped table (meant c.args.program.now) c.args.choice _ old middle found)) (c.in_ok-turn-in-Evaluates.ensures tasks)
 
@@ -30,8 +32,9 @@ returns-in_ok-turn-in-Takes c =
     let table = c.args.program.now.table in
     let old = c.args.running.now in
     let tasks = tasks_with table old.full old.frame in
-    let middle = c.take_due.new.running in
-    let found = subst (λ (due : Due). IsDue table tasks due old middle) c.in-Takes.is c.in_ok-ongoing.ensures in
+    let middle = c.task_due.new.running in
+    let all = task-due table c.in_ok-ongoing.field-0 old middle c.requires.none c.in_ok-ongoing.ensures in
+    let found = subst (λ (due : Due). IsDue table tasks due old middle) c.in-Takes.is all in
     subst (λ (state : State). IsLeft table c.in_ok-turn-in-Takes.turn c.take.new.running state)
     (sym (due-stepped table (meant c.args.program.now) c.args.choice _ old middle found)) (c.in_ok-turn-in-Takes.ensures tasks c.args.choice)
 
@@ -41,8 +44,9 @@ returns-in_ok-turn-in-Closes c =
     let program = meant c.args.program.now in
     let old = c.args.running.now in
     let tasks = tasks_with table old.full old.frame in
-    let middle = c.take_due.new.running in
-    let found = subst (λ (due : Due). IsDue table tasks due old middle) c.in-Closes.is c.in_ok-ongoing.ensures in
+    let middle = c.task_due.new.running in
+    let all = task-due table c.in_ok-ongoing.field-0 old middle c.requires.none c.in_ok-ongoing.ensures in
+    let found = subst (λ (due : Due). IsDue table tasks due old middle) c.in-Closes.is all in
     subst (λ (state : State). IsLeft table c.in_ok-turn-in-Closes.turn c.close.new.self state)
     (sym (due-stepped table program c.args.choice _ old middle found ∙ closes table program c.args.choice tasks middle found.none found.fits.0 (unfolded-none tasks found.left)))
     c.in_ok-turn-in-Closes.ensures
@@ -52,5 +56,6 @@ take-requires-clause-takes c =
     let table = c.args.program.now.table in
     let old = c.args.running.now in
     let tasks = tasks_with table old.full old.frame in
-    let found = subst (λ (due : Due). IsDue table tasks due old c.take_due.new.running) c.in-Takes.is c.in_ok-ongoing.ensures in
+    let all = task-due table c.in_ok-ongoing.field-0 old c.task_due.new.running c.requires.none c.in_ok-ongoing.ensures in
+    let found = subst (λ (due : Due). IsDue table tasks due old c.task_due.new.running) c.in-Takes.is all in
     subst TakesStep found.left (unfolded-takes tasks)
