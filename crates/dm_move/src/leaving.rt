@@ -1,6 +1,6 @@
 //! What full expressions are once the step of a node is put in its place (6.5p2).
 
-ghost use Rattle.std.specs.Prelude.{◌≡◌, ℕ, ◌+◌, ◌≤◌, ◌++◌, [], length, map, IfOk, IsTrue};
+ghost use Rattle.std.specs.Prelude.{◌≡◌, ℕ, ◌+◌, ◌≤◌, ◌++◌, [], length, map, IsTrue, OnOk};
 ghost use Rattle.dm_token.specs.declared.place.Place.{Place};
 ghost use Rattle.dm_type.specs.CTypes.{CType};
 ghost use Rattle.dm_type.specs.Tables.{IsId, Table, type_of};
@@ -27,64 +27,64 @@ use dm_value::At;
 use std::alloc::Global;
 
 /// The node gives a result, which has the locks of its operands, so many, and one in front of them, if there is one.
-pub(crate) fn give<'a>(
-    mut ongoing: Ongoing<'a>,
+pub(crate) fn give(
+    ongoing: &mut Ongoing,
     locks: usize,
     operand: Operand,
     lock: Option<At>,
-) -> Result<Ongoing<'a>, Memory>
-    requires room { weight_in ongoing.expression.row.0 + locks ≤ length ongoing.expression.locks.items }
-    ensures { (table : Table) → IsLacking table ongoing.entry.expression locks → UseFits table ongoing.entry.use_of → IsId table operand.kind
-        → IfOk result (λ next. GoesOn table ongoing.entry next (filled_in (gap table ongoing.entry.expression locks)
-        (done (type_of table operand.kind) (view_of_evaluation operand.result) (view_of_lock lock ++ map view_of_at (own_locks ongoing.entry.expression locks))))) }
+) -> Result<(), Memory>
+    requires room { weight_in ongoing.old.expression.row.0 + locks ≤ length ongoing.old.expression.locks.items }
+    ensures { (table : Table) → IsLacking table ongoing.old.expression locks → UseFits table ongoing.old.use_of → IsId table operand.kind
+        → OnOk result (GoesOn table ongoing.old ongoing.new (filled_in (gap table ongoing.old.expression locks)
+        (done (type_of table operand.kind) (view_of_evaluation operand.result) (view_of_lock lock ++ map view_of_at (own_locks ongoing.old.expression locks))))) }
 {
     ongoing.expression.give(operand, locks, lock)?;
-    Ok(ongoing)
+    Ok(())
 }
 
 /// The node gives a result without locks.
-pub(crate) fn give_unlocked<'a>(
-    mut ongoing: Ongoing<'a>,
+pub(crate) fn give_unlocked(
+    ongoing: &mut Ongoing,
     locks: usize,
     operand: Operand,
-) -> Result<Ongoing<'a>, Memory>
-    requires room { weight_in ongoing.expression.row.0 + locks ≤ length ongoing.expression.locks.items }
-    ensures { (table : Table) → IsLacking table ongoing.entry.expression locks → UseFits table ongoing.entry.use_of → IsId table operand.kind
-        → IfOk result (λ next. GoesOn table ongoing.entry next (filled_in (gap table ongoing.entry.expression locks)
+) -> Result<(), Memory>
+    requires room { weight_in ongoing.old.expression.row.0 + locks ≤ length ongoing.old.expression.locks.items }
+    ensures { (table : Table) → IsLacking table ongoing.old.expression locks → UseFits table ongoing.old.use_of → IsId table operand.kind
+        → OnOk result (GoesOn table ongoing.old ongoing.new (filled_in (gap table ongoing.old.expression locks)
         (done (type_of table operand.kind) (view_of_evaluation operand.result) []))) }
 {
     ongoing.expression.release(locks)?;
     ongoing.expression.give(operand, 0, None)?;
-    Ok(ongoing)
+    Ok(())
 }
 
 /// The node goes on with one of its operands.
 pub(crate) fn pick<'a>(
     alloc: Global,
-    mut ongoing: Ongoing<'a>,
+    ongoing: &mut Ongoing<'a>,
     locks: usize,
     waiting: Waiting<'a>,
     operand: &'a Core,
-) -> Result<Ongoing<'a>, Memory>
-    requires room { weight_in ongoing.expression.row.0 + locks ≤ length ongoing.expression.locks.items }
+) -> Result<(), Memory>
+    requires room { weight_in ongoing.old.expression.row.0 + locks ≤ length ongoing.old.expression.locks.items }
     requires operand { (types : Table) → IsTrue (is_expression (view types operand.now)) }
-    ensures { (table : Table) (doing : AnyDoing) (kind : CType) (place : Place) → IsLacking table ongoing.entry.expression locks → UseFits table ongoing.entry.use_of
+    ensures { (table : Table) (doing : AnyDoing) (kind : CType) (place : Place) → IsLacking table ongoing.old.expression locks → UseFits table ongoing.old.use_of
         → OperandFits table waiting.entry.node.now → OperandFits table operand.now → open_parts doing ≡ every → view_of_waiting table waiting.entry ≡ node_of doing kind place (slot no_slots)
-        → IfOk result (λ next. GoesOn table ongoing.entry next (filled_in (gap table ongoing.entry.expression locks) (going_on doing kind place (begun (view table operand.now))))) }
+        → OnOk result (GoesOn table ongoing.old ongoing.new (filled_in (gap table ongoing.old.expression locks) (going_on doing kind place (begun (view table operand.now))))) }
 {
     ongoing.expression.release(locks)?;
     ongoing.expression.pick(alloc, waiting, operand)?;
-    Ok(ongoing)
+    Ok(())
 }
 
 /// The node is left out.
-pub(crate) fn leave<'a>(mut ongoing: Ongoing<'a>, locks: usize) -> Result<Ongoing<'a>, Memory>
-    requires room { weight_in ongoing.expression.row.0 + locks ≤ length ongoing.expression.locks.items }
-    ensures place { IfOk result (λ next. next.place ≡ ongoing.entry.place) }
-    ensures use_of { IfOk result (λ next. next.use_of ≡ ongoing.entry.use_of) }
-    ensures hole { (table : Table) → IsLacking table ongoing.entry.expression locks → IfOk result (λ next. hole_in_one table next.expression ≡ gap table ongoing.entry.expression locks) }
-    ensures lacks { (table : Table) (kind : ℕ) → IsLacking table ongoing.entry.expression locks → UseFits table ongoing.entry.use_of → IsId table kind → IfOk result (LacksCall table kind) }
+pub(crate) fn leave(ongoing: &mut Ongoing, locks: usize) -> Result<(), Memory>
+    requires room { weight_in ongoing.old.expression.row.0 + locks ≤ length ongoing.old.expression.locks.items }
+    ensures place { OnOk result (ongoing.new.place ≡ ongoing.old.place) }
+    ensures use_of { OnOk result (ongoing.new.use_of ≡ ongoing.old.use_of) }
+    ensures hole { (table : Table) → IsLacking table ongoing.old.expression locks → OnOk result (hole_in_one table ongoing.new.expression ≡ gap table ongoing.old.expression locks) }
+    ensures lacks { (table : Table) (kind : ℕ) → IsLacking table ongoing.old.expression locks → UseFits table ongoing.old.use_of → IsId table kind → OnOk result (LacksCall table kind ongoing.new) }
 {
     ongoing.expression.release(locks)?;
-    Ok(ongoing)
+    Ok(())
 }

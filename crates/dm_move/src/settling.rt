@@ -36,7 +36,7 @@ pub(crate) fn settle<'a>(
     running: &mut Running<'a>,
     alloc: Global,
     program: &Program<'a>,
-    ongoing: Ongoing<'a>,
+    mut ongoing: Ongoing<'a>,
     node: &'a Core,
     locks: usize,
     step: Step<'a>,
@@ -62,42 +62,42 @@ pub(crate) fn settle<'a>(
                 kind: node.kind,
                 result,
             };
-            let next = give(ongoing, locks, operand, lock)?;
-            Ok(go_on(running, next))
+            give(&mut ongoing, locks, operand, lock)?;
+            Ok(go_on(running, ongoing))
         }
         Step::Releases(value) => {
             let operand = Operand {
                 kind: node.kind,
                 result: Evaluation::Value(value),
             };
-            let next = give_unlocked(ongoing, locks, operand)?;
-            Ok(go_on(running, next))
+            give_unlocked(&mut ongoing, locks, operand)?;
+            Ok(go_on(running, ongoing))
         }
         Step::Tests(operand) => {
             let waiting = Waiting {
                 doing: Doing::GivesTruth,
                 node,
             };
-            let next = pick(alloc, ongoing, locks, waiting, operand)?;
-            Ok(go_on(running, next))
+            pick(alloc, &mut ongoing, locks, waiting, operand)?;
+            Ok(go_on(running, ongoing))
         }
         Step::Picks(operand) => {
             let waiting = Waiting {
                 doing: Doing::GivesValue,
                 node,
             };
-            let next = pick(alloc, ongoing, locks, waiting, operand)?;
-            Ok(go_on(running, next))
+            pick(alloc, &mut ongoing, locks, waiting, operand)?;
+            Ok(go_on(running, ongoing))
         }
         Step::Calls(function, arguments) => {
-            let left = leave(ongoing, locks)?;
+            leave(&mut ongoing, locks)?;
             running.call(
                 alloc,
                 program,
                 function,
                 arguments.as_slice(),
                 node.kind,
-                left,
+                ongoing,
             )?;
             Ok(Turn::Went)
         }

@@ -6,10 +6,10 @@ use Rattle.dm_move.proofs.leaving.give.Goals as goal
 
 pub returns : goal.returns
 returns c = λ table lacking use_fits is_type.
-    let before = c.args.ongoing.expression in
+    let before = c.args.ongoing.now.expression in
     let after = c.give.new.self in
     let locks = c.args.locks in
     let room = c.requires.room in
-    goes-on table c.args.ongoing after _ use_fits
+    goes-on table c.args.ongoing.now after _ use_fits
     (stands-given table before locks room lacking after c.args.operand c.args.lock c.in_ok-give.ensures.row c.in_ok-give.ensures.locks)
     (fits-given table before locks room lacking after c.args.operand (locks + length (lock_list c.args.lock)) is_type c.in_ok-give.ensures.row)

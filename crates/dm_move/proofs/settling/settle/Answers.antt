@@ -37,39 +37,39 @@ leads-to source tasks before running one node locks step =
 pub call-requires-clause-lacks : goal.call-requires-clause-lacks
 call-requires-clause-lacks c =
     let table = c.args.program.now.table in
-    c.in_ok-left-in-Calls.ensures.lacks table (out-Core c.args.node.now).kind c.requires.lacking c.requires.use_of (known-kind table c.args.node.now c.requires.node.0)
+    c.in_ok-leave-in-Calls.ensures.lacks table (out-Core c.args.node.now).kind c.requires.lacking c.requires.use_of (known-kind table c.args.node.now c.requires.node.0)
 
-pub returns-in_ok-next-in-Gives : goal.returns-in_ok-next-in-Gives
-returns-in_ok-next-in-Gives c = λ tasks before keeps.
+pub returns-in_ok-give-in-Gives : goal.returns-in_ok-give-in-Gives
+returns-in_ok-give-in-Gives c = λ tasks before keeps.
     let table = c.args.program.now.table in
     subst (λ (step : Step). IsLeft table c.go_on.result c.go_on.new.running (leads-to c.args.program.now tasks before c.args.running.now c.args.ongoing c.args.node.now c.args.locks step)) (sym c.in-Gives.is)
     (c.go_on.ensures table (meant c.args.program.now) (in_order before.memory) tasks before c.args.ongoing _ c.requires.fits
-    (c.in_ok-next-in-Gives.ensures table c.requires.lacking c.requires.use_of (known-kind table c.args.node.now c.requires.node.0)))
+    (c.in_ok-give-in-Gives.ensures table c.requires.lacking c.requires.use_of (known-kind table c.args.node.now c.requires.node.0)))
 
-pub returns-in_ok-next-in-Releases : goal.returns-in_ok-next-in-Releases
-returns-in_ok-next-in-Releases c = λ tasks before keeps.
+pub returns-in_ok-give_unlocked-in-Releases : goal.returns-in_ok-give_unlocked-in-Releases
+returns-in_ok-give_unlocked-in-Releases c = λ tasks before keeps.
     let table = c.args.program.now.table in
     subst (λ (step : Step). IsLeft table c.go_on-in-Releases.result c.go_on-in-Releases.new.running (leads-to c.args.program.now tasks before c.args.running.now c.args.ongoing c.args.node.now c.args.locks step)) (sym c.in-Releases.is)
     (c.go_on-in-Releases.ensures table (meant c.args.program.now) (in_order before.memory) tasks before c.args.ongoing _ c.requires.fits
-    (c.in_ok-next-in-Releases.ensures table c.requires.lacking c.requires.use_of (known-kind table c.args.node.now c.requires.node.0)))
+    (c.in_ok-give_unlocked-in-Releases.ensures table c.requires.lacking c.requires.use_of (known-kind table c.args.node.now c.requires.node.0)))
 
-pub returns-in_ok-next-in-Tests : goal.returns-in_ok-next-in-Tests
-returns-in_ok-next-in-Tests c = λ tasks before keeps.
+pub returns-in_ok-pick-in-Tests : goal.returns-in_ok-pick-in-Tests
+returns-in_ok-pick-in-Tests c = λ tasks before keeps.
     let table = c.args.program.now.table in
     let node = c.args.node.now in
     let fits = subst (λ (step : Step). StepFits c.args.program.now step) c.in-Tests.is c.requires.step in
     subst (λ (step : Step). IsLeft table c.go_on-in-Tests.result c.go_on-in-Tests.new.running (leads-to c.args.program.now tasks before c.args.running.now c.args.ongoing c.args.node.now c.args.locks step)) (sym c.in-Tests.is)
     (c.go_on-in-Tests.ensures table (meant c.args.program.now) (in_order before.memory) tasks before c.args.ongoing _ c.requires.fits
-    (c.in_ok-next-in-Tests.ensures table gives_truth (type_of table (out-Core node).kind) (out-Core node).place c.requires.lacking c.requires.use_of c.requires.node fits refl (waits-truth table node)))
+    (c.in_ok-pick-in-Tests.ensures table gives_truth (type_of table (out-Core node).kind) (out-Core node).place c.requires.lacking c.requires.use_of c.requires.node fits refl (waits-truth table node)))
 
-pub returns-in_ok-next-in-Picks : goal.returns-in_ok-next-in-Picks
-returns-in_ok-next-in-Picks c = λ tasks before keeps.
+pub returns-in_ok-pick-in-Picks : goal.returns-in_ok-pick-in-Picks
+returns-in_ok-pick-in-Picks c = λ tasks before keeps.
     let table = c.args.program.now.table in
     let node = c.args.node.now in
     let fits = subst (λ (step : Step). StepFits c.args.program.now step) c.in-Picks.is c.requires.step in
     subst (λ (step : Step). IsLeft table c.go_on-in-Picks.result c.go_on-in-Picks.new.running (leads-to c.args.program.now tasks before c.args.running.now c.args.ongoing c.args.node.now c.args.locks step)) (sym c.in-Picks.is)
     (c.go_on-in-Picks.ensures table (meant c.args.program.now) (in_order before.memory) tasks before c.args.ongoing _ c.requires.fits
-    (c.in_ok-next-in-Picks.ensures table gives_value (type_of table (out-Core node).kind) (out-Core node).place c.requires.lacking c.requires.use_of c.requires.node fits refl (waits-value table node)))
+    (c.in_ok-pick-in-Picks.ensures table gives_value (type_of table (out-Core node).kind) (out-Core node).place c.requires.lacking c.requires.use_of c.requires.node fits refl (waits-value table node)))
 
 pub returns-in_ok-call-in-Calls : goal.returns-in_ok-call-in-Calls
 returns-in_ok-call-in-Calls c = λ tasks before keeps.
@@ -87,9 +87,9 @@ returns-in_ok-call-in-Calls c = λ tasks before keeps.
     subst (λ (step : Step). IsAfter table c.call.new.self (leads-to source tasks before running one c.args.node.now c.args.locks step)) (sym c.in-Calls.is)
     (record {
       same = ensured.same
-          ∙ (same-opened table (meant source) running tasks (tasks_of table running.frame) before one c.in_ok-left-in-Calls.left kind hole function.number
+          ∙ (same-opened table (meant source) running tasks (tasks_of table running.frame) before one c.leave.new.ongoing kind hole function.number
           (map view_of_value c.as_slice.result.now) (view_of_function table function) (subst (λ (step : Step). Keeps before (world_of table running.blocks running.streams) step) c.in-Calls.is keeps)
-          c.in_ok-left-in-Calls.ensures.place c.in_ok-left-in-Calls.ensures.use_of (c.in_ok-left-in-Calls.ensures.hole table c.requires.lacking) fits.0
+          c.in_ok-leave-in-Calls.ensures.place c.in_ok-leave-in-Calls.ensures.use_of (c.in_ok-leave-in-Calls.ensures.hole table c.requires.lacking) fits.0
           ∙ ap into c.as_slice.ensures.value);
       fits = ensured.fits;
     })
