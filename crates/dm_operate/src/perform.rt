@@ -15,6 +15,7 @@ ghost use Rattle.dm_value.specs.Places.{view_of_at};
 ghost use Rattle.dm_value.specs.Views.{view_of_value};
 ghost use Rattle.dm_memory.specs.declared.blocks.Block.{Block};
 ghost use Rattle.dm_memory.specs.Blocks.{AreKnown};
+ghost use Rattle.dm_operate.specs.declared.operator.Operator.TheVariants as variant;
 ghost use Rattle.dm_operate.specs.Evaluations.{asks_names, view_of_did, view_of_evaluation, view_of_operand, view_of_operands, AreKnownOperands, Does};
 ghost use Rattle.dm_operate.specs.Operators.{IsKnownLeaf, IsKnownOperator, Stands, StandsLeaf, StandsOnPlace, StandsOnValue};
 
@@ -83,33 +84,150 @@ fn performed(
             Some(a) => Ok(convert(layout, blocks, kind, a.result)),
             None => Ok(Did::ill()),
         },
-        Operator::Member(number) => match operands.into_one() {
-            Some(a) => Ok(member(alloc, layout, blocks, number, &a)?),
-            None => Ok(Did::ill()),
-        },
-        Operator::Value(own) => match operands.into_value() {
-            Some(value) => Ok(perform_on_value(layout, blocks, kind, own, &value)?),
-            None => Ok(Did::ill()),
-        },
-        Operator::Place(own) => match operands.into_place() {
-            Some(at) => Ok(perform_on_place(alloc, layout, blocks, locks, kind, own, at)?),
-            None => Ok(Did::ill()),
-        },
-        Operator::Binary(op) => match operands.into_two() {
-            Some((a, b)) => Ok(perform_binary(alloc, layout, blocks, kind, op, &a, &b)?),
-            None => Ok(Did::ill()),
-        },
-        Operator::Store => match operands.into_two() {
-            Some((a, b)) => Ok(perform_store(alloc, layout, blocks, locks, kind, a, b)?),
-            None => Ok(Did::ill()),
-        },
-        Operator::Update(op, works) => match operands.into_two() {
-            Some((a, b)) => Ok(perform_update(
-                alloc, layout, blocks, locks, kind, op, works, a, b,
-            )?),
-            None => Ok(Did::ill()),
-        },
+        Operator::Member(number) => on_member(alloc, layout, blocks, kind, number, operands),
+        Operator::Value(own) => on_value(layout, blocks, kind, own, operands),
+        Operator::Place(own) => on_place(alloc, layout, blocks, locks, kind, own, operands),
+        Operator::Binary(op) => on_both(alloc, layout, blocks, kind, op, operands),
+        Operator::Store => on_store(alloc, layout, blocks, locks, kind, operands),
+        Operator::Update(op, works) => {
+            on_update(alloc, layout, blocks, locks, kind, op, works, operands)
+        }
         Operator::Other => Ok(Did::ill()),
+    }
+}
+
+/// The step of `.` and `->`.
+fn on_member(
+    alloc: Global,
+    layout: &Layout,
+    blocks: &Blocks,
+    kind: TypeId,
+    number: u32,
+    operands: Operands,
+) -> Result<Did, Memory>
+    requires kind { IsId layout.now kind }
+    requires known { AreKnown layout.now blocks.now }
+    requires operands { AreKnownOperands layout.now operands }
+    ensures { (label : Label) (locks : List values.At) → Stands layout.now (variant.Member number) label → asks_names label ≡ false
+        → IfOk result (λ did. Does layout.now blocks.now blocks.now did (λ scene world. operations.operate scene world locks
+        label (type_of layout.now kind) (view_of_operands layout.now operands))) }
+{
+    match operands.into_one() {
+        Some(a) => Ok(member(alloc, layout, blocks, number, &a)?),
+        None => Ok(Did::ill()),
+    }
+}
+
+/// The step of an operator on a value, whatever its operands are.
+fn on_value(
+    layout: &Layout,
+    blocks: &Blocks,
+    kind: TypeId,
+    own: OnValue,
+    operands: Operands,
+) -> Result<Did, Memory>
+    requires { IsId layout.now kind }
+    ensures { (label : Label) (locks : List values.At) → Stands layout.now (variant.Value own) label → asks_names label ≡ false
+        → IfOk result (λ did. Does layout.now blocks.now blocks.now did (λ scene world. operations.operate scene world locks
+        label (type_of layout.now kind) (view_of_operands layout.now operands))) }
+{
+    match operands.into_value() {
+        Some(value) => Ok(perform_on_value(layout, blocks, kind, own, &value)?),
+        None => Ok(Did::ill()),
+    }
+}
+
+/// The step of an operator on an object, whatever its operands are.
+fn on_place(
+    alloc: Global,
+    layout: &Layout,
+    blocks: &mut Blocks,
+    locks: &[At],
+    kind: TypeId,
+    own: OnPlace,
+    operands: Operands,
+) -> Result<Did, Memory>
+    requires kind { IsId layout.now kind }
+    requires known { AreKnown layout.now blocks.old }
+    ensures did { (label : Label) → Stands layout.now (variant.Place own) label → asks_names label ≡ false
+        → IfOk result (λ did. Does layout.now blocks.old blocks.new did (λ scene world. operations.operate scene world (map view_of_at locks.now)
+        label (type_of layout.now kind) (view_of_operands layout.now operands))) }
+    ensures known { AreKnown layout.now blocks.new }
+{
+    match operands.into_place() {
+        Some(at) => Ok(perform_on_place(alloc, layout, blocks, locks, kind, own, at)?),
+        None => Ok(Did::ill()),
+    }
+}
+
+/// The step of a binary operator, whatever its operands are.
+fn on_both(
+    alloc: Global,
+    layout: &Layout,
+    blocks: &Blocks,
+    kind: TypeId,
+    op: Op,
+    operands: Operands,
+) -> Result<Did, Memory>
+    requires kind { IsId layout.now kind }
+    requires known { AreKnown layout.now blocks.now }
+    requires operands { AreKnownOperands layout.now operands }
+    ensures { (label : Label) (locks : List values.At) → Stands layout.now (variant.Binary op) label → asks_names label ≡ false
+        → IfOk result (λ did. Does layout.now blocks.now blocks.now did (λ scene world. operations.operate scene world locks
+        label (type_of layout.now kind) (view_of_operands layout.now operands))) }
+{
+    match operands.into_two() {
+        Some((a, b)) => Ok(perform_binary(alloc, layout, blocks, kind, op, &a, &b)?),
+        None => Ok(Did::ill()),
+    }
+}
+
+/// The step of an assignment, whatever its operands are.
+fn on_store(
+    alloc: Global,
+    layout: &Layout,
+    blocks: &mut Blocks,
+    locks: &[At],
+    kind: TypeId,
+    operands: Operands,
+) -> Result<Did, Memory>
+    requires kind { IsId layout.now kind }
+    requires known { AreKnown layout.now blocks.old }
+    requires operands { AreKnownOperands layout.now operands }
+    ensures did { (label : Label) → Stands layout.now (variant.Store) label → asks_names label ≡ false
+        → IfOk result (λ did. Does layout.now blocks.old blocks.new did (λ scene world. operations.operate scene world (map view_of_at locks.now)
+        label (type_of layout.now kind) (view_of_operands layout.now operands))) }
+    ensures known { AreKnown layout.now blocks.new }
+{
+    match operands.into_two() {
+        Some((a, b)) => Ok(perform_store(alloc, layout, blocks, locks, kind, a, b)?),
+        None => Ok(Did::ill()),
+    }
+}
+
+/// The step of a compound assignment, whatever its operands are.
+fn on_update(
+    alloc: Global,
+    layout: &Layout,
+    blocks: &mut Blocks,
+    locks: &[At],
+    kind: TypeId,
+    op: Op,
+    works: TypeId,
+    operands: Operands,
+) -> Result<Did, Memory>
+    requires kind { IsId layout.now kind }
+    requires known { AreKnown layout.now blocks.old }
+    requires works { IsId layout.now works }
+    requires operands { AreKnownOperands layout.now operands }
+    ensures did { (label : Label) → Stands layout.now (variant.Update op works) label → asks_names label ≡ false
+        → IfOk result (λ did. Does layout.now blocks.old blocks.new did (λ scene world. operations.operate scene world (map view_of_at locks.now)
+        label (type_of layout.now kind) (view_of_operands layout.now operands))) }
+    ensures known { AreKnown layout.now blocks.new }
+{
+    match operands.into_two() {
+        Some((a, b)) => Ok(perform_update(alloc, layout, blocks, locks, kind, op, works, a, b)?),
+        None => Ok(Did::ill()),
     }
 }
 
