@@ -121,14 +121,26 @@ fn evaluate<'a>(
         Way::Both(_, second) => Ok(both(layout, node.kind, second, tested(blocks, operands))),
         Way::Either(_, second) => Ok(either(layout, node.kind, second, tested(blocks, operands))),
         Way::Choose(_, second, third) => Ok(choice(second, third, tested(blocks, operands))),
-        Way::Comma(_, second) => Ok(Step::Picks(second)),
+        Way::Comma(_, second) => {
+            drop(operands);
+            Ok(Step::Picks(second))
+        }
         Way::Call(function, _) => {
             let step = call(alloc, program, blocks, streams, function, operands)?;
             Ok(step)
         }
-        Way::Measures(tree) => Ok(Step::of_did(size(layout, node.kind, tree.kind))),
-        Way::Enumerator(declared) => Ok(Step::of_did(enumerator(program, node.kind, declared))),
-        Way::Object(declared) => Ok(Step::of_did(designated(named(statics, objects, declared)))),
+        Way::Measures(tree) => {
+            drop(operands);
+            Ok(Step::of_did(size(layout, node.kind, tree.kind)))
+        }
+        Way::Enumerator(declared) => {
+            drop(operands);
+            Ok(Step::of_did(enumerator(program, node.kind, declared)))
+        }
+        Way::Object(declared) => {
+            drop(operands);
+            Ok(Step::of_did(designated(named(statics, objects, declared))))
+        }
         Way::Operates => {
             let step = operated(alloc, layout, blocks, locks, node, operands)?;
             Ok(step)
