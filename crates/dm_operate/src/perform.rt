@@ -79,7 +79,10 @@ fn performed(
     ensures known { AreKnown layout.now blocks.new }
 {
     match own {
-        Operator::Leaf(leaf) => Ok(perform_leaf(layout, kind, leaf)),
+        Operator::Leaf(leaf) => {
+            drop(operands);
+            Ok(perform_leaf(layout, kind, leaf))
+        }
         Operator::Convert => match operands.into_one() {
             Some(a) => Ok(convert(layout, blocks, kind, a.result)),
             None => Ok(Did::ill()),
@@ -92,7 +95,10 @@ fn performed(
         Operator::Update(op, works) => {
             on_update(alloc, layout, blocks, locks, kind, op, works, operands)
         }
-        Operator::Other => Ok(Did::ill()),
+        Operator::Other => {
+            drop(operands);
+            Ok(Did::ill())
+        }
     }
 }
 
