@@ -20,6 +20,7 @@ pub fn explain_stop<S: Sink>(
     ensures put { OnOk result (PutsText (S.written out.old) (S.written out.new) (S.faults out.old) (S.faults out.new) (line_of_stop names.now stop)) }
     ensures status { IfOk result (λ status. (status ≡ status_of_stop stop) × (stop ≢ Stop.Memory)) }
     ensures err { OnErr result (S.written out.new ≡ S.written out.old) }
+    ensures faults_stay { OnErr result (S.faults out.new ≡ S.faults out.old) }
     ensures later { S.faults out.old ≤ S.faults out.new }
 {
     let line = line_about(alloc, names, stop)?;
