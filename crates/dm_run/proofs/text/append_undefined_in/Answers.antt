@@ -22,4 +22,4 @@ returns c =
     is ∙ ap (λ n. with_parts before n file c.as_bytes-line.result.now c.as_bytes-column.result.now) name
     ∙ ap (λ l. with_parts before (cause_name c.args.cause) file l c.as_bytes-column.result.now) line
     ∙ ap (λ k. with_parts before (cause_name c.args.cause) file (decimal c.args.place.line) k) column)
-    c.append_all.ensures
+    c.append_all.ensures.ok
