@@ -6,7 +6,7 @@ use dm_token::{Limit, List, Place, Refusal, Stop, Text};
 use std::process::Abort;
 use std::test::Fail;
 
-/// Adds an empty file.
+/// Adds a file.
 fn add<R: Abort + AllocGlobal>(
     rt: &R,
     folder: &mut MemoryFolder,
@@ -19,72 +19,136 @@ fn add<R: Abort + AllocGlobal>(
     Ok(())
 }
 
+/// Adds empty files with these names.
+fn add_empty<R: Abort + AllocGlobal>(
+    rt: &R,
+    folder: &mut MemoryFolder,
+    names: &str,
+) -> Result<(), Fail> {
+    for name in names.split(' ') {
+        add(rt, folder, name, b"")?;
+    }
+    Ok(())
+}
+
 /// The number of a name, which is below the count of names.
 fn number<R: Abort + AllocGlobal>(rt: &R, loader: &mut Loader, name: &str) -> Result<u32, Fail> {
     assert!(rt; loader.names().len() < 10_000);
     Ok(loader.number(&Text::new(rt.alloc(), name)?)?)
 }
 
-/// Checks what a search for a header finds, where `wanted` is empty for nothing.
-fn expect_found<R: Abort + AllocGlobal>(
+/// What a search for a header finds.
+fn found<R: Abort + AllocGlobal>(
     rt: &R,
     loader: &mut Loader,
     folder: &mut MemoryFolder,
     quoted: bool,
     name: &str,
-    wanted: &str,
-) -> Result<(), Fail> {
+) -> Result<Option<u32>, Fail> {
     let from = number(rt, loader, "src/a.c")?;
     let include = [Text::new(rt.alloc(), "inc")?];
     let name = Text::new(rt.alloc(), name)?;
     assert!(rt; loader.names().len() < 10_000);
     assert!(rt; (from as usize) < loader.names().len());
     let found = loader.find(folder, from, quoted, &name, &include);
-    let found = found.ok().flatten();
+    Ok(found.ok().flatten())
+}
+
+/// Checks what the search for the header of a row finds, which stands behind the `=`, and nothing where the search finds none.
+fn expect_found<R: Abort + AllocGlobal>(
+    rt: &R,
+    loader: &mut Loader,
+    folder: &mut MemoryFolder,
+    row: &str,
+) -> Result<(), Fail> {
+    let Some((header, wanted)) = row.split_once(" = ") else {
+        panic!(rt; "no file in {row}");
+    };
+    let quoted = header.starts_with('"');
+    let name = header.trim_matches(['"', '<', '>']);
+    let found = found(rt, loader, folder, quoted, name)?;
     let wanted = number(rt, loader, wanted)?;
-    assert_eq!(rt; found.unwrap_or(6), wanted);
+    assert_eq!(rt; found.unwrap_or(6), wanted, "{row}");
+    Ok(())
+}
+
+/// Headers and the files that are found for them.
+const FOUND: &str = "\"../x.h\" = x.h\n\
+\"../../x.h\" = \n\
+\"y.h\" = src/y.h\n\
+<y.h> = inc/y.h\n\
+\"/x.h\" = \n\
+\"..//../x.h\" = x.h\n\
+\"..//x.h\" = \n\
+\"stdio.h\" = <stdio.h>\n\
+<limits.h> = inc/limits.h\n\
+<./stdio.h> = ";
+
+/// Checks what the searches of rows find in a folder.
+fn expect_all_found<R: Abort + AllocGlobal>(
+    rt: &R,
+    folder: &mut MemoryFolder,
+    rows: &str,
+) -> Result<(), Fail> {
+    let mut loader = Loader::new(rt.alloc())?;
+    // Number 6 is the name of no file.
+    number(rt, &mut loader, "")?;
+    for row in rows.split('\n') {
+        expect_found(rt, &mut loader, folder, row)?;
+    }
     Ok(())
 }
 
 #[test]
 fn searches_go_from_folder_to_folder(rt: HostRuntime) -> Result<(), Fail> {
     let mut folder = MemoryFolder::new(rt.alloc(), List::new(rt.alloc()));
-    let mut loader = Loader::new(rt.alloc())?;
-    // Number 6 is the name of no file.
-    number(&rt, &mut loader, "")?;
-    for name in ["x.h", "src/y.h", "inc/y.h", "inc/limits.h"] {
-        add(&rt, &mut folder, name, b"")?;
-    }
-    let table = [
-        (true, "../x.h", "x.h"),
-        (true, "../../x.h", ""),
-        (true, "y.h", "src/y.h"),
-        (false, "y.h", "inc/y.h"),
-        (true, "/x.h", ""),
-        (true, "..//../x.h", "x.h"),
-        (true, "..//x.h", ""),
-        (true, "stdio.h", "<stdio.h>"),
-        (false, "limits.h", "inc/limits.h"),
-        (false, "./stdio.h", ""),
-    ];
-    for (quoted, name, wanted) in table {
-        expect_found(&rt, &mut loader, &mut folder, quoted, name, wanted)?;
-    }
-    Ok(())
+    add_empty(&rt, &mut folder, "x.h src/y.h inc/y.h inc/limits.h")?;
+    expect_all_found(&rt, &mut folder, FOUND)
 }
 
-/// Checks whether a file is loaded, where `None` stands for a fault.
+/// What loading a file gives that is there, is absent or is not read.
+fn loaded_as(file: u32, wanted: &str) -> Result<bool, Stop> {
+    if wanted == "read fault" {
+        return Err(Stop::ReadFault(file));
+    }
+    Ok(wanted == "there")
+}
+
+/// Checks whether the file of a row is loaded.
 fn expect_load<R: Abort + AllocGlobal>(
     rt: &R,
     loader: &mut Loader,
     folder: &mut MemoryFolder,
-    name: &str,
-    wanted: Option<bool>,
+    row: &str,
 ) -> Result<(), Fail> {
+    let Some((name, wanted)) = row.split_once(" = ") else {
+        panic!(rt; "no answer in {row}");
+    };
     let file = number(rt, loader, name)?;
     assert!(rt; (file as usize) < loader.names().len());
     let loaded = loader.load(folder, file);
-    assert_eq!(rt; loaded, wanted.ok_or(Stop::ReadFault(file)));
+    assert_eq!(rt; loaded, loaded_as(file, wanted), "{row}");
+    Ok(())
+}
+
+/// Files that are loaded in turn.
+const LOADED: &str = "a.c = there\n\
+b.c = absent\n\
+a.c = there\n\
+b.c = absent\n\
+c.c = read fault\n\
+c.c = absent";
+
+/// Checks in turn whether the files of rows are loaded.
+fn expect_all_loaded<R: Abort + AllocGlobal>(
+    rt: &R,
+    folder: &mut MemoryFolder,
+    rows: &str,
+) -> Result<(), Fail> {
+    let mut loader = Loader::new(rt.alloc())?;
+    for row in rows.split('\n') {
+        expect_load(rt, &mut loader, folder, row)?;
+    }
     Ok(())
 }
 
@@ -93,20 +157,8 @@ fn files_are_read_once(rt: HostRuntime) -> Result<(), Fail> {
     // The third reading fails.
     let failing = List::from_vec([2u32].to_vec(rt.alloc())?);
     let mut folder = MemoryFolder::new(rt.alloc(), failing);
-    let mut loader = Loader::new(rt.alloc())?;
     add(&rt, &mut folder, "a.c", b"int a;\n")?;
-    let table = [
-        ("a.c", Some(true)),
-        ("b.c", Some(false)),
-        ("a.c", Some(true)),
-        ("b.c", Some(false)),
-        ("c.c", None),
-        ("c.c", Some(false)),
-    ];
-    for (name, wanted) in table {
-        expect_load(&rt, &mut loader, &mut folder, name, wanted)?;
-    }
-    Ok(())
+    expect_all_loaded(&rt, &mut folder, LOADED)
 }
 
 /// Checks how a file with these bytes stops its loading, and the replacement of a loaded file: by a refusal at a byte of
@@ -162,18 +214,26 @@ fn expect_content(rt: &impl Abort, loader: &Loader, bytes: &[u8], tokens: usize)
     assert_eq!(rt; loader.tokens(0).len(), tokens);
 }
 
+/// Checks that what can't be read leaves the first file, which has this text.
+fn expect_held<R: Abort + AllocGlobal>(
+    rt: &R,
+    loader: &mut Loader,
+    text: &[u8],
+) -> Result<(), Fail> {
+    expect_content(rt, loader, text, 44);
+    expect_refusal(rt, loader, b"/* x", 2, 0)?;
+    expect_refusal(rt, loader, b"a /* b\\\n", 8, 6)?;
+    expect_content(rt, loader, text, 44);
+    Ok(())
+}
+
 #[test]
 fn new_bytes_are_held_where_they_can_be_read(rt: HostRuntime) -> Result<(), Fail> {
     let mut loader = Loader::new(rt.alloc())?;
     let name = Text::new(rt.alloc(), "stdio.h")?;
     let text = Loader::header(&name).unwrap_or(&[]);
-    expect_content(&rt, &loader, text, 44);
-    for (bytes, number_of_refusal, byte) in [("/* x", 2, 0), ("a /* b\\\n", 8, 6)] {
-        expect_refusal(&rt, &mut loader, bytes.as_bytes(), number_of_refusal, byte)?;
-    }
-    expect_content(&rt, &loader, text, 44);
-    expect_limit(&rt, &mut loader, 1_048_576)?;
-    Ok(())
+    expect_held(&rt, &mut loader, text)?;
+    expect_limit(&rt, &mut loader, 1_048_576)
 }
 
 #[test]

@@ -6,6 +6,7 @@ use dm_syn::{
 };
 use dm_token::{Boxed, CToken, Class, List, Memory, Place, Span, Text, Trail};
 use std::alloc::Global;
+use std::process::Abort;
 
 fn span(first: u32, after: u32) -> Span {
     Span { first, after }
@@ -100,26 +101,44 @@ fn yields_the_tokens_of_its_span(rt: HostRuntime) -> Result<(), Memory> {
     Ok(())
 }
 
-#[test]
-fn counts_each_node_above_its_parts(rt: HostRuntime) -> Result<(), Memory> {
-    let plain = declaration(rt.alloc(), None)?;
-    assert!(rt; height(&plain) == 2);
-    let low = declaration(rt.alloc(), Some(negated(rt.alloc(), 3, 510)?))?;
-    assert!(rt; height(&low) == 512);
-    let high = declaration(rt.alloc(), Some(negated(rt.alloc(), 3, 511)?))?;
-    assert!(rt; height(&high) == 513);
+// Checks how high a declaration with such an initialiser or none is.
+fn expect_height(
+    rt: &impl Abort,
+    alloc: Global,
+    value: Option<Expr>,
+    wanted: u32,
+) -> Result<(), Memory> {
+    let tree = declaration(alloc, value)?;
+    assert!(rt; height(&tree) == wanted, "the height is {}", height(&tree));
     Ok(())
 }
 
 #[test]
+fn counts_each_node_above_its_parts(rt: HostRuntime) -> Result<(), Memory> {
+    expect_height(&rt, rt.alloc(), None, 2)?;
+    let low = negated(rt.alloc(), 3, 510)?;
+    expect_height(&rt, rt.alloc(), Some(low), 512)?;
+    let high = negated(rt.alloc(), 3, 511)?;
+    expect_height(&rt, rt.alloc(), Some(high), 513)
+}
+
+fn expect_symbol(rt: &impl Abort, class: Class, wanted: Symbol) {
+    assert!(rt; symbol_of(class) == wanted, "{class:?}");
+}
+
+fn expect_level(rt: &impl Abort, symbol: Symbol, wanted: Option<u8>) {
+    assert!(rt; infix_level(symbol) == wanted, "{symbol:?}");
+}
+
+#[test]
 fn sees_symbols_by_their_rows(rt: HostRuntime) {
-    assert!(rt; symbol_of(Class::Punctuator(11)) == Symbol::Star);
-    assert!(rt; symbol_of(Class::Punctuator(33)) == Symbol::Other);
-    assert!(rt; symbol_of(Class::Keyword(22)) == Symbol::Typedef);
-    assert!(rt; symbol_of(Class::Keyword(27)) == Symbol::Other);
-    assert!(rt; infix_level(Symbol::Star) == Some(12));
-    assert!(rt; infix_level(Symbol::Or) == Some(3));
-    assert!(rt; infix_level(Symbol::Equals) == None);
+    expect_symbol(&rt, Class::Punctuator(11), Symbol::Star);
+    expect_symbol(&rt, Class::Punctuator(33), Symbol::Other);
+    expect_symbol(&rt, Class::Keyword(22), Symbol::Typedef);
+    expect_symbol(&rt, Class::Keyword(27), Symbol::Other);
+    expect_level(&rt, Symbol::Star, Some(12));
+    expect_level(&rt, Symbol::Or, Some(3));
+    expect_level(&rt, Symbol::Equals, None);
     assert!(rt; Symbol::TypedefName.is_identifier() && Symbol::TypedefName.begins_specifiers());
     assert!(rt; Symbol::Comma.is(Symbol::Comma) && !Symbol::Comma.is(Symbol::Colon));
 }

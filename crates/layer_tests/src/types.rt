@@ -3,9 +3,8 @@
 //! `P` is a pointer to the type before it and `K` its const version, `A3` an array of 3 of it, `A` one without a length, and
 //! `F2` the function of the two types before it that gives the one before these. `#4` is the struct of line 4, from 0.
 
-ghost use Rattle.std.specs.Prelude.{◌↔◌, IsTrue, IsSome, All};
+ghost use Rattle.std.specs.Prelude.{IsTrue, All};
 ghost use Rattle.dm_type.specs.Tables as tables;
-ghost use Rattle.dm_type.specs.Layouts as layouts;
 
 use crate::known_types::KnownTypes;
 use dm_int::Kind;
@@ -269,13 +268,6 @@ fn type_of(
     Ok(top(rt, &mut stack))
 }
 
-/// Whether objects of the type have a size.
-fn is_sized(types: &KnownTypes, id: TypeId) -> bool
-    ensures { IsTrue result → IsSome (layouts.size_of types.now (tables.type_of types.now id)) }
-{
-    types.knows(id) && types.size(id).is_some()
-}
-
 /// Whether the types have those of the members.
 fn are_known(types: &KnownTypes, members: &[Member]) -> bool
     ensures { IsTrue result → All (λ member. tables.IsId types.now member.kind) members.now }
@@ -283,11 +275,20 @@ fn are_known(types: &KnownTypes, members: &[Member]) -> bool
     members.iter().all(|member| types.knows(member.kind))
 }
 
+/// The size of a type.
+fn size_of(rt: &impl Abort, types: &KnownTypes, id: TypeId) -> Option<u64> {
+    assert!(rt; types.knows(id));
+    types.size(id)
+}
+
 /// Whether all members have sizes.
-fn are_sized(types: &KnownTypes, members: &[Member]) -> bool
-    ensures { IsTrue result → All (λ member. IsSome (layouts.size_of types.now (tables.type_of types.now member.kind))) members.now }
-{
-    members.iter().all(|member| is_sized(types, member.kind))
+fn are_sized(rt: &impl Abort, types: &KnownTypes, members: &[Member]) -> bool {
+    for member in members {
+        if size_of(rt, types, member.kind).is_none() {
+            return false;
+        }
+    }
+    true
 }
 
 /// A new struct with these members.
@@ -303,7 +304,7 @@ fn struct_with(
     assert!(rt;
         !members.is_empty()
             && are_known(types, members.items())
-            && are_sized(types, members.items())
+            && are_sized(rt, types, members.items())
     );
     types.set_members(number, members)?;
     Ok(number)
@@ -337,121 +338,6 @@ fn members_of(
     Ok(members)
 }
 
-#[test]
-fn structs_take_as_much_as_gcc_says(rt: HostRuntime) -> Result<(), Fail> {
-    let mut types = KnownTypes::new(rt.alloc())?;
-    for line in STRUCTS.split('\n') {
-        let Some((members, wanted)) = line.split_once(" = ") else {
-            panic!(rt; "no size in {line}");
-        };
-        let members = members_of(&rt, rt.alloc(), &mut types, members)?;
-        let number = struct_with(&rt, &mut types, None, members)?;
-        let id = made(&rt, &mut types, Shape::Struct(number))?;
-        assert!(rt; types.knows(id));
-        let size = types.size(id).unwrap_or(0);
-        let alignment = types.alignment(id).unwrap_or(0);
-        assert_eq!(rt;
-            format!(in rt.alloc(); "{size} {alignment}")?.as_str(),
-            wanted,
-            "{line}"
-        );
-    }
-    Ok(())
-}
-
-/// Whether the two types of a line are compatible, one way and the other.
-fn agrees(
-    rt: &impl Abort,
-    alloc: Global,
-    types: &mut KnownTypes,
-    line: &str,
-) -> Result<bool, Memory> {
-    let Some((one, other)) = line.split_once(" ~ ") else {
-        panic!(rt; "no pair in a line");
-    };
-    let a = type_of(rt, alloc, types, one)?;
-    let b = type_of(rt, alloc, types, other)?;
-    assert!(rt; types.knows(a) && types.knows(b));
-    let answer = types.compatible(a, b);
-    assert!(rt; types.compatible(b, a) == answer);
-    Ok(answer)
-}
-
-#[test]
-fn types_are_compatible_where_gcc_says_so(rt: HostRuntime) -> Result<(), Fail> {
-    let mut types = KnownTypes::new(rt.alloc())?;
-    for line in COMPATIBLE.split('\n') {
-        assert_eq!(rt; agrees(&rt, rt.alloc(), &mut types, line)?, true, "{line}");
-    }
-    for line in APART.split('\n') {
-        assert_eq!(rt; agrees(&rt, rt.alloc(), &mut types, line)?, false, "{line}");
-    }
-    Ok(())
-}
-
-/// The composite type of two types.
-fn composed(
-    rt: &impl Abort,
-    types: &mut KnownTypes,
-    a: TypeId,
-    b: TypeId,
-) -> Result<TypeId, Memory> {
-    assert!(rt; types.knows(a) && types.knows(b));
-    assert!(rt; types.compatible(a, b));
-    types.composite(a, b)
-}
-
-/// Whether the composite type of the two types of a line is the one that it says.
-fn composes(
-    rt: &impl Abort,
-    alloc: Global,
-    types: &mut KnownTypes,
-    line: &str,
-) -> Result<bool, Memory> {
-    let Some((pair, wanted)) = line.split_once(" = ") else {
-        panic!(rt; "no composite type in a line");
-    };
-    let Some((one, other)) = pair.split_once(" ~ ") else {
-        panic!(rt; "no pair in a line");
-    };
-    let a = type_of(rt, alloc, types, one)?;
-    let b = type_of(rt, alloc, types, other)?;
-    let wanted = type_of(rt, alloc, types, wanted)?;
-    Ok(composed(rt, types, a, b)? == wanted)
-}
-
-#[test]
-fn composite_types_have_the_lengths_that_are_known(rt: HostRuntime) -> Result<(), Fail> {
-    let mut types = KnownTypes::new(rt.alloc())?;
-    for line in COMPOSITES.split('\n') {
-        assert_eq!(rt;
-            composes(&rt, rt.alloc(), &mut types, line)?,
-            true,
-            "{line}"
-        );
-    }
-    Ok(())
-}
-
-#[test]
-fn types_are_spelled_as_gcc_reads_them(rt: HostRuntime) -> Result<(), Fail> {
-    let mut types = KnownTypes::new(rt.alloc())?;
-    let name = Text::new(rt.alloc(), "p")?;
-    for line in SPELLED.split('\n') {
-        let Some((written, wanted)) = line.split_once(" = ") else {
-            panic!(rt; "no spelling in {line}");
-        };
-        let id = type_of(&rt, rt.alloc(), &mut types, written)?;
-        assert!(rt; types.knows(id));
-        assert_eq!(rt;
-            types.spell(id, &name, &[])?,
-            Some(Text::new(rt.alloc(), wanted)?),
-            "{line}"
-        );
-    }
-    Ok(())
-}
-
 /// Sizes by the standard and the greatest size, 0 for none.
 const SIZES: &str = "v = 0\n\
 v F0 = 0\n\
@@ -469,36 +355,295 @@ i A1 A268435456 A2 = 0\n\
 i A4294967296 A4294967296 A4 = 0\n\
 i A18446744073709551615 = 0";
 
-#[test]
-fn sizes_end_where_types_do(rt: HostRuntime) -> Result<(), Fail> {
-    let mut types = KnownTypes::new(rt.alloc())?;
-    for line in SIZES.split('\n') {
-        let Some((written, wanted)) = line.split_once(" = ") else {
-            panic!(rt; "no size in {line}");
-        };
-        let id = type_of(&rt, rt.alloc(), &mut types, written)?;
-        assert!(rt; types.knows(id));
-        let size = types.size(id).unwrap_or(0);
-        assert_eq!(rt;
-            format!(in rt.alloc(); "{size}")?.as_str(),
-            wanted,
-            "{line}"
-        );
+/// Pairs of one type, by 6.7.3p5 and p9.
+const EQUAL: &str = "i P ~ i P\n\
+i A3 K ~ i K A3\n\
+i K K ~ i K";
+
+/// What a line says of its types.
+#[derive(Clone, Copy)]
+enum Claim {
+    Layout,
+    Size,
+    Spelling,
+    Compatible,
+    Apart,
+    Equal,
+    Composite,
+}
+
+/// The two parts of a line.
+fn parts<'a>(rt: &impl Abort, line: &'a str, between: &str) -> (&'a str, &'a str) {
+    let Some(parts) = line.split_once(between) else {
+        panic!(rt; "a part is missing in {line}");
+    };
+    parts
+}
+
+/// The type of a new struct with members in postfix notation.
+fn struct_of(
+    rt: &impl Abort,
+    alloc: Global,
+    types: &mut KnownTypes,
+    text: &str,
+) -> Result<TypeId, Memory> {
+    let members = members_of(rt, alloc, types, text)?;
+    let number = struct_with(rt, types, None, members)?;
+    made(rt, types, Shape::Struct(number))
+}
+
+/// The size and the alignment of a type, 0 for none.
+fn layout_of(
+    rt: &impl Abort,
+    alloc: Global,
+    types: &KnownTypes,
+    id: TypeId,
+) -> Result<String, Memory> {
+    assert!(rt; types.knows(id));
+    let size = types.size(id).unwrap_or(0);
+    let alignment = types.alignment(id).unwrap_or(0);
+    Ok(format!(in alloc; "{size} {alignment}")?)
+}
+
+/// Checks the layout of the struct of a line.
+fn expect_layout(
+    rt: &impl Abort,
+    alloc: Global,
+    types: &mut KnownTypes,
+    line: &str,
+) -> Result<(), Fail> {
+    let (members, wanted) = parts(rt, line, " = ");
+    let id = struct_of(rt, alloc, types, members)?;
+    let layout = layout_of(rt, alloc, types, id)?;
+    assert_eq!(rt; layout.as_str(), wanted, "{line}");
+    Ok(())
+}
+
+/// Checks the size of the type of a line.
+fn expect_size(
+    rt: &impl Abort,
+    alloc: Global,
+    types: &mut KnownTypes,
+    line: &str,
+) -> Result<(), Fail> {
+    let (written, wanted) = parts(rt, line, " = ");
+    let id = type_of(rt, alloc, types, written)?;
+    let size = size_of(rt, types, id).unwrap_or(0);
+    let size = format!(in alloc; "{size}")?;
+    assert_eq!(rt; size.as_str(), wanted, "{line}");
+    Ok(())
+}
+
+/// The spelling of a type round the declarator `p`.
+fn spelling_of(
+    rt: &impl Abort,
+    alloc: Global,
+    types: &KnownTypes,
+    id: TypeId,
+    visible: &[u32],
+) -> Result<Option<Text>, Memory> {
+    let name = Text::new(alloc, "p")?;
+    assert!(rt; types.knows(id));
+    types.spell(id, &name, visible)
+}
+
+/// Checks the spelling of the type of a line.
+fn expect_spelling(
+    rt: &impl Abort,
+    alloc: Global,
+    types: &mut KnownTypes,
+    line: &str,
+) -> Result<(), Fail> {
+    let (written, wanted) = parts(rt, line, " = ");
+    let id = type_of(rt, alloc, types, written)?;
+    let spelling = spelling_of(rt, alloc, types, id, &[])?;
+    let wanted = Text::new(alloc, wanted)?;
+    assert_eq!(rt; spelling, Some(wanted), "{line}");
+    Ok(())
+}
+
+/// The two types of a line.
+fn pair_of(
+    rt: &impl Abort,
+    alloc: Global,
+    types: &mut KnownTypes,
+    line: &str,
+) -> Result<(TypeId, TypeId), Memory> {
+    let (one, other) = parts(rt, line, " ~ ");
+    let one = type_of(rt, alloc, types, one)?;
+    Ok((one, type_of(rt, alloc, types, other)?))
+}
+
+/// Whether two types are compatible.
+fn agree(rt: &impl Abort, types: &KnownTypes, a: TypeId, b: TypeId) -> bool {
+    assert!(rt; types.knows(a) && types.knows(b));
+    types.compatible(a, b)
+}
+
+/// Checks whether the two types of a line are compatible, one way and the other.
+fn expect_agreement(
+    rt: &impl Abort,
+    alloc: Global,
+    types: &mut KnownTypes,
+    line: &str,
+    wanted: bool,
+) -> Result<(), Fail> {
+    let (a, b) = pair_of(rt, alloc, types, line)?;
+    let answer = agree(rt, types, a, b);
+    assert!(rt; agree(rt, types, b, a) == answer);
+    assert_eq!(rt; answer, wanted, "{line}");
+    Ok(())
+}
+
+/// Checks that the two types of a line have one number.
+fn expect_equal(
+    rt: &impl Abort,
+    alloc: Global,
+    types: &mut KnownTypes,
+    line: &str,
+) -> Result<(), Fail> {
+    let (a, b) = pair_of(rt, alloc, types, line)?;
+    assert!(rt; a == b, "{line}");
+    Ok(())
+}
+
+/// The composite type of two types.
+fn composed(
+    rt: &impl Abort,
+    types: &mut KnownTypes,
+    a: TypeId,
+    b: TypeId,
+) -> Result<TypeId, Memory> {
+    assert!(rt; types.knows(a) && types.knows(b));
+    assert!(rt; types.compatible(a, b));
+    types.composite(a, b)
+}
+
+/// Checks the composite type of the two types of a line.
+fn expect_composite(
+    rt: &impl Abort,
+    alloc: Global,
+    types: &mut KnownTypes,
+    line: &str,
+) -> Result<(), Fail> {
+    let (pair, wanted) = parts(rt, line, " = ");
+    let (a, b) = pair_of(rt, alloc, types, pair)?;
+    let wanted = type_of(rt, alloc, types, wanted)?;
+    let composite = composed(rt, types, a, b)?;
+    assert_eq!(rt; composite == wanted, true, "{line}");
+    Ok(())
+}
+
+/// Checks what a line says.
+fn expect_line(
+    rt: &impl Abort,
+    alloc: Global,
+    types: &mut KnownTypes,
+    claim: Claim,
+    line: &str,
+) -> Result<(), Fail> {
+    match claim {
+        Claim::Layout => expect_layout(rt, alloc, types, line),
+        Claim::Size => expect_size(rt, alloc, types, line),
+        Claim::Spelling => expect_spelling(rt, alloc, types, line),
+        Claim::Compatible => expect_agreement(rt, alloc, types, line, true),
+        Claim::Apart => expect_agreement(rt, alloc, types, line, false),
+        Claim::Equal => expect_equal(rt, alloc, types, line),
+        Claim::Composite => expect_composite(rt, alloc, types, line),
+    }
+}
+
+/// Checks what each line of a text says.
+fn expect_lines(rt: &impl Abort, alloc: Global, claim: Claim, lines: &str) -> Result<(), Fail> {
+    let mut types = KnownTypes::new(alloc)?;
+    for line in lines.split('\n') {
+        expect_line(rt, alloc, &mut types, claim, line)?;
     }
     Ok(())
 }
 
 #[test]
+fn structs_take_as_much_as_gcc_says(rt: HostRuntime) -> Result<(), Fail> {
+    expect_lines(&rt, rt.alloc(), Claim::Layout, STRUCTS)
+}
+
+#[test]
+fn types_are_compatible_where_gcc_says_so(rt: HostRuntime) -> Result<(), Fail> {
+    expect_lines(&rt, rt.alloc(), Claim::Compatible, COMPATIBLE)?;
+    expect_lines(&rt, rt.alloc(), Claim::Apart, APART)
+}
+
+#[test]
+fn composite_types_have_the_lengths_that_are_known(rt: HostRuntime) -> Result<(), Fail> {
+    expect_lines(&rt, rt.alloc(), Claim::Composite, COMPOSITES)
+}
+
+#[test]
+fn types_are_spelled_as_gcc_reads_them(rt: HostRuntime) -> Result<(), Fail> {
+    expect_lines(&rt, rt.alloc(), Claim::Spelling, SPELLED)
+}
+
+#[test]
+fn sizes_end_where_types_do(rt: HostRuntime) -> Result<(), Fail> {
+    expect_lines(&rt, rt.alloc(), Claim::Size, SIZES)
+}
+
+#[test]
 fn equal_types_have_one_number(rt: HostRuntime) -> Result<(), Fail> {
-    let mut types = KnownTypes::new(rt.alloc())?;
-    let mut numbers = Vec::new(rt.alloc());
-    for written in ["i P", "i P", "i A3 K", "i K A3", "i K K", "i K"] {
-        numbers.push(type_of(&rt, rt.alloc(), &mut types, written)?)?;
-    }
-    for pair in numbers.as_slice().chunks_exact(2) {
-        assert!(rt; pair[0] == pair[1]);
-    }
+    expect_lines(&rt, rt.alloc(), Claim::Equal, EQUAL)
+}
+
+/// Adds a struct with one member and such a tag or none.
+fn add_tagged(
+    rt: &impl Abort,
+    alloc: Global,
+    types: &mut KnownTypes,
+    tag: Option<Text>,
+) -> Result<(), Memory> {
+    let members = members_of(rt, alloc, types, "i")?;
+    struct_with(rt, types, tag, members)?;
     Ok(())
+}
+
+/// Adds two structs of one tag.
+fn add_two(
+    rt: &impl Abort,
+    alloc: Global,
+    types: &mut KnownTypes,
+    tag: Text,
+) -> Result<(), Memory> {
+    let copy = tag.copy()?;
+    add_tagged(rt, alloc, types, Some(copy))?;
+    add_tagged(rt, alloc, types, Some(tag))
+}
+
+/// Checks that a type has no spelling where these structs are visible.
+fn expect_hidden(
+    rt: &impl Abort,
+    alloc: Global,
+    types: &mut KnownTypes,
+    written: &str,
+    visible: &[u32],
+) -> Result<(), Fail> {
+    let id = type_of(rt, alloc, types, written)?;
+    let spelling = spelling_of(rt, alloc, types, id, visible)?;
+    assert_eq!(rt; spelling, None, "{written}");
+    Ok(())
+}
+
+/// Checks the spelling of a pointer to the first struct.
+fn expect_visible(rt: &impl Abort, alloc: Global, types: &mut KnownTypes) -> Result<(), Fail> {
+    let id = type_of(rt, alloc, types, "#0 K P")?;
+    let spelling = spelling_of(rt, alloc, types, id, &[1, 0])?;
+    let wanted = Text::new(alloc, "const struct s *p")?;
+    assert_eq!(rt; spelling, Some(wanted));
+    Ok(())
+}
+
+/// Checks that there are three structs, the first with a tag.
+fn expect_three(rt: &impl Abort, types: &KnownTypes) {
+    assert_eq!(rt; types.struct_count(), 3);
+    assert!(rt; types.tag(0).is_some());
 }
 
 #[test]
@@ -506,26 +651,13 @@ fn structs_of_one_tag_are_apart_and_hidden_ones_have_no_spelling(
     rt: HostRuntime,
 ) -> Result<(), Fail> {
     let mut types = KnownTypes::new(rt.alloc())?;
-    let name = Text::new(rt.alloc(), "p")?;
-    let tag = Text::new(rt.alloc(), "s")?;
-    for tag in [Some(tag.copy()?), Some(tag), None] {
-        let members = members_of(&rt, rt.alloc(), &mut types, "i")?;
-        struct_with(&rt, &mut types, tag, members)?;
-    }
-    let a = type_of(&rt, rt.alloc(), &mut types, "#0 K P")?;
-    let b = type_of(&rt, rt.alloc(), &mut types, "#1 K P")?;
-    let c = type_of(&rt, rt.alloc(), &mut types, "i #2 P F1")?;
-    assert!(rt; types.knows(a) && types.knows(b) && types.knows(c));
-    assert_eq!(rt; types.compatible(a, b), false);
-    assert_eq!(rt;
-        types.spell(a, &name, &[1, 0])?,
-        Some(Text::new(rt.alloc(), "const struct s *p")?)
-    );
-    assert_eq!(rt; types.spell(b, &name, &[0, 2])?, None);
-    assert_eq!(rt; types.spell(c, &name, &[0, 1, 2])?, None);
-    assert_eq!(rt; types.struct_count(), 3);
-    let seen = types.tag(0);
-    assert!(rt; seen.is_some());
+    add_two(&rt, rt.alloc(), &mut types, Text::new(rt.alloc(), "s")?)?;
+    add_tagged(&rt, rt.alloc(), &mut types, None)?;
+    expect_agreement(&rt, rt.alloc(), &mut types, "#0 K P ~ #1 K P", false)?;
+    expect_visible(&rt, rt.alloc(), &mut types)?;
+    expect_hidden(&rt, rt.alloc(), &mut types, "#1 K P", &[0, 2])?;
+    expect_hidden(&rt, rt.alloc(), &mut types, "i #2 P F1", &[0, 1, 2])?;
+    expect_three(&rt, &types);
     Ok(())
 }
 
@@ -562,29 +694,30 @@ fn deep(
     Ok(id)
 }
 
+/// Checks what deep types are.
+fn expect_deep(rt: &impl Abort, alloc: Global, functions: bool) -> Result<(), Fail> {
+    let mut types = KnownTypes::new(alloc)?;
+    let a = deep(rt, alloc, &mut types, "i A3 P", functions)?;
+    let b = deep(rt, alloc, &mut types, "i A P", functions)?;
+    let c = deep(rt, alloc, &mut types, "i A4 P", functions)?;
+    assert_eq!(rt; agree(rt, &types, a, b), true);
+    assert_eq!(rt; agree(rt, &types, a, c), false);
+    assert_eq!(rt; size_of(rt, &types, a), Some(8));
+    assert_eq!(rt; composed(rt, &mut types, b, a)?, a);
+    Ok(())
+}
+
 #[test]
 fn deep_types_take_no_more_of_the_stack(rt: HostRuntime) -> Result<(), Fail> {
-    for functions in [false, true] {
-        let mut types = KnownTypes::new(rt.alloc())?;
-        let a = deep(&rt, rt.alloc(), &mut types, "i A3 P", functions)?;
-        let b = deep(&rt, rt.alloc(), &mut types, "i A P", functions)?;
-        let c = deep(&rt, rt.alloc(), &mut types, "i A4 P", functions)?;
-        assert!(rt; types.knows(a) && types.knows(b) && types.knows(c));
-        assert_eq!(rt; types.compatible(a, b), true);
-        assert_eq!(rt; types.compatible(a, c), false);
-        assert_eq!(rt; types.size(a), Some(8));
-        assert_eq!(rt; composed(&rt, &mut types, b, a)?, a);
-    }
-    Ok(())
+    expect_deep(&rt, rt.alloc(), false)?;
+    expect_deep(&rt, rt.alloc(), true)
 }
 
 #[test]
 fn a_hundred_thousand_pointers_are_spelled(rt: HostRuntime) -> Result<(), Fail> {
     let mut types = KnownTypes::new(rt.alloc())?;
     let a = deep(&rt, rt.alloc(), &mut types, "i A3 P", false)?;
-    assert!(rt; types.knows(a));
-    let name = Text::new(rt.alloc(), "p")?;
-    let Some(text) = types.spell(a, &name, &[])? else {
+    let Some(text) = spelling_of(&rt, rt.alloc(), &types, a, &[])? else {
         panic!(rt; "no spelling");
     };
     assert_eq!(rt; text.bytes().len(), 100_011);
@@ -595,9 +728,24 @@ fn a_hundred_thousand_pointers_are_spelled(rt: HostRuntime) -> Result<(), Fail> 
 fn a_hundred_thousand_structs_inside_each_other_have_sizes(rt: HostRuntime) -> Result<(), Fail> {
     let mut types = KnownTypes::new(rt.alloc())?;
     let id = nested(&rt, rt.alloc(), &mut types)?;
-    assert!(rt; types.knows(id));
-    assert_eq!(rt; types.size(id), Some(4));
+    assert_eq!(rt; size_of(&rt, &types, id), Some(4));
     Ok(())
+}
+
+/// The number and the type of the member of a name.
+fn found(
+    rt: &impl Abort,
+    alloc: Global,
+    types: &KnownTypes,
+    number: u32,
+    name: &str,
+) -> Result<Option<(u32, TypeId)>, Memory> {
+    let name = Text::new(alloc, name)?;
+    assert!(rt; (number as usize) < types.struct_count());
+    match types.member(number, &name) {
+        Some((at, member)) => Ok(Some((at, member.kind))),
+        None => Ok(None),
+    }
 }
 
 #[test]
@@ -606,14 +754,11 @@ fn members_are_found_by_their_names(rt: HostRuntime) -> Result<(), Fail> {
     let members = members_of(&rt, rt.alloc(), &mut types, "i, c, l")?;
     let number = struct_with(&rt, &mut types, None, members)?;
     let wanted = type_of(&rt, rt.alloc(), &mut types, "c")?;
-    let one = Text::new(rt.alloc(), "m1")?;
-    let none = Text::new(rt.alloc(), "m3")?;
-    assert!(rt; (number as usize) < types.struct_count());
-    assert!(rt; types.member(number, &none).is_none());
-    let Some((at, member)) = types.member(number, &one) else {
-        panic!(rt; "not found");
-    };
-    assert_eq!(rt; (at, member.kind), (1, wanted));
+    assert!(rt; found(&rt, rt.alloc(), &types, number, "m3")?.is_none());
+    assert_eq!(rt;
+        found(&rt, rt.alloc(), &types, number, "m1")?,
+        Some((1, wanted))
+    );
     Ok(())
 }
 

@@ -5,7 +5,7 @@ ghost use Rattle.dm_token.specs.Limits.{source_length_limit as limit};
 
 use dm_io::MemoryFolder;
 use dm_search::Loader;
-use dm_token::{List, Stop, Text, Unit, UnitTokens, source_length_limit};
+use dm_token::{List, Stop, Text, Token, Unit, UnitTokens, source_length_limit};
 use dm_unit::unit_tokens;
 use std::process::Abort;
 use std::test::Fail;
@@ -45,16 +45,26 @@ fn are_short(defines: &[Text]) -> bool
         .all(|define| define.bytes().len() <= source_length_limit())
 }
 
+/// The tokens of a unit.
+fn tokens_of<R: Abort + AllocGlobal>(
+    rt: &R,
+    folder: &mut MemoryFolder,
+    loader: &mut Loader,
+    unit: &Unit,
+) -> Result<UnitTokens, Stop> {
+    assert!(rt; loader.names().len() < 10_000);
+    assert!(rt; are_short(unit.define.items()));
+    unit_tokens(rt.alloc(), folder, loader, unit)
+}
+
 /// Reads the unit of a folder, with the define `N=3`.
 fn read<R: Abort + AllocGlobal>(
     rt: &R,
     folder: &mut MemoryFolder,
 ) -> Result<Result<UnitTokens, Stop>, Fail> {
     let mut loader = Loader::new(rt.alloc())?;
-    assert!(rt; loader.names().len() < 10_000);
     let unit = unit(rt, "N=3")?;
-    assert!(rt; are_short(unit.define.items()));
-    Ok(unit_tokens(rt.alloc(), folder, &mut loader, &unit))
+    Ok(tokens_of(rt, folder, &mut loader, &unit))
 }
 
 /// A stop as text: a refusal with its place, or a limit with its file. The files of the folder have the numbers from 6 on.
@@ -74,123 +84,221 @@ fn stop_text<R: Abort + AllocGlobal>(rt: &R, stop: Stop) -> Result<String, Fail>
     Ok(text)
 }
 
-/// The spellings of a unit's tokens, each with a space before it, or its stop.
-fn shown<R: Abort + AllocGlobal>(rt: &R, folder: &mut MemoryFolder) -> Result<Vec<u8>, Fail> {
+/// The spellings of tokens, each with a space before it.
+fn spelled<R: Abort + AllocGlobal>(rt: &R, tokens: &[Token]) -> Result<Vec<u8>, Fail> {
     let mut text = Vec::new(rt.alloc());
-    match read(rt, folder)? {
-        Ok(tokens) => {
-            for token in tokens.tokens.items() {
-                text.push(b' ')?;
-                text.extend_from_slice(token.pp.spelling.bytes())?;
-            }
-        }
-        Err(stop) => text.extend_from_slice(stop_text(rt, stop)?.as_bytes())?,
+    for token in tokens {
+        text.push(b' ')?;
+        text.extend_from_slice(token.pp.spelling.bytes())?;
     }
     Ok(text)
 }
 
-/// The folder of a project: its main file is `a.c`, and the headers are `h.h`, `o.h` with `#pragma once`, and `inc/i.h`.
+/// The spellings of a unit's tokens, or its stop.
+fn shown<R: Abort + AllocGlobal>(rt: &R, folder: &mut MemoryFolder) -> Result<Vec<u8>, Fail> {
+    match read(rt, folder)? {
+        Ok(tokens) => spelled(rt, tokens.tokens.items()),
+        Err(stop) => Ok(stop_text(rt, stop)?.into_bytes()),
+    }
+}
+
+/// Headers, each behind a line with its name.
+const HEADERS: &str = r#"h.h
+#define TWICE(x) ((x)+(x))
+h
+== o.h
+#pragma once
+o
+== inc/i.h
+#if 1
+i
+== s.h
+s \
+== c.h
+c /*
+"#;
+
+/// Adds a header, which stands behind its name.
+fn add_header<R: Abort + AllocGlobal>(
+    rt: &R,
+    folder: &mut MemoryFolder,
+    header: &str,
+) -> Result<(), Fail> {
+    let Some((name, text)) = header.split_once('\n') else {
+        panic!(rt; "no name of {header}");
+    };
+    add(rt, folder, name, text.as_bytes())
+}
+
+/// The folder of a project, with the main file `a.c` and the headers.
 fn project<R: Abort + AllocGlobal>(rt: &R, main: &str) -> Result<MemoryFolder, Fail> {
     let mut folder = MemoryFolder::new(rt.alloc(), List::new(rt.alloc()));
     add(rt, &mut folder, "a.c", main.as_bytes())?;
-    add(rt, &mut folder, "h.h", b"#define TWICE(x) ((x)+(x))\nh\n")?;
-    add(rt, &mut folder, "o.h", b"#pragma once\no\n")?;
-    add(rt, &mut folder, "inc/i.h", b"#if 1\ni\n")?;
-    add(rt, &mut folder, "s.h", b"s \\\n")?;
-    add(rt, &mut folder, "c.h", b"c /*\n")?;
+    for header in HEADERS.split("== ") {
+        add_header(rt, &mut folder, header)?;
+    }
     Ok(folder)
 }
 
-/// Checks each row: a main file, and what its unit gives.
-fn expect_shown<R: Abort + AllocGlobal>(rt: &R, rows: &[&str]) -> Result<(), Fail> {
-    for row in rows.chunks(2) {
-        if let [main, wanted] = row {
-            let mut folder = project(rt, main)?;
-            let text = shown(rt, &mut folder)?;
-            assert!(rt; text.as_slice() == wanted.as_bytes(), "{main}");
-        }
+/// Checks a row: a main file, and behind an arrow what its unit gives.
+fn expect_row<R: Abort + AllocGlobal>(rt: &R, row: &str) -> Result<(), Fail> {
+    let Some((main, wanted)) = row.split_once("=>") else {
+        panic!(rt; "no arrow in {row}");
+    };
+    let mut folder = project(rt, main)?;
+    let text = shown(rt, &mut folder)?;
+    assert!(rt; text.as_slice() == wanted.as_bytes(), "{main}");
+    Ok(())
+}
+
+/// Checks rows, between which stand empty lines.
+fn expect_shown<R: Abort + AllocGlobal>(rt: &R, rows: &str) -> Result<(), Fail> {
+    for row in rows.split("\n\n") {
+        expect_row(rt, row)?;
     }
     Ok(())
 }
 
+/// Main files, and behind the arrow the tokens of the unit or its stop.
+const DONE: &str = r#"=>
+
+#include "h.h"
+int f(int k) { return TWICE(k); }
+=> h int f ( int k ) { return ( ( k ) + ( k ) ) ; }
+
+#if 0
+don't
+#foo
+#if
+#endif
+#else
+int a;
+#endif
+=> int a ;
+
+#if 1
+a
+#elif 1/0
+b
+#else
+c
+#endif
+=> a
+
+#if N > 2 && defined(N) && !defined M
+N
+#endif
+=> 3
+
+#undef N
+#ifdef N
+a
+#elif defined __LINE__
+N __LINE__ __FILE__
+#endif
+#
+=> N 5 "a.c"
+
+#include <o.h>
+=>refusal 7 6:1:1
+
+#include "o.h"
+#include "o.h"
+#include <stdbool.h>
+#include <stdbool.h>
+true
+=> o 1"#;
+
 #[test]
 fn directives_are_done(rt: HostRuntime) -> Result<(), Fail> {
-    expect_shown(
-        &rt,
-        &[
-            "",
-            "",
-            "#include \"h.h\"\nint f(int k) { return TWICE(k); }\n",
-            " h int f ( int k ) { return ( ( k ) + ( k ) ) ; }",
-            "#if 0\ndon't\n#foo\n#if\n#endif\n#else\nint a;\n#endif\n",
-            " int a ;",
-            "#if 1\na\n#elif 1/0\nb\n#else\nc\n#endif\n",
-            " a",
-            "#if N > 2 && defined(N) && !defined M\nN\n#endif\n",
-            " 3",
-            "#undef N\n#ifdef N\na\n#elif defined __LINE__\nN __LINE__ __FILE__\n#endif\n#\n",
-            " N 5 \"a.c\"",
-            "#include <o.h>\n",
-            "refusal 7 6:1:1",
-            "#include \"o.h\"\n#include \"o.h\"\n#include <stdbool.h>\n#include <stdbool.h>\ntrue\n",
-            " o 1",
-        ],
-    )
+    expect_shown(&rt, DONE)
 }
+
+/// Main files whose units stop, and where.
+const STOPPING: &str = r#"#endif
+=>refusal 6 6:1:1
+
+#if 1
+#else
+#else
+#endif
+=>refusal 6 6:3:1
+
+#if 0
+#else
+#elif 1/0
+#endif
+=>refusal 6 6:3:1
+
+x
+#include <i.h>
+=>refusal 6 7:1:1
+
+#include "a.c"
+=>limit 4 6
+
+#define F(x) x
+int a = F(1=>refusal 9 6:2:9
+
+#define F(x) x
+F(
+#define A
+)
+=>refusal 9 6:2:1
+
+int a; /* x=>refusal 2 6:1:8
+
+#if 0
+#include "c.h"
+#endif
+#include "c.h"
+=>refusal 2 7:1:3
+
+#include "s.h"
+=>refusal 8 7:1:3
+
+#include
+=>refusal 4 6:1:1
+
+#include N
+=>refusal 18 6:1:1
+
+#include "a" "b"
+=>refusal 7 6:1:1
+
+ # line 3
+=>refusal 18 6:1:2
+
+#pragma once x
+=>refusal 18 6:1:1
+
+#error N
+=>refusal 14 6:1:1
+
+#foo
+=>refusal 4 6:1:1
+
+# 3
+=>refusal 4 6:1:1
+
+#undef defined
+=>refusal 4 6:1:1
+
+#if
+=>refusal 13 6:1:1
+
+#if defined
+=>refusal 13 6:1:1
+
+#define N 4
+=>refusal 12 6:1:9
+
+#define __LINE__ 4
+=>refusal 5 6:1:1"#;
 
 #[test]
 fn stops_come_in_the_order_of_reading(rt: HostRuntime) -> Result<(), Fail> {
-    expect_shown(
-        &rt,
-        &[
-            "#endif\n",
-            "refusal 6 6:1:1",
-            "#if 1\n#else\n#else\n#endif\n",
-            "refusal 6 6:3:1",
-            "#if 0\n#else\n#elif 1/0\n#endif\n",
-            "refusal 6 6:3:1",
-            "x\n#include <i.h>\n",
-            "refusal 6 7:1:1",
-            "#include \"a.c\"\n",
-            "limit 4 6",
-            "#define F(x) x\nint a = F(1",
-            "refusal 9 6:2:9",
-            "#define F(x) x\nF(\n#define A\n)\n",
-            "refusal 9 6:2:1",
-            "int a; /* x",
-            "refusal 2 6:1:8",
-            "#if 0\n#include \"c.h\"\n#endif\n#include \"c.h\"\n",
-            "refusal 2 7:1:3",
-            "#include \"s.h\"\n",
-            "refusal 8 7:1:3",
-            "#include\n",
-            "refusal 4 6:1:1",
-            "#include N\n",
-            "refusal 18 6:1:1",
-            "#include \"a\" \"b\"\n",
-            "refusal 7 6:1:1",
-            " # line 3\n",
-            "refusal 18 6:1:2",
-            "#pragma once x\n",
-            "refusal 18 6:1:1",
-            "#error N\n",
-            "refusal 14 6:1:1",
-            "#foo\n",
-            "refusal 4 6:1:1",
-            "# 3\n",
-            "refusal 4 6:1:1",
-            "#undef defined\n",
-            "refusal 4 6:1:1",
-            "#if\n",
-            "refusal 13 6:1:1",
-            "#if defined\n",
-            "refusal 13 6:1:1",
-            "#define N 4\n",
-            "refusal 12 6:1:9",
-            "#define __LINE__ 4\n",
-            "refusal 5 6:1:1",
-        ],
-    )
+    expect_shown(&rt, STOPPING)
 }
 
 #[test]
@@ -224,19 +332,24 @@ fn shown_repeated<R: Abort + AllocGlobal>(
     shown(rt, &mut folder)
 }
 
-#[test]
-fn inclusions_are_counted(rt: HostRuntime) -> Result<(), Fail> {
-    assert!(rt;
-        shown_repeated(&rt, "#include \"h.h\"\n", 16_385, "")?.as_slice() == b"limit 9 6".as_slice()
-    );
+/// Checks what the unit of one repeated line gives.
+fn expect_repeated<R: Abort + AllocGlobal>(
+    rt: &R,
+    line: &str,
+    count: usize,
+    wanted: &[u8],
+) -> Result<(), Fail> {
+    let text = shown_repeated(rt, line, count, "")?;
+    assert!(rt; text.as_slice() == wanted, "{line}");
     Ok(())
 }
 
 #[test]
+fn inclusions_are_counted(rt: HostRuntime) -> Result<(), Fail> {
+    expect_repeated(&rt, "#include \"h.h\"\n", 16_385, b"limit 9 6")
+}
+
+#[test]
 fn sections_nest(rt: HostRuntime) -> Result<(), Fail> {
-    assert!(rt;
-        shown_repeated(&rt, "#if 1\n", 170_000, "")?.as_slice()
-            == b"refusal 6 6:170000:1".as_slice()
-    );
-    Ok(())
+    expect_repeated(&rt, "#if 1\n", 170_000, b"refusal 6 6:170000:1")
 }
