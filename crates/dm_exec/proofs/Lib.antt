@@ -1,6 +1,6 @@
 pub mod SeenLemmas
 pub mod RunLemmas
-pub mod StageLemmas
+pub mod LeavingLemmas
 pub mod DueLemmas
 pub mod BeginLemmas
 pub mod EvaluatedLemmas

@@ -81,8 +81,8 @@ impl Extension {
 }
 
 /// What hide sets became with one macro more, so that tokens of the same way share them. Each has its place by the macro and
-/// by how many others are hidden, and gives it up to the next one there. There are twice as many places as soon as one is
-/// taken, up to the most.
+/// by how many others are hidden, and gives it up to the next one there. Where a place is taken and there aren't the most yet,
+/// all are given up for twice as many.
 #[derive(Drop)]
 pub struct Extensions {
     places: Vec<Option<Extension>>,
@@ -147,7 +147,7 @@ impl Extensions {
     }
 }
 
-// The place among so many, a power of 2, of what a set becomes with one macro more. A chain of macros has different ones.
+// The place among so many, a power of 2, of what a set becomes with one macro more. Those of a chain are mostly apart.
 fn place_of(places: usize, hidden: &Hidden, number: u32) -> usize {
     if places == 0 {
         return 0;

@@ -4,7 +4,7 @@ use Rattle.dm_program.specs.Sources.{meant}
 use Rattle.dm_state.specs.Views.{view_of_running}
 use Rattle.dm_exec.specs.Runs.{next_state}
 use Rattle.dm_exec.specs.Shown.{Seen}
-use Rattle.dm_exec.proofs.StageLemmas.{left-fits, left-seen, left-turn}
+use Rattle.dm_exec.proofs.LeavingLemmas.{left-fits, left-seen, left-turn}
 use Rattle.dm_exec.proofs.steps.next_step.Goals as goal
 
 pub returns : goal.returns

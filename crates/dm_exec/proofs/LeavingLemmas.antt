@@ -1,4 +1,4 @@
--- How far a run has come by a step.
+-- What a step leaves of a run.
 use Rattle.std.proofs.Common.{◌≡◌, ap, sym, ◌∙◌}
 use Rattle.dm_type.specs.Tables.{Table}
 use Rattle.dm_meaning.specs.States.{State}
