@@ -6,6 +6,7 @@ pub mod HeadLemmas
 pub mod HiddenLemmas
 pub mod LawLemmas
 pub mod ListLemmas
+pub mod NeedsLemmas
 pub mod PasteLemmas
 pub mod ProgressLemmas
 pub mod SearchLemmas

@@ -15,4 +15,5 @@ pub mod Views
 pub mod HeadViews
 pub mod ListViews
 pub mod Works
+pub mod Needs
 pub mod AnswerViews

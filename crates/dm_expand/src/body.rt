@@ -1,4 +1,4 @@
-ghost use Rattle.std.specs.Prelude.{◌≡◌, ◌≤◌, ◌<◌, ◌+◌, ◌^◌, take, drop, slice_index_or, [], ◌∷◌, ◌++◌, length, bytes_eq};
+ghost use Rattle.std.specs.Prelude.{◌≡◌, nat_lt, ◌≤◌, ◌<◌, ◌+◌, ◌^◌, take, drop, slice_index_or, [], ◌∷◌, ◌++◌, length, bytes_eq};
 ghost use Rattle.std.specs.List.{position_from};
 ghost use Rattle.dm_macro.specs.Signs as sign;
 ghost use Rattle.dm_token.specs.declared.token.PpToken.{PpToken};
@@ -195,6 +195,15 @@ pub fn token_at(definition: &Definition, index: usize) -> &PpToken
 {
     let body = definition.body.items();
     &body[index]
+}
+
+/// Whether a token of a replacement list from an index on names a parameter.
+pub fn is_named_from(definition: &Definition, parameter: usize, from: usize) -> bool
+    requires { from ≤ length definition.now.body }
+    ensures { result ≡ nat_lt 0 (bodies.places_of (bodies.parameters_of definition.now) parameter (drop from definition.now.body)) }
+{
+    let body = definition.body.items();
+    places_of(definition, parameter, tokens_from(body, from)) > 0
 }
 
 // The tokens before an index.

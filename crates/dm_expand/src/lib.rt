@@ -17,6 +17,7 @@ mod hidden;
 mod item;
 mod laws;
 mod machine;
+mod needs;
 mod paste;
 mod predefined;
 mod progress;

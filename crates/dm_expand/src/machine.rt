@@ -14,10 +14,10 @@ ghost use Rattle.dm_expand.specs.Works.{outward, load, completed, completed_from
 
 use crate::arguments::next_of;
 use crate::extension::Extensions;
-use crate::fill::argument_for;
 use crate::head::{Head, Invocation, Macros, head_of, names_nothing};
 use crate::hidden::Hidden;
-use crate::item::{Item, copied};
+use crate::item::Item;
+use crate::needs::take_argument;
 use crate::paste::{Pieces, Site};
 use crate::progress::Progress;
 use crate::substitute::{Whole, complete, fill_from, fill_whole, has_paste};
@@ -26,6 +26,9 @@ use dm_token::{Definition, List, Mark, Memory, Place, Refusal, Stop};
 use std::alloc::Global;
 use std::collections::VecDeque;
 use std::mem;
+
+/// How many tokens a list may have more than a quarter of its room when the room is given back.
+const SPARE: usize = 8;
 
 /// A list that is expanded: what is still to be scanned, and what was put out before it.
 #[derive(Drop)]
@@ -98,6 +101,16 @@ fn no_arguments(place: Place) -> Stop
     })
 }
 
+// Gives back the room of a list once most of it is free, so that lists that wait take little more than their tokens. A list
+// that has grown is halved before its room is given back again, so its tokens aren't moved time and again.
+fn give_back(rest: &mut VecDeque<Item>)
+    ensures { rest.new.items ≡ rest.old.items }
+{
+    if rest.capacity() / 4 > rest.len().saturating_add(SPARE) {
+        rest.shrink_to_fit();
+    }
+}
+
 // Makes an argument's list the one that is expanded, and the one before it waits.
 fn enter<'a>(
     alloc: Global,
@@ -106,18 +119,22 @@ fn enter<'a>(
     level: &mut Level,
     waiting: &mut Vec<Waiting<'a>>,
 ) -> Result<(), Memory>
+    requires { whole.behind ≤ length filling.definition.now.body }
     ensures ok { OnOk result ((macros : LookedUp) (progress : Progressed) →
         outward macros waiting.old.items (completed macros level.old filling.entry.site filling.entry.hidden filling.entry.definition.now (pieces_before (pieces_in filling.entry.pieces)
         (filled_all (expanded macros) filling.entry.site (not (list_any is_hash_hash filling.entry.definition.now.body)) (whole_and_others filling.entry.definition.now whole.entry) progress)))
         ≡ outward macros waiting.new.items (scanned_on macros level.new progress)) }
     ensures load { OnOk result (load waiting.new.items ≡ load waiting.old.items + suc (length filling.entry.definition.now.body - whole.entry.behind)) }
 {
-    let argument = copied(alloc, argument_for(&filling.site, whole.parameter))?;
+    let mut filling = filling;
+    let definition = filling.definition;
+    let argument = take_argument(alloc, &mut filling.site, definition, whole)?;
     let inner = Level {
-        out: Vec::with_capacity(alloc, argument.len())?,
         rest: VecDeque::from(argument),
+        out: Vec::new(alloc),
     };
-    let outer = mem::replace(level, inner);
+    let mut outer = mem::replace(level, inner);
+    give_back(&mut outer.rest);
     waiting.push(Waiting {
         level: outer,
         filling,
