@@ -16,7 +16,7 @@ use Rattle.dm_token.specs.declared.token.PpToken.{PpToken}
 use Rattle.dm_token.specs.declared.token.PpKind.TheVariants.{Literal}
 use Rattle.dm_token.specs.declared.stop.Stop.{Stop}
 use Rattle.dm_expand.specs.Steps.{Progress, Output, ◌>>=◌, take_argument}
-use Rattle.dm_expand.specs.Bodies.{plain, hash, beside, whole, paste}
+use Rattle.dm_macro.specs.Bodies.{plain, hash, beside, whole, paste}
 use Rattle.dm_expand.specs.Strings.{quoted}
 use Rattle.dm_expand.specs.Substitution.{Expander, Filled, operands, filled, body_item, argument_for, argument_item, placed}
 use Rattle.dm_expand.specs.ListViews.{fills}

@@ -1,6 +1,5 @@
 pub mod AnswerLemmas
 pub mod ArgumentLemmas
-pub mod BodyLemmas
 pub mod FillLemmas
 pub mod HeadLemmas
 pub mod HiddenLemmas

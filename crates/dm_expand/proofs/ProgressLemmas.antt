@@ -10,7 +10,7 @@ use Rattle.dm_lex.specs.Classes.{class_of}
 use Rattle.dm_macro.specs.HideSets.{HiddenNumbers}
 use Rattle.dm_expand.specs.Items.{Item}
 use Rattle.dm_expand.specs.Steps.{Progress, Output, ◌>>=◌, greatest_work, too_much, spend, begin, take_argument, taken_by}
-use Rattle.dm_expand.specs.Bodies.{Part, plain, hash, beside, whole, paste, parts_of}
+use Rattle.dm_macro.specs.Bodies.{Part, plain, hash, beside, whole, paste, parts_of}
 use Rattle.dm_expand.specs.Pastes.{Site, Piece, token, placemarker, operator, joined, joined_with, joined_as, joined_tokens, no_token, piece_before, pasted_behind, pasted, tokens_of}
 use Rattle.dm_expand.specs.Substitution.{Expander, filled, filled_all, is_operator, substituted, argument_for}
 use Rattle.dm_expand.specs.Expansion.{Macros, Invocation, put, replace, refuse, head_of, token_before, replaced, by_case, no_arguments, scanned, expanded_within, expanded}

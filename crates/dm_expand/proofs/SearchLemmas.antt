@@ -6,13 +6,10 @@ use Rattle.std.proofs.lemmas.Bool.{cond-true, cond-false}
 use Rattle.dm_token.specs.declared.place.Place.{Place}
 use Rattle.dm_token.specs.declared.expansion.Expansion.{Expansion}
 use Rattle.dm_token.specs.declared.expansion.Mark.{Mark}
+use Rattle.dm_macro.proofs.BodyLemmas.{next_is}
 use Rattle.dm_expand.specs.Items.{Item}
 use Rattle.dm_expand.specs.Trails.{carry, come_otherwise, marks_instance, begins_with}
 use Rattle.dm_expand.specs.Predefined.{name_of}
-
--- what is left of a list, and its first item
-pub next_is : {A B : Type 0} (whole : List A → B) (items : List A) (i : ℕ) (item : A) (all : B) → i < length items → item ≡ get_or items i item → whole (drop i items) ≡ all → whole (item ∷ drop (i + 1) items) ≡ all
-next_is whole items i item all lt is before = ap (λ x. whole (x ∷ drop (i + 1) items)) is ∙ sym (at_drop_more whole items i item lt) ∙ before
 
 pub found_at : {A : Type 0} (whole : List A → Bool) (test : A → Bool) (items : List A) (i : ℕ) (item : A) → ((others : List A) → whole (item ∷ others) ≡ (test item || whole others))
     → i < length items → item ≡ get_or items i item → whole (drop i items) ≡ whole items → true ≡ test item → true ≡ whole items

@@ -11,7 +11,7 @@ use Rattle.dm_macro.specs.HideSets.{HiddenNumbers}
 use Rattle.dm_macro.specs.Signs.{is_hash, is_hash_hash}
 use Rattle.dm_expand.specs.Items.{Item}
 use Rattle.dm_expand.specs.Steps.{Progress, Output, ◌>>=◌}
-use Rattle.dm_expand.specs.Bodies.{Part, plain, hash, beside, whole, paste, part_of, other_part, parameter_part, token_part, parts_behind, parts_of, parameters_of, places_of, parameter_of, is_last, is_first, first_parameter}
+use Rattle.dm_macro.specs.Bodies.{Part, plain, hash, beside, whole, paste, part_of, other_part, parameter_part, token_part, parts_behind, parts_of, parameters_of, places_of, parameter_of, is_last, is_first, first_parameter}
 use Rattle.dm_expand.specs.Pastes.{Site, Piece, joined, pasted, tokens_of}
 use Rattle.dm_expand.specs.Substitution.{Expander, Filled, filled, filled_all, is_operator, finished}
 use Rattle.dm_expand.specs.Expansion.{Macros, expanded, token_before}

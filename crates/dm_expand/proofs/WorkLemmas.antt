@@ -12,7 +12,7 @@ use Rattle.dm_expand.specs.declared.machine.Level as code_level
 use Rattle.dm_expand.specs.declared.machine.Waiting as code_waiting
 use Rattle.dm_expand.specs.Items.{Item}
 use Rattle.dm_expand.specs.Steps.{Progress, Output, ◌>>=◌, begin}
-use Rattle.dm_expand.specs.Bodies.{Part, whole, parts_of}
+use Rattle.dm_macro.specs.Bodies.{Part, whole, parts_of}
 use Rattle.dm_expand.specs.Pastes.{Site, Piece, token}
 use Rattle.dm_expand.specs.Substitution.{Filled, filled, filled_all, placed, argument_for, substituted}
 use Rattle.dm_expand.specs.Expansion.{Macros, expanded, replaced, site_of}

@@ -2,6 +2,7 @@
 use Rattle.std.specs.Prelude.{ℕ, zero, suc, Bool, ◌-◌, ◌&&◌, ◌==◌, nat_lt, List, [], ◌∷◌, ◌++◌, length, Option, Some, None, if◌then◌else◌}
 use Rattle.dm_token.specs.declared.expansion.Definition.{Definition}
 use Rattle.dm_macro.specs.Signs.{is_punctuator, left_parenthesis, right_parenthesis, comma}
+use Rattle.dm_macro.specs.Bodies.{named_parameters}
 use Rattle.dm_expand.specs.Items.{Item}
 
 -- parentheses and commas
@@ -48,11 +49,6 @@ separated commas depth [] = [] ∷ []
 separated commas depth (item ∷ others) =
     if separates item && (depth == 0) && nat_lt 0 commas then [] ∷ separated (commas - 1) depth others
     else in_first item (separated commas (depth_behind depth item) others)
-
--- the parameters that have names of their own
-unfoldable pub named_parameters : Option (List (List ℕ)) → List (List ℕ)
-named_parameters None = []
-named_parameters (Some names) = names
 
 -- the arguments of a macro with so many parameters: as many as parameters, where `()` has none for a macro without
 unfoldable pub exact_arguments : ℕ → List (List Item) → Option (List (List Item))

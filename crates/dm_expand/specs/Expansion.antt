@@ -17,7 +17,7 @@ use Rattle.dm_expand.specs.Items.{Item, of_source}
 use Rattle.dm_expand.specs.Trails.{come_otherwise}
 use Rattle.dm_expand.specs.Steps.{Progress, Output, ◌>>=◌, greatest_work, at_start, begin}
 use Rattle.dm_expand.specs.Arguments.{Enclosed, enclosed_in, arguments_of, opens}
-use Rattle.dm_expand.specs.Bodies.{parts_of}
+use Rattle.dm_macro.specs.Bodies.{parts_of}
 use Rattle.dm_expand.specs.Predefined.{predefined, root_of}
 use Rattle.dm_expand.specs.Pastes.{Site}
 use Rattle.dm_expand.specs.Substitution.{Expander, substituted}

@@ -4,7 +4,6 @@ pub mod Trails
 pub mod Ways
 pub mod Steps
 pub mod Arguments
-pub mod Bodies
 pub mod Strings
 pub mod Pastes
 pub mod Predefined

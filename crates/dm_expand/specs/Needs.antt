@@ -1,7 +1,7 @@
 -- Which arguments of an invocation the parts of its macro's replacement list need.
 use Rattle.std.specs.Prelude.{◌≡◌, List, [], ◌∷◌}
 use Rattle.dm_expand.specs.Items.{Item}
-use Rattle.dm_expand.specs.Bodies.{Part, plain, hash, beside, whole, paste}
+use Rattle.dm_macro.specs.Bodies.{Part, plain, hash, beside, whole, paste}
 use Rattle.dm_expand.specs.Pastes.{Site}
 use Rattle.dm_expand.specs.Substitution.{argument_for}
 

@@ -10,7 +10,7 @@ use Rattle.dm_macro.specs.HideSets.{HiddenNumbers}
 use Rattle.dm_expand.specs.Items.{Item, first_with_blank}
 use Rattle.dm_expand.specs.Trails.{body_trail, argument_trail}
 use Rattle.dm_expand.specs.Steps.{Progress, Output, ◌>>=◌, spend, take_argument}
-use Rattle.dm_expand.specs.Bodies.{Part, plain, hash, beside, whole, paste}
+use Rattle.dm_macro.specs.Bodies.{Part, plain, hash, beside, whole, paste}
 use Rattle.dm_expand.specs.Strings.{quoted}
 use Rattle.dm_expand.specs.Pastes.{Site, Piece, token, placemarker, operator, made, pasted, tokens_of}
 

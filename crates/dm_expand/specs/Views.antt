@@ -17,7 +17,7 @@ use Rattle.dm_expand.specs.Trails.{marks_instance}
 use Rattle.dm_expand.specs.Laws.{AreNumbered}
 use Rattle.dm_expand.specs.Steps.{Progress, greatest_work, ◌>>=◌}
 use Rattle.dm_expand.specs.Arguments.{Enclosed}
-use Rattle.dm_expand.specs.Bodies.{Part, plain, hash, beside, whole, paste}
+use Rattle.dm_macro.specs.Bodies.{Part, plain, hash, beside, whole, paste}
 use Rattle.dm_expand.specs.Pastes.{Site, Piece, token, placemarker, operator, pasted, pasted_behind, tokens_of}
 
 -- a stop is that of what was to be done; only want of memory is free

@@ -16,7 +16,7 @@ use Rattle.dm_expand.specs.declared.machine.Filling as code_filling
 use Rattle.dm_expand.specs.declared.machine.Waiting as code_waiting
 use Rattle.dm_expand.specs.Items.{Item}
 use Rattle.dm_expand.specs.Steps.{Progress, Output, ◌>>=◌}
-use Rattle.dm_expand.specs.Bodies.{Part, whole, parameters_of, parts_behind, parts_of}
+use Rattle.dm_macro.specs.Bodies.{Part, whole, parameters_of, parts_behind, parts_of}
 use Rattle.dm_expand.specs.Pastes.{Site, Piece, token, pasted, tokens_of}
 use Rattle.dm_expand.specs.Substitution.{Expander, Filled, filled, filled_all, is_operator, placed, finished}
 use Rattle.dm_expand.specs.Expansion.{Macros, expanded, replaced}

@@ -1,4 +1,5 @@
 ghost use Rattle.std.specs.Prelude.{◌≡◌, ◌==◌, ◌&&◌, nat_lt, ◌≤◌, ◌<◌, ◌+◌, ◌^◌, [], ◌∷◌, length, IfOk, MatchOption, option_map};
+ghost use Rattle.dm_macro.specs.Bodies.{named_parameters};
 ghost use Rattle.dm_macro.specs.Signs as sign;
 ghost use Rattle.dm_expand.specs.Arguments as arguments;
 ghost use Rattle.dm_expand.specs.Views.{enclosed_value, is_one_empty};
@@ -116,9 +117,9 @@ fn separated(alloc: Global, commas: usize, inside: List<Item>) -> Result<List<Li
 }
 
 /// How many parameters have names of their own.
-#[tactic(auto, unfolding(crate::specs::Arguments::named_parameters))]
+#[tactic(auto, unfolding(dm_macro::specs::Bodies::named_parameters))]
 pub fn named_count(definition: &Definition) -> usize
-    ensures { result ≡ length (arguments.named_parameters definition.now.parameters) }
+    ensures { result ≡ length (named_parameters definition.now.parameters) }
 {
     match &definition.parameters {
         None => 0,

@@ -1,7 +1,7 @@
 ghost use Rattle.std.specs.Prelude.{◌≡◌, ◌<◌, ◌+◌, IfOk, IfErr, OnOk, Ok, map, length};
 ghost use Rattle.std.specs.List.{list_any};
 ghost use Rattle.dm_macro.specs.Signs as sign;
-ghost use Rattle.dm_expand.specs.Bodies as bodies;
+ghost use Rattle.dm_macro.specs.Bodies as bodies;
 ghost use Rattle.dm_expand.specs.Laws.{Follows};
 ghost use Rattle.dm_expand.specs.Substitution as substitution;
 ghost use Rattle.dm_expand.specs.Substitution.{Expander};

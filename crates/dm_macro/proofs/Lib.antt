@@ -1,9 +1,11 @@
+pub mod BodyLemmas
 pub mod FormLemmas
 pub mod HashLemmas
 pub mod Listings
 pub mod MapLemmas
 pub mod NameSetLemmas
 pub mod NumberSets
+pub mod RoleLemmas
 pub mod SameLemmas
 pub mod SplitLemmas
 pub mod TableLemmas

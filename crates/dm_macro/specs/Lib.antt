@@ -3,6 +3,8 @@ pub mod Forms
 pub mod NameSets
 pub mod Numbers
 pub mod ParameterLists
+pub mod Bodies
+pub mod Roles
 pub mod Tables
 pub mod Parts
 pub mod HideSets

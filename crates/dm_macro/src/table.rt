@@ -2,10 +2,13 @@
 
 ghost use Rattle.std.specs.Prelude.{◌≡◌, ◌+◌, ◌<◌, [], length, slice_get, is_some, Some, IfOk, IfErr, IfSome, OnOk, OnErr, MatchBool};
 ghost use Rattle.std.specs.FinMap as finite;
+ghost use Rattle.dm_macro.specs.Roles.{AreRoles};
 
+use crate::body::Body;
 use crate::form::{read_definition, refused};
 use crate::hash::bare_hash;
 use crate::name_map::NameMap;
+use crate::role::{Roles, roles_of};
 use crate::same::are_same;
 use dm_token::{Definition, Memory, Origin, PpToken, Stop, Text};
 use std::alloc::Global;
@@ -16,6 +19,8 @@ use std::marker::Model;
 #[derive(Drop)]
 pub struct MacroTable {
     read: Vec<Definition>,
+    /// What is kept of their replacement lists.
+    roles: Vec<Roles>,
     names: NameMap,
 }
 
@@ -28,7 +33,9 @@ impl Model for MacroTable {
 
     ghost view = { λ table. table_of table.read.items table.names };
 
-    ghost invariant = { λ table. IsSound (table_of table.read.items table.names) };
+    ghost use Rattle.dm_macro.specs.Roles.{AreAllRoles};
+
+    ghost invariant = { λ table. IsSound (table_of table.read.items table.names) × AreAllRoles table.read.items table.roles.items };
 }
 
 impl MacroTable {
@@ -40,6 +47,7 @@ impl MacroTable {
     {
         Ok(MacroTable {
             read: Vec::new(alloc),
+            roles: Vec::new(alloc),
             names: NameMap::new(alloc),
         })
     }
@@ -67,7 +75,8 @@ impl MacroTable {
         if self.gives_another_meaning(&definition) {
             return Err(refused(12, definition.place));
         }
-        let number = self.record(definition)?;
+        let roles = roles_of(alloc, &definition)?;
+        let number = self.record(definition, roles)?;
         Ok(number)
     }
 
@@ -81,19 +90,22 @@ impl MacroTable {
         }
     }
 
-    /// Adds the definition, and gives its position.
-    fn record(&mut self, definition: Definition) -> Result<u32, Memory>
-        requires { length self.old.read < 4294967295 }
+    /// Adds the definition with what is kept of its replacement list, and gives its position.
+    fn record(&mut self, definition: Definition, roles: Roles) -> Result<u32, Memory>
+        requires room { length self.old.read < 4294967295 }
+        requires roles { AreRoles definition roles }
         ensures number { IfOk result (λ number. number ≡ length self.old.read) }
         ensures recorded { OnOk result (self.new ≡ tables.recorded self.old definition) }
         ensures unchanged { OnErr result (self.new ≡ self.old) }
     {
         let number = self.read.len() as u32;
         self.read.reserve(1)?;
+        self.roles.reserve(1)?;
         if self.names.get(&definition.name).is_none() {
             self.names.insert(definition.name.copy()?, number)?;
         }
         self.read.push_reserved(definition);
+        self.roles.push_reserved(roles);
         Ok(number)
     }
 
@@ -119,6 +131,15 @@ impl MacroTable {
         ensures { slice_get self.now.read number ≡ Some result.now }
     {
         &self.read[number as usize]
+    }
+
+    /// The definition at a position, with what the tokens of its replacement list are.
+    pub fn body(&self, number: u32) -> Body<'_>
+        requires { number < length self.now.read }
+        ensures { slice_get self.now.read number ≡ Some result.definition.now }
+    {
+        let index = number as usize;
+        Body::new(&self.read[index], &self.roles[index])
     }
 
     /// The definitions read so far.

@@ -1,5 +1,5 @@
 use Rattle.std.proofs.Common.{refl, Ok}
-use Rattle.dm_expand.specs.Bodies.{parts_of}
+use Rattle.dm_macro.specs.Bodies.{parts_of}
 use Rattle.dm_expand.specs.Substitution.{Filled}
 use Rattle.dm_expand.specs.Views.{pieces_in}
 use Rattle.dm_expand.specs.ListViews.{fills}

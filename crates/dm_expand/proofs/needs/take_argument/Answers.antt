@@ -1,6 +1,6 @@
 use Rattle.std.proofs.Common.{◌≡◌, ℕ, [], refl, sym, ◌∙◌, arith, take, drop, set}
 use Rattle.std.proofs.lemmas.Bool.{ltb-false}
-use Rattle.dm_expand.specs.Bodies.{parameters_of, places_of}
+use Rattle.dm_macro.specs.Bodies.{parameters_of, places_of}
 use Rattle.dm_expand.specs.Works.{parts_from}
 use Rattle.dm_expand.proofs.NeedsLemmas.{all-served, unnamed-served}
 use Rattle.dm_expand.proofs.needs.take_argument.Goals as goal

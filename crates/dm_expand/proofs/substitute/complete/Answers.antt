@@ -2,7 +2,7 @@ use Rattle.std.proofs.Common.{◌≡◌, ℕ, Bool, Ok, List, ap, ◌∙◌, sym
 use Rattle.std.specs.List.{list_any}
 use Rattle.dm_token.specs.declared.place.Place.{Place}
 use Rattle.dm_expand.specs.Items.{Item}
-use Rattle.dm_expand.specs.Bodies as bodies
+use Rattle.dm_macro.specs.Bodies as bodies
 use Rattle.dm_expand.specs.Steps.{Progress}
 use Rattle.dm_expand.specs.Substitution as substitution
 use Rattle.dm_expand.specs.Views.{pieces_in, tokens_left}

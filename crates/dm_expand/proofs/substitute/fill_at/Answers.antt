@@ -2,7 +2,7 @@ use Rattle.std.proofs.Common.{[], ℕ, ◌+◌, ◌++◌, ◌∷◌, List, ap, �
 use Rattle.dm_token.specs.declared.place.Place.{Place}
 use Rattle.dm_token.specs.declared.token.PpToken.{PpToken}
 use Rattle.dm_expand.specs.Items.{Item}
-use Rattle.dm_expand.specs.Bodies as bodies
+use Rattle.dm_macro.specs.Bodies as bodies
 use Rattle.dm_expand.specs.Steps.{Progress}
 use Rattle.dm_expand.specs.Pastes as pastes
 use Rattle.dm_expand.specs.Substitution as substitution

@@ -1,7 +1,7 @@
 use Rattle.std.proofs.Common.{◌≤◌, ℕ, List, ap, ◌∙◌, take, length, arith}
 use Rattle.std.proofs.lemmas.List.{drop_all}
 use Rattle.dm_token.specs.declared.token.PpToken.{PpToken}
-use Rattle.dm_expand.specs.Bodies as bodies
+use Rattle.dm_macro.specs.Bodies as bodies
 use Rattle.dm_expand.specs.Substitution as substitution
 use Rattle.dm_expand.specs.Views.{pieces_in}
 use Rattle.dm_expand.specs.ListViews.{pieces_before}

@@ -1,13 +1,17 @@
 -- The parameters of a macro, and what stands at the ends of a list.
-use Rattle.std.proofs.Common.{◌≡◌, ℕ, suc, ◌+◌, ◌-◌, ◌<◌, Bool, true, false, cond, ◌&&◌, List, [], ◌∷◌, ◌++◌, length, get_or, refl, sym, ap, ◌∙◌, Some, None, arith, add-zero}
+use Rattle.std.proofs.Common.{◌≡◌, ℕ, suc, ◌+◌, ◌-◌, ◌<◌, Bool, true, false, cond, ◌&&◌, List, [], ◌∷◌, ◌++◌, length, drop, get_or, refl, sym, ap, ◌∙◌, Some, None, arith, add-zero}
 use Rattle.std.specs.Prelude.{bytes_eq}
 use Rattle.std.specs.List.{position_from}
 use Rattle.std.proofs.lemmas.Bool.{cond-true, cond-false}
+use Rattle.std.proofs.lemmas.List.{at_drop_more}
 use Rattle.dm_token.specs.declared.token.PpToken.{PpToken}
 use Rattle.dm_token.specs.declared.expansion.Definition.{Definition}
 use Rattle.dm_macro.specs.Signs.{is_identifier, is_word, variable_arguments}
-use Rattle.dm_expand.specs.Arguments.{named_parameters}
-use Rattle.dm_expand.specs.Bodies.{is_last, parameter_of, parameters_of}
+use Rattle.dm_macro.specs.Bodies.{named_parameters, is_last, parameter_of, parameters_of}
+
+-- what is left of a list, and its first item
+pub next_is : {A B : Type 0} (whole : List A → B) (items : List A) (i : ℕ) (item : A) (all : B) → i < length items → item ≡ get_or items i item → whole (drop i items) ≡ all → whole (item ∷ drop (i + 1) items) ≡ all
+next_is whole items i item all lt is before = ap (λ x. whole (x ∷ drop (i + 1) items)) is ∙ sym (at_drop_more whole items i item lt) ∙ before
 
 -- from a position on, in the first list or else in the second
 pub position_from-append : (test : List ℕ → Bool) (at : ℕ) (xs ys : List (List ℕ)) → position_from test at xs ≡ None → position_from test at (xs ++ ys) ≡ position_from test (at + length xs) ys

@@ -4,7 +4,6 @@ use Rattle.std.specs.List.{position_from}
 use Rattle.dm_token.specs.declared.token.PpToken.{PpToken}
 use Rattle.dm_token.specs.declared.expansion.Definition.{Definition}
 use Rattle.dm_macro.specs.Signs.{is_identifier, is_hash, is_hash_hash, variable_arguments}
-use Rattle.dm_expand.specs.Arguments.{named_parameters}
 
 -- A part of a replacement list. A parameter has its position and says which of its places in the list this is.
 pub data Part : Type 0 where
@@ -18,6 +17,11 @@ pub data Part : Type 0 where
   whole : PpToken → ℕ → ℕ → Part
   -- `##`
   paste : PpToken → Part
+
+-- the parameters that have names of their own
+unfoldable pub named_parameters : Option (List (List ℕ)) → List (List ℕ)
+named_parameters None = []
+named_parameters (Some names) = names
 
 -- the parameters' names, `__VA_ARGS__` last (6.10.3.1p2)
 unfoldable pub parameters_of : Definition → List (List ℕ)

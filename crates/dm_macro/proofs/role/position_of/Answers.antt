@@ -3,8 +3,8 @@ use Rattle.std.specs.Prelude.{bytes_eq}
 use Rattle.std.specs.List.{position_from}
 use Rattle.std.proofs.lemmas.Bool.{cond-true, cond-false}
 use Rattle.std.proofs.lemmas.List.{at_drop_all}
-use Rattle.dm_expand.proofs.SearchLemmas.{next_is}
-use Rattle.dm_expand.proofs.body.position_of.Goals as goal
+use Rattle.dm_macro.proofs.BodyLemmas.{next_is}
+use Rattle.dm_macro.proofs.role.position_of.Goals as goal
 
 pub returns-then-eq : goal.returns-then-eq
 returns-then-eq c =

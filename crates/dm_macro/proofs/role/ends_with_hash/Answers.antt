@@ -1,7 +1,7 @@
 use Rattle.std.proofs.Common.{◌∙◌, sym, arith}
 use Rattle.dm_macro.specs.Signs as sign
-use Rattle.dm_expand.proofs.BodyLemmas.{is_last-at, is_last-nothing}
-use Rattle.dm_expand.proofs.body.ends_with_hash.Goals as goal
+use Rattle.dm_macro.proofs.BodyLemmas.{is_last-at, is_last-nothing}
+use Rattle.dm_macro.proofs.role.ends_with_hash.Goals as goal
 
 pub returns-in-empty : goal.returns-in-empty
 returns-in-empty c = is_last-nothing sign.is_hash c.args.before.now c.in-empty.len_below
