@@ -2,13 +2,13 @@
 use Rattle.std.proofs.Common.{◌≡◌, ℕ, ◌<◌, ◌≤◌, Bool, List, [], ◌∷◌, ◌++◌, length, map, refl, sym, ap, ◌∙◌, arith, append_assoc, set as set_at, get_or, Result, Ok, Err}
 use Rattle.dm_token.specs.declared.expansion.Mark.{Mark}
 use Rattle.dm_token.specs.declared.expansion.Mark.TheVariants.{Argument}
-use Rattle.dm_expand.specs.declared.body.Role.{Role}
+use Rattle.dm_macro.specs.declared.role.Role.{Role}
 use Rattle.dm_expand.specs.declared.substitute.Content as code_content
 use Rattle.dm_expand.specs.declared.substitute.Content.TheVariants.{One, Tokens, Whole}
 use Rattle.dm_expand.specs.Items.{Item, with_blank, first_with_blank}
 use Rattle.dm_expand.specs.Trails.{past, body_trail, argument_trail}
 use Rattle.dm_expand.specs.Ways.{Way, way_of, moved}
-use Rattle.dm_expand.specs.Views.{part_with}
+use Rattle.dm_macro.specs.Roles.{part_with}
 use Rattle.dm_expand.specs.Works.{IsContent, content_value}
 use Rattle.dm_expand.specs.Pastes.{Site, token, placemarker, operator, made}
 use Rattle.std.specs.FinSet as set
@@ -72,7 +72,7 @@ pub operand-is : (site : Site) (pp : PpToken) (role : Role) (p q : Progress) (co
     → content_value content ≡ operands blank items → ((expander : Expander) → filled expander site (part_with pp role) p ≡ Ok (fills (operands blank items) q)) → IsContent site pp role p q content
 operand-is site pp role p q (One piece) blank items is are = λ expander. are expander ∙ ap (λ xs. Ok (fills xs q)) (sym is)
 operand-is site pp role p q (Tokens tokens) blank items is are = λ expander. are expander ∙ ap (λ xs. Ok (fills xs q)) (sym is)
-operand-is site pp role p q (Whole parameter occurrence) blank items is are = absurd (operands-are_some blank items is)
+operand-is site pp role p q (Whole parameter occurrence last) blank items is are = absurd (operands-are_some blank items is)
 
 pub filled-plain : (expander : Expander) (site : Site) (pp : PpToken) (p : Progress) → filled expander site (plain pp) p ≡ Ok (fills (token (body_item site pp) ∷ []) p)
 unfolding filled

@@ -4,7 +4,7 @@ use Rattle.std.specs.FinSet as finite
 use Rattle.std.specs.List.{list_any}
 use Rattle.std.proofs.lemmas.Bool.{eqb-false}
 use Rattle.std.proofs.lemmas.List.{get_or-set_other}
-use Rattle.std.proofs.lemmas.List.Sums.{sum_by-cons}
+use Rattle.dm_macro.proofs.RoleLemmas.{places-first}
 use Rattle.dm_token.specs.declared.stop.Stop.{Stop}
 use Rattle.dm_token.specs.declared.token.PpKind.{PpKind}
 use Rattle.dm_token.specs.declared.token.PpKind.TheVariants.{Literal}
@@ -52,9 +52,9 @@ parameter_part-served site parameter names before pp behind other apart =
     elim (is_last is_hash before) as (λ b. AreServed site (without site parameter) (cond b [] (cond (is_last is_hash_hash before || is_first is_hash_hash behind) (beside pp other (places_of names other before) ∷ []) (whole pp other (places_of names other before) ∷ [])))) [
       | true ↦ tt
       | false ↦ elim (is_last is_hash_hash before || is_first is_hash_hash behind) as (λ b. AreServed site (without site parameter) (cond b (beside pp other (places_of names other before) ∷ []) (whole pp other (places_of names other before) ∷ []))) [
-          | true ↦ (spared site parameter other apart, tt)
-          | false ↦ (spared site parameter other apart, tt)
-        ]
+        | true ↦ (spared site parameter other apart, tt)
+        | false ↦ (spared site parameter other apart, tt)
+      ]
     ]
 
 other_part-served : (site : Site) (parameter : ℕ) (names : List (List ℕ)) (before : List PpToken) (pp : PpToken) (behind : List PpToken) (mine : Option ℕ)
@@ -83,10 +83,6 @@ head-unnamed false count none = refl
 rest-unnamed : (names : Bool) (count : ℕ) → cond names 1 0 + count ≡ 0 → count ≡ 0
 rest-unnamed true count none = absurd (omega arith)
 rest-unnamed false count none = omega arith
-
-places-first : (names : List (List ℕ)) (parameter : ℕ) (pp : PpToken) (others : List PpToken) → places_of names parameter (pp ∷ others) ≡ cond (is_at parameter (parameter_of names pp)) 1 0 + places_of names parameter others
-unfolding places_of
-places-first names parameter pp others = sum_by-cons (λ token. cond (is_at parameter (parameter_of names token)) 1 0) pp others
 
 first-unnamed : (names : List (List ℕ)) (parameter : ℕ) (tokens : List PpToken) → places_of names parameter tokens ≡ 0 → is_at parameter (first_parameter names tokens) ≡ false
 unfolding first_parameter is_at
@@ -227,11 +223,11 @@ waits_with waits others = record waits { filling = record waits.filling { site =
 
 -- What waits goes on in the same way with other arguments that serve what is behind.
 pub taken_up-same : (macros : Macros) (waits : code_waiting.Waiting) (others : List (List Item)) (argument : Result Output Stop)
-    → AreServed waits.filling.site others (parts_from waits.filling.definition.now waits.whole.behind) → taken_up macros (waits_with waits others) argument ≡ taken_up macros waits argument
+    → AreServed waits.filling.site others (parts_from waits.filling.body.definition.now waits.whole.behind) → taken_up macros (waits_with waits others) argument ≡ taken_up macros waits argument
 unfolding taken_up
 taken_up-same macros waits others argument served =
     let site : Site = waits.filling.site in
-    let definition : Definition = waits.filling.definition.now in
+    let definition : Definition = waits.filling.body.definition.now in
     let counts : Bool = not (list_any is_hash_hash definition.body) in
     let parts : List Part = parts_from definition waits.whole.behind in
     let pieces : List Piece = pieces_in waits.filling.pieces in
@@ -248,7 +244,7 @@ pub taken_up-level : (macros : Macros) (waits : code_waiting.Waiting) (level : c
 unfolding taken_up completed
 taken_up-level macros waits level argument rest out =
     let site : Site = waits.filling.site in
-    let definition : Definition = waits.filling.definition.now in
+    let definition : Definition = waits.filling.body.definition.now in
     let given : Result Filled Stop = pieces_before (pieces_in waits.filling.pieces) (argument >>= λ output. filled_behind macros site (not (list_any is_hash_hash definition.body)) (parts_from definition waits.whole.behind) (argument_pieces site waits.whole output.tokens) output.progress) in
     let together : Result Output Stop = given >>= put_together site waits.filling.hidden (parts_of definition) in
     let again : List Item → Output → Result Output Stop = λ behind replacement. expanded macros (replacement.tokens ++ behind) replacement.progress in

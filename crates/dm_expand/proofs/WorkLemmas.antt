@@ -77,7 +77,7 @@ unfolding outward
 outward-stops macros [] stop = refl
 outward-stops macros (waits ∷ waiting) stop = ap (taken_up macros waits) (outward-stops macros waiting stop) ∙ taken_up-stops macros waits stop
 
-pub load-push : (waiting : List code_waiting.Waiting) (waits : code_waiting.Waiting) → load (waiting ++ waits ∷ []) ≡ load waiting + suc (length waits.filling.definition.now.body - waits.whole.behind)
+pub load-push : (waiting : List code_waiting.Waiting) (waits : code_waiting.Waiting) → load (waiting ++ waits ∷ []) ≡ load waiting + suc (length waits.filling.body.definition.now.body - waits.whole.behind)
 unfolding load
 load-push [] waits = omega arith
 load-push (other ∷ waiting) waits = omega (arith, load-push waiting waits)
@@ -87,13 +87,13 @@ load-push (other ∷ waiting) waits = omega (arith, load-push waiting waits)
 -- an argument's list is entered
 pub enter-is : (macros : Macros) (waiting : List code_waiting.Waiting) (waits : code_waiting.Waiting) (inner : code_level.Level) (p : Progress)
     → inner.out.items ≡ [] → inner.rest.items ≡ argument_for waits.filling.site waits.whole.parameter
-    → outward macros waiting (completed macros waits.level waits.filling.site waits.filling.hidden waits.filling.definition.now (pieces_before (pieces_in waits.filling.pieces)
-    (filled_all (expanded macros) waits.filling.site (not (list_any is_hash_hash waits.filling.definition.now.body)) (whole_and_others waits.filling.definition.now waits.whole) p)))
+    → outward macros waiting (completed macros waits.level waits.filling.site waits.filling.hidden waits.filling.body.definition.now (pieces_before (pieces_in waits.filling.pieces)
+    (filled_all (expanded macros) waits.filling.site (not (list_any is_hash_hash waits.filling.body.definition.now.body)) (whole_and_others waits.filling.body.definition.now waits.whole) p)))
     ≡ outward macros (waiting ++ waits ∷ []) (scanned_on macros inner p)
 unfolding taken_up
 enter-is macros waiting waits inner p nothing argument =
-    ap (λ (r : Result Filled Stop). outward macros waiting (completed macros waits.level waits.filling.site waits.filling.hidden waits.filling.definition.now (pieces_before (pieces_in waits.filling.pieces) r)))
-    (filled_all-whole macros waits.filling.site (not (list_any is_hash_hash waits.filling.definition.now.body)) waits.whole.token.now waits.whole.parameter waits.whole.occurrence (parts_from waits.filling.definition.now waits.whole.behind) p)
+    ap (λ (r : Result Filled Stop). outward macros waiting (completed macros waits.level waits.filling.site waits.filling.hidden waits.filling.body.definition.now (pieces_before (pieces_in waits.filling.pieces) r)))
+    (filled_all-whole macros waits.filling.site (not (list_any is_hash_hash waits.filling.body.definition.now.body)) waits.whole.token.now waits.whole.parameter waits.whole.occurrence (parts_from waits.filling.body.definition.now waits.whole.behind) p)
     ∙ ap (λ (xs : List Item). outward macros waiting (taken_up macros waits (expanded macros xs p))) (sym argument)
     ∙ ap (λ (r : Result Output Stop). outward macros waiting (taken_up macros waits r)) (sym (tokens_before-nothing (expanded macros inner.rest.items p)))
     ∙ ap (λ (xs : List Item). outward macros waiting (taken_up macros waits (tokens_before xs (expanded macros inner.rest.items p)))) (sym nothing)
@@ -118,39 +118,39 @@ leave-stops macros level site hidden definition pieces stop together =
 -- an argument that is expanded takes its parameter's place
 pub take_up-is : (macros : Macros) (waits : code_waiting.Waiting) (output : Output) (more all : List Piece) (q : Progress)
     → more ≡ argument_pieces waits.filling.site waits.whole output.tokens
-    → counted_if (not (list_any is_hash_hash waits.filling.definition.now.body)) waits.filling.site.name.pp.place (length (argument_pieces waits.filling.site waits.whole output.tokens)) output.progress ≡ Ok q
+    → counted_if (not (list_any is_hash_hash waits.filling.body.definition.now.body)) waits.filling.site.name.pp.place (length (argument_pieces waits.filling.site waits.whole output.tokens)) output.progress ≡ Ok q
     → all ≡ pieces_in waits.filling.pieces ++ more
     → taken_up macros waits (Ok output)
-    ≡ completed macros waits.level waits.filling.site waits.filling.hidden waits.filling.definition.now (pieces_before all
-    (filled_all (expanded macros) waits.filling.site (not (list_any is_hash_hash waits.filling.definition.now.body)) (parts_from waits.filling.definition.now waits.whole.behind) q))
+    ≡ completed macros waits.level waits.filling.site waits.filling.hidden waits.filling.body.definition.now (pieces_before all
+    (filled_all (expanded macros) waits.filling.site (not (list_any is_hash_hash waits.filling.body.definition.now.body)) (parts_from waits.filling.body.definition.now waits.whole.behind) q))
 unfolding taken_up filled_behind
 take_up-is macros waits output more all q is counted are =
-    let becomes : Result Filled Stop → Result Output Stop = λ r. completed macros waits.level waits.filling.site waits.filling.hidden waits.filling.definition.now r in
+    let becomes : Result Filled Stop → Result Output Stop = λ r. completed macros waits.level waits.filling.site waits.filling.hidden waits.filling.body.definition.now r in
     let pieces : List Piece = pieces_in waits.filling.pieces in
-    let others : Progress → Result Filled Stop = λ p. filled_all (expanded macros) waits.filling.site (not (list_any is_hash_hash waits.filling.definition.now.body)) (parts_from waits.filling.definition.now waits.whole.behind) p in
+    let others : Progress → Result Filled Stop = λ p. filled_all (expanded macros) waits.filling.site (not (list_any is_hash_hash waits.filling.body.definition.now.body)) (parts_from waits.filling.body.definition.now waits.whole.behind) p in
     ap (λ (r : Result Progress Stop). becomes (pieces_before pieces (r >>= λ counted. pieces_before (argument_pieces waits.filling.site waits.whole output.tokens) (others counted)))) counted
     ∙ ap (λ (xs : List Piece). becomes (pieces_before pieces (pieces_before xs (others q)))) (sym is)
     ∙ ap becomes (pieces_before-append pieces more (others q))
     ∙ ap (λ (xs : List Piece). becomes (pieces_before xs (others q))) (sym are)
 
 pub take_up-count-stops : (macros : Macros) (waits : code_waiting.Waiting) (output : Output) (stop : Stop)
-    → counted_if (not (list_any is_hash_hash waits.filling.definition.now.body)) waits.filling.site.name.pp.place (length (argument_pieces waits.filling.site waits.whole output.tokens)) output.progress ≡ Err stop
+    → counted_if (not (list_any is_hash_hash waits.filling.body.definition.now.body)) waits.filling.site.name.pp.place (length (argument_pieces waits.filling.site waits.whole output.tokens)) output.progress ≡ Err stop
     → taken_up macros waits (Ok output) ≡ Err stop
 unfolding taken_up filled_behind completed
 take_up-count-stops macros waits output stop counted =
-    let counts : Bool = not (list_any is_hash_hash waits.filling.definition.now.body) in
-    let others : Progress → Result Filled Stop = λ p. filled_all (expanded macros) waits.filling.site counts (parts_from waits.filling.definition.now waits.whole.behind) p in
-    ap (λ (r : Result Progress Stop). completed macros waits.level waits.filling.site waits.filling.hidden waits.filling.definition.now (pieces_before (pieces_in waits.filling.pieces) (r >>= λ counted. pieces_before (argument_pieces waits.filling.site waits.whole output.tokens) (others counted)))) counted
+    let counts : Bool = not (list_any is_hash_hash waits.filling.body.definition.now.body) in
+    let others : Progress → Result Filled Stop = λ p. filled_all (expanded macros) waits.filling.site counts (parts_from waits.filling.body.definition.now waits.whole.behind) p in
+    ap (λ (r : Result Progress Stop). completed macros waits.level waits.filling.site waits.filling.hidden waits.filling.body.definition.now (pieces_before (pieces_in waits.filling.pieces) (r >>= λ counted. pieces_before (argument_pieces waits.filling.site waits.whole output.tokens) (others counted)))) counted
 
 -- a macro is replaced
 pub replace-is : (macros : Macros) (level : code_level.Level) (invocation : code_invocation.Invocation) (site : Site) (p q : Progress)
     → site ≡ site_of (invocation_value invocation level.rest.items) p.instance
     → begin invocation.found.number invocation.name invocation.foreign p ≡ Ok q
     → invoked_on macros level invocation p
-    ≡ completed macros level site invocation.hidden invocation.found.definition.now (pieces_before [] (filled_all (expanded macros) site (not (list_any is_hash_hash invocation.found.definition.now.body)) (parts_from invocation.found.definition.now 0) q))
+    ≡ completed macros level site invocation.hidden invocation.found.body.definition.now (pieces_before [] (filled_all (expanded macros) site (not (list_any is_hash_hash invocation.found.body.definition.now.body)) (parts_from invocation.found.body.definition.now 0) q))
 unfolding completed replaced substituted put_together
 replace-is macros level invocation site p q is begun =
-    let definition : Definition = invocation.found.definition.now in
+    let definition : Definition = invocation.found.body.definition.now in
     let value = invocation_value invocation level.rest.items in
     let all : Result Filled Stop → Result Output Stop = λ r. completed macros level site invocation.hidden definition r in
     ap (λ (r : Result Progress Stop). tokens_before level.out.items (r >>= λ begun. substituted (expanded macros) (site_of value p.instance) invocation.hidden (parts_of definition) begun >>= goes_on macros level)) begun
@@ -164,4 +164,4 @@ pub replace-stops : (macros : Macros) (level : code_level.Level) (invocation : c
 unfolding replaced
 replace-stops macros level invocation p stop begun =
     let value = invocation_value invocation level.rest.items in
-    ap (λ (r : Result Progress Stop). tokens_before level.out.items (r >>= λ begun. substituted (expanded macros) (site_of value p.instance) invocation.hidden (parts_of invocation.found.definition.now) begun >>= goes_on macros level)) begun
+    ap (λ (r : Result Progress Stop). tokens_before level.out.items (r >>= λ begun. substituted (expanded macros) (site_of value p.instance) invocation.hidden (parts_of invocation.found.body.definition.now) begun >>= goes_on macros level)) begun

@@ -16,7 +16,7 @@ macros_of macros = record { table = macros.table.now; files = macros.files.now }
 
 -- a definition with its number
 abbrev pub macro_value : code_macro.Macro → Macro
-macro_value found = record { number = found.number; definition = found.definition.now }
+macro_value found = record { number = found.number; definition = found.body.definition.now }
 
 -- a macro is replaced
 abbrev pub replace_with : Macro → Item → List (List Item) → HiddenNumbers → Bool → List Item → Head

@@ -5,10 +5,7 @@ use Rattle.dm_token.specs.declared.expansion.Expansion.{Expansion}
 use Rattle.dm_token.specs.declared.expansion.Mark.{Mark}
 use Rattle.dm_token.specs.declared.stop.Stop.{Stop}
 use Rattle.dm_token.specs.declared.stop.Stop.TheVariants.{Memory, Refused, Limit, ReadFault}
-use Rattle.dm_token.specs.declared.token.PpToken.{PpToken}
 use Rattle.dm_expand.specs.declared.arguments.Enclosed as code_enclosed
-use Rattle.dm_expand.specs.declared.body.Role.{Role}
-use Rattle.dm_expand.specs.declared.body.Role.TheVariants.{Plain, Hash, Beside, Whole, Paste}
 use Rattle.dm_expand.specs.declared.paste.Piece as code_piece
 use Rattle.dm_expand.specs.declared.paste.Pieces as code_pieces
 use Rattle.dm_expand.specs.declared.paste.Piece.TheVariants.{Token, Placemarker, Operator}
@@ -17,7 +14,6 @@ use Rattle.dm_expand.specs.Trails.{marks_instance}
 use Rattle.dm_expand.specs.Laws.{AreNumbered}
 use Rattle.dm_expand.specs.Steps.{Progress, greatest_work, ◌>>=◌}
 use Rattle.dm_expand.specs.Arguments.{Enclosed}
-use Rattle.dm_macro.specs.Bodies.{Part, plain, hash, beside, whole, paste}
 use Rattle.dm_expand.specs.Pastes.{Site, Piece, token, placemarker, operator, pasted, pasted_behind, tokens_of}
 
 -- a stop is that of what was to be done; only want of memory is free
@@ -60,19 +56,6 @@ is_one_empty [] = false
 is_one_empty ([] ∷ []) = true
 is_one_empty ([] ∷ other ∷ arguments) = false
 is_one_empty ((item ∷ items) ∷ arguments) = false
-
--- the part of a replacement list that a token is
-abbrev pub part_with : PpToken → Role → Part
-part_with pp Plain = plain pp
-part_with pp (Hash parameter) = hash pp parameter
-part_with pp (Beside parameter occurrence) = beside pp parameter occurrence
-part_with pp (Whole parameter occurrence) = whole pp parameter occurrence
-part_with pp Paste = paste pp
-
--- at most one part
-abbrev pub parts_with : PpToken → Option Role → List Part
-parts_with pp None = []
-parts_with pp (Some role) = part_with pp role ∷ []
 
 -- a piece of a replacement list
 abbrev pub piece_value : code_piece.Piece → Piece

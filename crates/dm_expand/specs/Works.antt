@@ -1,12 +1,14 @@
 -- What the code's state means: lists whose expansion waits for that of an argument, innermost last.
-use Rattle.std.specs.Prelude.{◌≡◌, ◌≤◌, ◌<◌, ◌-◌, ◌+◌, ℕ, suc, Bool, not, List, [], ◌∷◌, ◌++◌, map, length, take, drop, Option, None, Some, Result, Ok}
+use Rattle.std.specs.Prelude.{◌≡◌, ◌≤◌, ◌<◌, ◌-◌, ◌+◌, ℕ, suc, Bool, true, not, List, [], ◌∷◌, ◌++◌, map, length, take, drop, Option, None, Some, Result, Ok}
 use Rattle.std.specs.List.{list_any}
 use Rattle.dm_token.specs.declared.token.PpToken.{PpToken}
 use Rattle.dm_token.specs.declared.stop.Stop.{Stop}
 use Rattle.dm_token.specs.declared.expansion.Definition.{Definition}
 use Rattle.dm_macro.specs.HideSets.{HiddenNumbers}
 use Rattle.dm_macro.specs.Signs.{is_hash_hash}
-use Rattle.dm_expand.specs.declared.body.Role.{Role}
+use Rattle.dm_macro.specs.declared.role.Role.{Role}
+use Rattle.dm_macro.specs.declared.role.Role.TheVariants.{Whole as marked_whole}
+use Rattle.dm_macro.specs.Roles.{part_with}
 use Rattle.dm_expand.specs.declared.substitute.Content as code_content
 use Rattle.dm_expand.specs.declared.substitute.Content.TheVariants.{One, Tokens, Whole}
 use Rattle.dm_expand.specs.declared.substitute.Whole as code_whole
@@ -16,11 +18,11 @@ use Rattle.dm_expand.specs.declared.machine.Filling as code_filling
 use Rattle.dm_expand.specs.declared.machine.Waiting as code_waiting
 use Rattle.dm_expand.specs.Items.{Item}
 use Rattle.dm_expand.specs.Steps.{Progress, Output, ◌>>=◌}
-use Rattle.dm_macro.specs.Bodies.{Part, whole, parameters_of, parts_behind, parts_of}
+use Rattle.dm_macro.specs.Bodies.{Part, whole, parameters_of, places_of, parts_behind, parts_of}
 use Rattle.dm_expand.specs.Pastes.{Site, Piece, token, pasted, tokens_of}
 use Rattle.dm_expand.specs.Substitution.{Expander, Filled, filled, filled_all, is_operator, placed, finished}
 use Rattle.dm_expand.specs.Expansion.{Macros, expanded, replaced}
-use Rattle.dm_expand.specs.Views.{part_with, piece_value, pieces_in}
+use Rattle.dm_expand.specs.Views.{piece_value, pieces_in}
 use Rattle.dm_expand.specs.ListViews.{gives, fills, pieces_before, tokens_before, counted_if, invocation_value}
 
 -- PARTS
@@ -29,13 +31,13 @@ use Rattle.dm_expand.specs.ListViews.{gives, fills, pieces_before, tokens_before
 abbrev pub content_value : code_content.Content → List Piece
 content_value (One piece) = piece_value piece ∷ []
 content_value (Tokens tokens) = map token tokens.items
-content_value (Whole parameter occurrence) = []
+content_value (Whole parameter occurrence last) = []
 
 -- what a part is filled with at once, or that its argument is expanded first
 abbrev pub IsContent : Site → PpToken → Role → Progress → Progress → code_content.Content → Type 0
 IsContent site pp role before after (One piece) = (expander : Expander) → filled expander site (part_with pp role) before ≡ Ok (fills (piece_value piece ∷ []) after)
 IsContent site pp role before after (Tokens tokens) = (expander : Expander) → filled expander site (part_with pp role) before ≡ Ok (fills (map token tokens.items) after)
-IsContent site pp role before after (Whole parameter occurrence) = (part_with pp role ≡ whole pp parameter occurrence) × (after ≡ before)
+IsContent site pp role before after (Whole parameter occurrence last) = (role ≡ marked_whole parameter occurrence last) × (after ≡ before)
 
 -- the parts of a replacement list from a token on
 abbrev pub parts_from : Definition → ℕ → List Part
@@ -65,6 +67,15 @@ abbrev pub IsFrom : ℕ → ℕ → Option code_whole.Whole → Type 0
 IsFrom from end None = Unit {0}
 IsFrom from end (Some waits) = (from < waits.behind) × (waits.behind ≤ end)
 
+-- No token behind the last place of a parameter names it.
+abbrev pub IsLastPlace : Definition → code_whole.Whole → Type 0
+IsLastPlace definition waits = waits.last ≡ true → places_of (parameters_of definition) waits.parameter (drop waits.behind definition.body) ≡ 0
+
+-- the same of a part that waits
+abbrev pub IsLastIn : Definition → Option code_whole.Whole → Type 0
+IsLastIn definition None = Unit {0}
+IsLastIn definition (Some waits) = IsLastPlace definition waits
+
 -- the pieces of a parameter whose argument expands to these tokens
 abbrev pub argument_pieces : Site → code_whole.Whole → List Item → List Piece
 argument_pieces site waits items = map token (placed site waits.token.now waits.parameter waits.occurrence items)
@@ -91,9 +102,9 @@ completed macros level site hidden definition given =
 -- the same where its parts from a token on are still to be filled
 abbrev pub completed_from : Macros → code_level.Level → code_filling.Filling → ℕ → Progress → Result Output Stop
 completed_from macros level filling from progress =
-    completed macros level filling.site filling.hidden filling.definition.now
+    completed macros level filling.site filling.hidden filling.body.definition.now
     (pieces_before (pieces_in filling.pieces)
-    (filled_all (expanded macros) filling.site (not (list_any is_hash_hash filling.definition.now.body)) (parts_from filling.definition.now from) progress))
+    (filled_all (expanded macros) filling.site (not (list_any is_hash_hash filling.body.definition.now.body)) (parts_from filling.body.definition.now from) progress))
 
 -- the other parts, behind the pieces of an argument
 unfoldable pub filled_behind : Macros → Site → Bool → List Part → List Piece → Progress → Result Filled Stop
@@ -104,10 +115,10 @@ filled_behind macros site counts parts pieces progress = do
 -- what is put out of a list, when the expansion is given that a replacement in it waits for
 unfoldable pub taken_up : Macros → code_waiting.Waiting → Result Output Stop → Result Output Stop
 taken_up macros waits argument =
-    completed macros waits.level waits.filling.site waits.filling.hidden waits.filling.definition.now
+    completed macros waits.level waits.filling.site waits.filling.hidden waits.filling.body.definition.now
     (pieces_before (pieces_in waits.filling.pieces)
-    (argument >>= λ output. filled_behind macros waits.filling.site (not (list_any is_hash_hash waits.filling.definition.now.body))
-    (parts_from waits.filling.definition.now waits.whole.behind) (argument_pieces waits.filling.site waits.whole output.tokens) output.progress))
+    (argument >>= λ output. filled_behind macros waits.filling.site (not (list_any is_hash_hash waits.filling.body.definition.now.body))
+    (parts_from waits.filling.body.definition.now waits.whole.behind) (argument_pieces waits.filling.site waits.whole output.tokens) output.progress))
 
 -- LISTS
 
@@ -143,4 +154,4 @@ IsEnd waiting (Some invocation) = Unit {0}
 -- how many tokens of replacement lists are still to be filled
 unfoldable pub load : List code_waiting.Waiting → ℕ
 load [] = 0
-load (waits ∷ others) = suc (length waits.filling.definition.now.body - waits.whole.behind) + load others
+load (waits ∷ others) = suc (length waits.filling.body.definition.now.body - waits.whole.behind) + load others

@@ -21,10 +21,10 @@ use std::alloc::Global;
 
 /// The argument for a parameter.
 #[tactic(auto, unfolding(crate::specs::Substitution::argument_for))]
-pub fn argument_for<'a>(site: &'a Site, parameter: usize) -> &'a [Item]
+pub fn argument_for<'a>(site: &'a Site, parameter: u32) -> &'a [Item]
     ensures { result.now ≡ substitution.argument_for site.now parameter }
 {
-    match site.arguments.items().get(parameter) {
+    match site.arguments.items().get(parameter as usize) {
         None => &[],
         Some(argument) => argument.items(),
     }
@@ -39,19 +39,6 @@ pub fn body_item(alloc: Global, site: &Site, token: &PpToken) -> Result<Item, Me
         pp: token.copy()?,
         hidden: Hidden::nothing(alloc),
         trail: site.inside.copy()?,
-    })
-}
-
-// The mark of an argument at one of its parameter's places.
-fn argument_mark(parameter: usize, occurrence: usize) -> Result<Mark, Memory>
-    ensures { IfOk result (λ mark. mark ≡ Argument parameter occurrence) }
-{
-    if parameter > u32::MAX as usize || occurrence > u32::MAX as usize {
-        return Err(Memory);
-    }
-    Ok(Mark::Argument {
-        parameter: parameter as u32,
-        occurrence: occurrence as u32,
     })
 }
 
@@ -75,10 +62,13 @@ fn move_items(way: &mut Way, items: &mut [Item]) -> Result<(), Memory>
 }
 
 // The way of an argument to one of its parameter's places.
-fn way_to(alloc: Global, site: &Site, parameter: usize, occurrence: usize) -> Result<Way, Memory>
+fn way_to(alloc: Global, site: &Site, parameter: u32, occurrence: u32) -> Result<Way, Memory>
     ensures { IfOk result (λ way. way ≡ way_of site.now.name.trail (body_trail site.now.name.trail site.now.mark ++ Argument parameter occurrence ∷ [])) }
 {
-    let mark = argument_mark(parameter, occurrence)?;
+    let mark = Mark::Argument {
+        parameter,
+        occurrence,
+    };
     let base = grown(&site.inside, mark)?;
     let name = &site.name;
     let way = Way::new(alloc, &name.trail, base)?;
@@ -100,8 +90,8 @@ pub fn place(
     alloc: Global,
     site: &Site,
     token: &PpToken,
-    parameter: usize,
-    occurrence: usize,
+    parameter: u32,
+    occurrence: u32,
     items: &mut [Item],
 ) -> Result<(), Memory>
     ensures { OnOk result (items.new ≡ substitution.placed site.now token.now parameter occurrence items.old) }
@@ -117,7 +107,7 @@ pub fn fill_hash(
     alloc: Global,
     site: &Site,
     token: &PpToken,
-    parameter: usize,
+    parameter: u32,
     progress: &mut Progress,
 ) -> Result<Item, Memory>
     ensures made { IfOk result (λ made. made ≡ pastes.made site.now Literal (string_of (substitution.argument_for site.now parameter)) token.now.blank_before set.empty) }
@@ -141,8 +131,8 @@ pub fn fill_beside(
     alloc: Global,
     site: &Site,
     token: &PpToken,
-    parameter: usize,
-    occurrence: usize,
+    parameter: u32,
+    occurrence: u32,
     progress: &mut Progress,
 ) -> Result<Vec<Item>, Memory>
     ensures tokens { IfOk result (λ tokens. tokens.items ≡ substitution.placed site.now token.now parameter occurrence (substitution.argument_for site.now parameter)) }

@@ -16,8 +16,8 @@ use crate::predefined::{may_be_predefined, replaced};
 use crate::progress::Progress;
 use crate::sign::{is_identifier, is_left_parenthesis};
 use crate::trails::{begins_with, come_otherwise};
-use dm_macro::MacroTable;
-use dm_token::{Definition, List, Memory, PpToken, Text};
+use dm_macro::{Body, MacroTable};
+use dm_token::{List, Memory, PpToken, Text};
 use std::alloc::Global;
 use std::collections::VecDeque;
 
@@ -29,11 +29,11 @@ pub struct Macros<'a> {
     pub files: &'a [Text],
 }
 
-/// A definition with its number.
+/// A definition with its number, and with what the tokens of its replacement list are.
 #[derive(Clone, Copy)]
 pub struct Macro<'a> {
     pub number: u32,
-    pub definition: &'a Definition,
+    pub body: Body<'a>,
 }
 
 /// An invocation of a macro: the definition, the name, the arguments, the hide set that its replacement gets, and whether
@@ -69,7 +69,7 @@ fn macro_of<'a>(macros: &Macros<'a>, token: &PpToken) -> Option<Macro<'a>>
     let number = macros.table.get(&token.spelling)?;
     Some(Macro {
         number,
-        definition: macros.table.definition(number),
+        body: macros.table.body(number),
     })
 }
 
@@ -167,7 +167,7 @@ fn enclosing<'a>(
     };
     let foreign = is_foreign(&name, opening, &enclosed);
     let Enclosed { inside, closing } = enclosed;
-    let Some(arguments) = arguments_of(alloc, found.definition, inside)? else {
+    let Some(arguments) = arguments_of(alloc, found.body.definition, inside)? else {
         return Ok(Head::Refuse);
     };
     let head = with_arguments(extensions, found, name, &closing, foreign, arguments)?;
@@ -208,10 +208,10 @@ fn invoked<'a>(
     rest: &mut VecDeque<Item>,
 ) -> Result<Head<'a>, Memory>
     ensures stays { IfOk result (λ head. Stays head rest.old.items rest.new.items) }
-    ensures head { IfOk result (λ head. head_value rest.new.items head ≡ expansion.invoked (macro_value found.entry) found.entry.definition.now.parameters name rest.old.items) }
+    ensures head { IfOk result (λ head. head_value rest.new.items head ≡ expansion.invoked (macro_value found.entry) found.entry.body.definition.now.parameters name rest.old.items) }
     ensures shorter { OnOk result (length rest.new.items ≤ length rest.old.items) }
 {
-    match &found.definition.parameters {
+    match &found.body.definition.parameters {
         None => {
             let head = object_like(alloc, extensions, found, name)?;
             Ok(head)

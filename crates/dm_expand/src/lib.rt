@@ -9,7 +9,6 @@ ghost use Rattle.dm_expand.specs.Views.{StopsAs};
 ghost use Rattle.dm_expand.specs.AnswerViews.{looked_up, answer, AreNumberedFrom};
 
 mod arguments;
-mod body;
 mod extension;
 mod fill;
 mod head;

@@ -10,7 +10,7 @@ ghost use Rattle.dm_expand.specs.Expansion.{Macros as LookedUp, expanded};
 ghost use Rattle.dm_expand.specs.Views.{StopsAs, IsWithin, pieces_in};
 ghost use Rattle.dm_expand.specs.HeadViews.{macros_of, site_with};
 ghost use Rattle.dm_expand.specs.ListViews.{gives, fills, pieces_before, tokens_before};
-ghost use Rattle.dm_expand.specs.Works.{outward, load, completed, completed_from, whole_and_others, taken_up, scanned_on, invoked_on, passed_on, found_on, IsEnd};
+ghost use Rattle.dm_expand.specs.Works.{outward, load, completed, completed_from, whole_and_others, taken_up, scanned_on, invoked_on, passed_on, found_on, IsEnd, IsLastPlace};
 
 use crate::arguments::next_of;
 use crate::extension::Extensions;
@@ -20,9 +20,10 @@ use crate::item::Item;
 use crate::needs::take_argument;
 use crate::paste::{Pieces, Site};
 use crate::progress::Progress;
-use crate::substitute::{Whole, complete, fill_from, fill_whole, has_paste};
+use crate::substitute::{Whole, complete, fill_from, fill_whole};
 use crate::trails::grown;
-use dm_token::{Definition, List, Mark, Memory, Place, Refusal, Stop};
+use dm_macro::Body;
+use dm_token::{List, Mark, Memory, Place, Refusal, Stop};
 use std::alloc::Global;
 use std::collections::VecDeque;
 use std::mem;
@@ -37,13 +38,13 @@ pub struct Level {
     pub out: Vec<Item>,
 }
 
-/// A replacement in the making: its expansion, the hide set that it gets, the macro's definition, and the pieces of the
+/// A replacement in the making: its expansion, the hide set that it gets, the macro's replacement list, and the pieces of the
 /// parts that are filled.
 #[derive(Drop)]
 pub struct Filling<'a> {
     pub site: Site,
     pub hidden: Hidden,
-    pub definition: &'a Definition,
+    pub body: Body<'a>,
     pub pieces: Pieces,
 }
 
@@ -119,16 +120,17 @@ fn enter<'a>(
     level: &mut Level,
     waiting: &mut Vec<Waiting<'a>>,
 ) -> Result<(), Memory>
-    requires { whole.behind ≤ length filling.definition.now.body }
+    requires inside { whole.behind ≤ length filling.body.definition.now.body }
+    requires last { IsLastPlace filling.body.definition.now whole }
     ensures ok { OnOk result ((macros : LookedUp) (progress : Progressed) →
-        outward macros waiting.old.items (completed macros level.old filling.entry.site filling.entry.hidden filling.entry.definition.now (pieces_before (pieces_in filling.entry.pieces)
-        (filled_all (expanded macros) filling.entry.site (not (list_any is_hash_hash filling.entry.definition.now.body)) (whole_and_others filling.entry.definition.now whole.entry) progress)))
+        outward macros waiting.old.items (completed macros level.old filling.entry.site filling.entry.hidden filling.entry.body.definition.now (pieces_before (pieces_in filling.entry.pieces)
+        (filled_all (expanded macros) filling.entry.site (not (list_any is_hash_hash filling.entry.body.definition.now.body)) (whole_and_others filling.entry.body.definition.now whole.entry) progress)))
         ≡ outward macros waiting.new.items (scanned_on macros level.new progress)) }
-    ensures load { OnOk result (load waiting.new.items ≡ load waiting.old.items + suc (length filling.entry.definition.now.body - whole.entry.behind)) }
+    ensures load { OnOk result (load waiting.new.items ≡ load waiting.old.items + suc (length filling.entry.body.definition.now.body - whole.entry.behind)) }
 {
     let mut filling = filling;
-    let definition = filling.definition;
-    let argument = take_argument(alloc, &mut filling.site, definition, whole)?;
+    let body = filling.body;
+    let argument = take_argument(alloc, &mut filling.site, body.definition, whole)?;
     let inner = Level {
         rest: VecDeque::from(argument),
         out: Vec::new(alloc),
@@ -152,19 +154,19 @@ fn leave(
 ) -> Result<(), Stop>
     requires { IsWithin progress.old }
     ensures ok { OnOk result ((macros : LookedUp) →
-        completed macros level.old filling.entry.site filling.entry.hidden filling.entry.definition.now (Ok (fills (pieces_in filling.entry.pieces) progress.old))
+        completed macros level.old filling.entry.site filling.entry.hidden filling.entry.body.definition.now (Ok (fills (pieces_in filling.entry.pieces) progress.old))
         ≡ scanned_on macros level.new progress.new) }
     ensures follows { OnOk result (Follows progress.old progress.new) }
     ensures stop { IfErr result (λ stop. (macros : LookedUp) →
-        StopsAs (completed macros level.old filling.entry.site filling.entry.hidden filling.entry.definition.now (Ok (fills (pieces_in filling.entry.pieces) progress.old))) stop) }
+        StopsAs (completed macros level.old filling.entry.site filling.entry.hidden filling.entry.body.definition.now (Ok (fills (pieces_in filling.entry.pieces) progress.old))) stop) }
 {
     let Filling {
         site,
         hidden,
-        definition,
+        body,
         pieces,
     } = filling;
-    let tokens = complete(alloc, &site, &hidden, definition, pieces, progress)?;
+    let tokens = complete(alloc, &site, &hidden, body, pieces, progress)?;
     put_before(tokens, &mut level.rest)?;
     Ok(())
 }
@@ -182,16 +184,16 @@ fn go_on<'a>(
     ensures ok { OnOk result ((macros : LookedUp) →
         outward macros waiting.old.items (completed_from macros level.old filling.entry from progress.old) ≡ outward macros waiting.new.items (scanned_on macros level.new progress.new)) }
     ensures follows { OnOk result (Follows progress.old progress.new) }
-    ensures load { OnOk result (load waiting.new.items ≤ load waiting.old.items + (length filling.entry.definition.now.body - from)) }
+    ensures load { OnOk result (load waiting.new.items ≤ load waiting.old.items + (length filling.entry.body.definition.now.body - from)) }
     ensures stop { IfErr result (λ stop. (macros : LookedUp) → StopsAs (completed_from macros level.old filling.entry from progress.old) stop) }
 {
     let mut filling = filling;
     let mine = &mut filling;
-    let counts = !has_paste(mine.definition);
+    let counts = !mine.body.pastes;
     let left = fill_from(
         alloc,
         &mine.site,
-        mine.definition,
+        mine.body,
         from,
         counts,
         progress,
@@ -221,7 +223,7 @@ fn take_up<'a>(
     ensures ok { OnOk result ((macros : LookedUp) →
         outward macros waiting.old.items (taken_up macros waits.entry (Ok (gives level.old.out.items progress.old))) ≡ outward macros waiting.new.items (scanned_on macros level.new progress.new)) }
     ensures follows { OnOk result (Follows progress.old progress.new) }
-    ensures load { OnOk result (load waiting.new.items < load waiting.old.items + suc (length waits.entry.filling.definition.now.body - waits.entry.whole.behind)) }
+    ensures load { OnOk result (load waiting.new.items < load waiting.old.items + suc (length waits.entry.filling.body.definition.now.body - waits.entry.whole.behind)) }
     ensures stop { IfErr result (λ stop. (macros : LookedUp) → StopsAs (taken_up macros waits.entry (Ok (gives level.old.out.items progress.old))) stop) }
 {
     let Waiting {
@@ -231,7 +233,7 @@ fn take_up<'a>(
     } = waits;
     let mut filling = filling;
     let Level { rest: _, out } = mem::replace(level, outer);
-    let counts = !has_paste(filling.definition);
+    let counts = !filling.body.pastes;
     let more = fill_whole(alloc, &filling.site, whole, out, counts, progress)?;
     filling.pieces.append(more)?;
     go_on(alloc, filling, whole.behind, level, waiting, progress)?;
@@ -345,7 +347,7 @@ fn replace<'a>(
     let filling = Filling {
         site,
         hidden,
-        definition: found.definition,
+        body: found.body,
         pieces: Pieces::new(alloc),
     };
     go_on(alloc, filling, 0, level, waiting, progress)?;

@@ -1,10 +1,9 @@
-ghost use Rattle.std.specs.Prelude.{◌≡◌, ◌≤◌, List as Sequence, [], IfOk, OnOk, length, slice_index_or, set};
+ghost use Rattle.std.specs.Prelude.{◌≡◌, List as Sequence, [], IfOk, OnOk, slice_index_or, set};
 ghost use Rattle.dm_expand.specs.Items.{Item as Token};
 ghost use Rattle.dm_expand.specs.Needs.{with_others, AreServed};
 ghost use Rattle.dm_expand.specs.Substitution as substitution;
-ghost use Rattle.dm_expand.specs.Works.{parts_from};
+ghost use Rattle.dm_expand.specs.Works.{parts_from, IsLastPlace};
 
-use crate::body::is_named_from;
 use crate::fill::argument_for;
 use crate::item::{Item, copied};
 use crate::paste::Site;
@@ -15,13 +14,14 @@ use std::mem;
 
 // Takes the argument for a parameter out of those that are given, and leaves none of its tokens there.
 #[tactic(auto, unfolding(crate::specs::Substitution::argument_for))]
-fn take_out(alloc: Global, site: &mut Site, parameter: usize) -> Vec<Item>
+fn take_out(alloc: Global, site: &mut Site, parameter: u32) -> Vec<Item>
     ensures taken { result.items ≡ substitution.argument_for site.old parameter }
     ensures left { site.new ≡ with_others site.old (set site.old.arguments parameter []) }
 {
     let mut arguments = mem::replace(&mut site.arguments, List::new(alloc)).into_vec();
-    let taken = if parameter < arguments.len() {
-        mem::replace(&mut arguments[parameter], List::new(alloc))
+    let index = parameter as usize;
+    let taken = if index < arguments.len() {
+        mem::replace(&mut arguments[index], List::new(alloc))
     } else {
         List::new(alloc)
     };
@@ -37,13 +37,13 @@ pub fn take_argument(
     definition: &Definition,
     whole: Whole,
 ) -> Result<Vec<Item>, Memory>
-    requires { whole.behind ≤ length definition.now.body }
+    requires { IsLastPlace definition.now whole }
     ensures argument { IfOk result (λ argument. argument.items ≡ substitution.argument_for site.old whole.entry.parameter) }
     ensures served { OnOk result ((others : Sequence (Sequence Token)) × (site.new ≡ with_others site.old others) × AreServed site.old others (parts_from definition.now whole.entry.behind)) }
 {
-    if is_named_from(definition, whole.parameter, whole.behind) {
-        let copy = copied(alloc, argument_for(site, whole.parameter))?;
-        return Ok(copy);
+    if whole.last {
+        return Ok(take_out(alloc, site, whole.parameter));
     }
-    Ok(take_out(alloc, site, whole.parameter))
+    let copy = copied(alloc, argument_for(site, whole.parameter))?;
+    Ok(copy)
 }

@@ -11,14 +11,6 @@ const RIGHT_PARENTHESIS: u16 = 3;
 
 const COMMA: u16 = 45;
 
-const HASH: u16 = 46;
-
-const HASH_HASH: u16 = 47;
-
-const HASH_DIGRAPH: u16 = 52;
-
-const HASH_HASH_DIGRAPH: u16 = 53;
-
 fn is_punctuator(token: &PpToken, row: u16) -> bool
     ensures { result ≡ sign.is_punctuator row token.now }
 {
@@ -44,18 +36,6 @@ pub fn is_comma(token: &PpToken) -> bool
     ensures { result ≡ sign.is_punctuator sign.comma token.now }
 {
     is_punctuator(token, COMMA)
-}
-
-pub fn is_hash(token: &PpToken) -> bool
-    ensures { result ≡ sign.is_hash token.now }
-{
-    is_punctuator(token, HASH) || is_punctuator(token, HASH_DIGRAPH)
-}
-
-pub fn is_hash_hash(token: &PpToken) -> bool
-    ensures { result ≡ sign.is_hash_hash token.now }
-{
-    is_punctuator(token, HASH_HASH) || is_punctuator(token, HASH_HASH_DIGRAPH)
 }
 
 pub fn is_identifier(token: &PpToken) -> bool

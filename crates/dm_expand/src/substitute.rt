@@ -1,6 +1,4 @@
-ghost use Rattle.std.specs.Prelude.{◌≡◌, ◌<◌, ◌+◌, IfOk, IfErr, OnOk, Ok, map, length};
-ghost use Rattle.std.specs.List.{list_any};
-ghost use Rattle.dm_macro.specs.Signs as sign;
+ghost use Rattle.std.specs.Prelude.{◌≡◌, ◌<◌, ◌+◌, ◌^◌, IfOk, IfErr, OnOk, Ok, map, length, slice_index_or};
 ghost use Rattle.dm_macro.specs.Bodies as bodies;
 ghost use Rattle.dm_expand.specs.Laws.{Follows};
 ghost use Rattle.dm_expand.specs.Substitution as substitution;
@@ -8,15 +6,14 @@ ghost use Rattle.dm_expand.specs.Substitution.{Expander};
 ghost use Rattle.dm_expand.specs.Pastes as pastes;
 ghost use Rattle.dm_expand.specs.Views.{StopsAs, IsWithin, pieces_in};
 ghost use Rattle.dm_expand.specs.ListViews.{gives, fills, pieces_before, counted_if};
-ghost use Rattle.dm_expand.specs.Works.{IsContent, content_value, parts_from, parts_left, parts_waiting, IsBefore, IsFrom, argument_pieces, put_together};
+ghost use Rattle.dm_expand.specs.Works.{IsContent, content_value, parts_from, parts_left, parts_waiting, IsBefore, IsFrom, argument_pieces, put_together, IsLastIn};
 
-use crate::body::{Role, role_at, token_at};
 use crate::fill::{body_item, fill_beside, fill_hash, place, set_first_blank};
 use crate::hidden::{Hidden, Hiding};
 use crate::item::Item;
 use crate::paste::{Piece, Pieces, Site, paste};
 use crate::progress::Progress;
-use crate::sign::is_hash_hash;
+use dm_macro::{Body, Role};
 use dm_token::{Definition, Memory, Place, PpToken, Stop};
 use std::alloc::Global;
 
@@ -26,7 +23,7 @@ use std::alloc::Global;
 enum Content {
     One(Piece),
     Tokens(Vec<Item>),
-    Whole(usize, usize),
+    Whole(u32, u32, bool),
 }
 
 // The operand of `##` that an argument is: a placemarker in the place of none of its tokens (6.10.3.3p2).
@@ -69,7 +66,9 @@ fn fill(
             let tokens = fill_beside(alloc, site, token, parameter, occurrence, progress)?;
             Ok(operand(token.blank_before, tokens))
         }
-        Role::Whole(parameter, occurrence) => Ok(Content::Whole(parameter, occurrence)),
+        Role::Whole(parameter, occurrence, last) => {
+            Ok(Content::Whole(parameter, occurrence, last))
+        }
     }
 }
 
@@ -84,18 +83,6 @@ fn count_if(progress: &mut Progress, counts: bool, place: Place, work: usize) ->
         progress.spend(place, work)?;
     }
     Ok(())
-}
-
-/// Whether a replacement list has a `##`.
-pub fn has_paste(definition: &Definition) -> bool
-    ensures { result ≡ list_any sign.is_hash_hash definition.now.body }
-{
-    for token in definition.body.items() {
-        if is_hash_hash(token) {
-            return true;
-        }
-    }
-    false
 }
 
 // The place of the name whose expansion this is.
@@ -113,46 +100,59 @@ fn token_count(tokens: &[Item]) -> usize
     tokens.len()
 }
 
-/// A parameter of a replacement list whose argument is to be completely expanded first: its token, the index
-/// behind that one, the parameter, and which of its places this is.
+/// A parameter of a replacement list whose argument is to be completely expanded first: its token, the index behind that
+/// one, the parameter, which of its places this is, and whether it is the last one.
 #[derive(Clone, Copy)]
 pub struct Whole<'a> {
     pub token: &'a PpToken,
     pub behind: usize,
-    pub parameter: usize,
-    pub occurrence: usize,
+    pub parameter: u32,
+    pub occurrence: u32,
+    pub last: bool,
+}
+
+// The token at an index of a replacement list.
+fn token_at(definition: &Definition, index: usize) -> &PpToken
+    requires { index < length definition.now.body }
+    ensures is { result.now ≡ slice_index_or definition.now.body index result.now }
+    ensures counts { index + 1 < 2 ^ 64 }
+{
+    let body = definition.body.items();
+    &body[index]
 }
 
 // The part of the replacement list at an index.
 fn fill_at<'a>(
     alloc: Global,
     site: &Site,
-    definition: &'a Definition,
+    body: Body<'a>,
     index: usize,
     counts: bool,
     progress: &mut Progress,
     pieces: &mut Pieces,
 ) -> Result<Option<Whole<'a>>, Stop>
     requires within { IsWithin progress.old }
-    requires inside { index < length definition.now.body }
+    requires inside { index < length body.definition.now.body }
     ensures ok { IfOk result (λ whole. (expander : Expander) →
-        pieces_before (pieces_in pieces.old) (substitution.filled_all expander site.now counts (parts_from definition.now index) progress.old)
-        ≡ pieces_before (pieces_in pieces.new) (substitution.filled_all expander site.now counts (parts_left definition.now (index + 1) whole) progress.new)) }
+        pieces_before (pieces_in pieces.old) (substitution.filled_all expander site.now counts (parts_from body.entry.definition.now index) progress.old)
+        ≡ pieces_before (pieces_in pieces.new) (substitution.filled_all expander site.now counts (parts_left body.entry.definition.now (index + 1) whole) progress.new)) }
     ensures follows { OnOk result (Follows progress.old progress.new) }
     ensures at { IfOk result (IsBefore index) }
+    ensures last { IfOk result (IsLastIn body.entry.definition.now) }
     ensures stop { IfErr result (λ stop. (expander : Expander) →
-        StopsAs (pieces_before (pieces_in pieces.old) (substitution.filled_all expander site.now counts (parts_from definition.now index) progress.old)) stop) }
+        StopsAs (pieces_before (pieces_in pieces.old) (substitution.filled_all expander site.now counts (parts_from body.entry.definition.now index) progress.old)) stop) }
 {
-    let token = token_at(definition, index);
-    let Some(role) = role_at(definition, index, token) else {
+    let token = token_at(body.definition, index);
+    let Some(role) = body.role_at(index) else {
         return Ok(None);
     };
     match fill(alloc, site, token, role, progress)? {
-        Content::Whole(parameter, occurrence) => Ok(Some(Whole {
+        Content::Whole(parameter, occurrence, last) => Ok(Some(Whole {
             token,
             behind: index + 1,
             parameter,
             occurrence,
+            last,
         })),
         Content::One(piece) => {
             count_if(progress, counts, place_of(site), 1)?;
@@ -176,7 +176,7 @@ fn fill_at<'a>(
 pub fn fill_from<'a>(
     alloc: Global,
     site: &Site,
-    definition: &'a Definition,
+    body: Body<'a>,
     from: usize,
     counts: bool,
     progress: &mut Progress,
@@ -184,15 +184,16 @@ pub fn fill_from<'a>(
 ) -> Result<Option<Whole<'a>>, Stop>
     requires { IsWithin progress.old }
     ensures ok { IfOk result (λ whole. (expander : Expander) →
-        pieces_before (pieces_in pieces.old) (substitution.filled_all expander site.now counts (parts_from definition.now from) progress.old)
-        ≡ pieces_before (pieces_in pieces.new) (substitution.filled_all expander site.now counts (parts_waiting definition.now whole) progress.new)) }
+        pieces_before (pieces_in pieces.old) (substitution.filled_all expander site.now counts (parts_from body.entry.definition.now from) progress.old)
+        ≡ pieces_before (pieces_in pieces.new) (substitution.filled_all expander site.now counts (parts_waiting body.entry.definition.now whole) progress.new)) }
     ensures follows { OnOk result (Follows progress.old progress.new) }
-    ensures inside { IfOk result (IsFrom from (length definition.now.body)) }
+    ensures inside { IfOk result (IsFrom from (length body.entry.definition.now.body)) }
+    ensures last { IfOk result (IsLastIn body.entry.definition.now) }
     ensures stop { IfErr result (λ stop. (expander : Expander) →
-        StopsAs (pieces_before (pieces_in pieces.old) (substitution.filled_all expander site.now counts (parts_from definition.now from) progress.old)) stop) }
+        StopsAs (pieces_before (pieces_in pieces.old) (substitution.filled_all expander site.now counts (parts_from body.entry.definition.now from) progress.old)) stop) }
 {
-    'parts: for index in from..definition.body.len() {
-        let whole = fill_at(alloc, site, definition, index, counts, progress, pieces)?;
+    'parts: for index in from..body.definition.body.len() {
+        let whole = fill_at(alloc, site, body, index, counts, progress, pieces)?;
         if whole.is_some() {
             return Ok(whole);
         }
@@ -251,21 +252,21 @@ pub fn complete(
     alloc: Global,
     site: &Site,
     hidden: &Hidden,
-    definition: &Definition,
+    body: Body,
     pieces: Pieces,
     progress: &mut Progress,
 ) -> Result<Vec<Item>, Stop>
     requires { IsWithin progress.old }
     ensures ok { IfOk result (λ tokens.
-        put_together site.now hidden.now (bodies.parts_of definition.now) (fills (pieces_in pieces) progress.old) ≡ Ok (gives tokens.items progress.new)) }
+        put_together site.now hidden.now (bodies.parts_of body.entry.definition.now) (fills (pieces_in pieces) progress.old) ≡ Ok (gives tokens.items progress.new)) }
     ensures follows { OnOk result (Follows progress.old progress.new) }
     ensures stop { IfErr result (λ stop.
-        StopsAs (put_together site.now hidden.now (bodies.parts_of definition.now) (fills (pieces_in pieces) progress.old)) stop) }
+        StopsAs (put_together site.now hidden.now (bodies.parts_of body.entry.definition.now) (fills (pieces_in pieces) progress.old)) stop) }
 {
     let tokens = paste(alloc, site, pieces)?;
     count_if(
         progress,
-        has_paste(definition),
+        body.pastes,
         place_of(site),
         token_count(tokens.as_slice()),
     )?;

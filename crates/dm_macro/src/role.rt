@@ -182,11 +182,7 @@ fn ends_with_hash(before: &[PpToken]) -> bool
 
 // A token that names no parameter.
 #[tactic(auto, unfolding(crate::specs::Bodies::token_part))]
-fn token_role(
-    definition: &Definition,
-    token: &PpToken,
-    behind: &[PpToken],
-) -> Result<Role, Memory>
+fn token_role(definition: &Definition, token: &PpToken, behind: &[PpToken]) -> Result<Role, Memory>
     ensures role { IfOk result (λ role. part_with token.now role ≡ bodies.token_part token.now (bodies.first_parameter (bodies.parameters_of definition.now) behind.now)) }
     ensures last { IfOk result (λ role. last_of (Some role) ≡ None) }
 {
@@ -288,7 +284,14 @@ fn role_at(
     let body = definition.body.items();
     let before = tokens_before(body, index);
     let behind = tokens_from(body, index + 1);
-    let role = role_of(definition, before, token_at(definition, index), behind, seen, all)?;
+    let role = role_of(
+        definition,
+        before,
+        token_at(definition, index),
+        behind,
+        seen,
+        all,
+    )?;
     Ok(role)
 }
 

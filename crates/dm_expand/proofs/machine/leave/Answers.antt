@@ -12,7 +12,7 @@ pub returns-in_err-tokens-clause-stop : goal.returns-in_err-tokens-clause-stop
 returns-in_err-tokens-clause-stop c =
     let site = c.args.filling.site in
     let hidden = c.args.filling.hidden in
-    let definition = c.args.filling.definition.now in
+    let definition = c.args.filling.body.definition.now in
     let pieces : Filled = fills (pieces_in c.args.filling.pieces) c.args.progress.now in
     stops_handed_each c.from_residual.result c.in_err-tokens.field-0.0 (λ macros. put_together site hidden (parts_of definition) pieces) (λ macros. completed macros c.args.level.now site hidden definition (Ok pieces)) c.from_residual.ensures.1
     (λ macros other is. leave-stops macros c.args.level.now site hidden definition pieces other is)
@@ -20,6 +20,6 @@ returns-in_err-tokens-clause-stop c =
 
 pub returns-clause-ok : goal.returns-clause-ok
 returns-clause-ok c = λ macros.
-    leave-is macros c.args.level.now (record { rest = c.put_before.new.rest; out = c.args.level.now.out }) c.args.filling.site c.args.filling.hidden c.args.filling.definition.now
+    leave-is macros c.args.level.now (record { rest = c.put_before.new.rest; out = c.args.level.now.out }) c.args.filling.site c.args.filling.hidden c.args.filling.body.definition.now
     (fills (pieces_in c.args.filling.pieces) c.args.progress.now) c.in_ok-tokens.tokens.items c.complete.new.progress
     c.in_ok-tokens.ensures.ok c.in_ok-put_before.ensures refl

@@ -35,7 +35,7 @@ go_on-requires c =
 pub returns-in_err-go_on-clause-stop : goal.returns-in_err-go_on-clause-stop
 unfolding site_of
 returns-in_err-go_on-clause-stop c =
-    let definition = c.args.invocation.found.definition.now in
+    let definition = c.args.invocation.found.body.definition.now in
     let progress : Progress = c.args.progress.now in
     let now : Progress = c.begin.new.self in
     let invocation : Invocation = invocation_value c.args.invocation c.args.level.now.rest.items in
@@ -50,7 +50,7 @@ returns-in_err-go_on-clause-stop c =
 pub returns-clause-ok : goal.returns-clause-ok
 unfolding site_of
 returns-clause-ok c = λ macros.
-    let definition = c.args.invocation.found.definition.now in
+    let definition = c.args.invocation.found.body.definition.now in
     let progress : Progress = c.args.progress.now in
     let now : Progress = c.begin.new.self in
     let invocation : Invocation = invocation_value c.args.invocation c.args.level.now.rest.items in

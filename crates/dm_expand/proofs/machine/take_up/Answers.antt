@@ -23,15 +23,15 @@ returns-in_err-more-clause-stop c =
     let put : List Item = c.args.level.now.out.items in
     let counted : Bool → List Item → Result Progress Stop = λ pastes xs. counted_if (not pastes) filling.site.name.pp.place (length (argument_pieces filling.site c.args.waits.whole xs)) progress in
     let same : c.replace-out.result.out.items ≡ put = ap (λ (level : code_level.Level). level.out.items) c.replace-out.ensures.value in
-    stops_handed_each c.from_residual.result c.in_err-more.field-0.0 (λ (macros : Macros). counted c.has_paste-counts.result c.replace-out.result.out.items) (λ macros. taken_up macros c.args.waits (Ok (gives put progress))) c.from_residual.ensures.1
+    stops_handed_each c.from_residual.result c.in_err-more.field-0.0 (λ (macros : Macros). counted c.args.waits.filling.body.pastes c.replace-out.result.out.items) (λ macros. taken_up macros c.args.waits (Ok (gives put progress))) c.from_residual.ensures.1
     (λ macros other is. take_up-count-stops macros c.args.waits (gives put progress) other
-    (ap (counted (list_any is_hash_hash filling.definition.now.body)) (sym same) ∙ ap (λ (b : Bool). counted b c.replace-out.result.out.items) (sym c.has_paste-counts.ensures) ∙ is))
+    (ap (counted (list_any is_hash_hash filling.body.definition.now.body)) (sym same) ∙ ap (λ (b : Bool). counted b c.replace-out.result.out.items) (sym c.args.waits.filling.body.has_paste) ∙ is))
     (λ macros. c.in_err-more.ensures.stop)
 
 pub returns-in_err-go_on-clause-stop : goal.returns-in_err-go_on-clause-stop
 returns-in_err-go_on-clause-stop c =
     let filling : code_filling.Filling = c.args.waits.filling in
-    let definition = filling.definition.now in
+    let definition = filling.body.definition.now in
     let progress : Progress = c.args.progress.now in
     let now : Progress = c.fill_whole.new.progress in
     let put : List Item = c.args.level.now.out.items in
@@ -43,7 +43,7 @@ returns-in_err-go_on-clause-stop c =
     let becomes : (macros : Macros) → taken_up macros c.args.waits (Ok (gives put progress)) ≡ starts macros c.replace-out.new.dest = λ macros.
     take_up-is macros c.args.waits (gives put progress) more (pieces_in c.append.new.self) now
     (c.in_ok-more.ensures.ok.0 ∙ ap (argument_pieces filling.site c.args.waits.whole) same)
-    (ap (counted (list_any is_hash_hash definition.body)) (sym same) ∙ ap (λ (b : Bool). counted b c.replace-out.result.out.items) (sym c.has_paste-counts.ensures) ∙ c.in_ok-more.ensures.ok.1)
+    (ap (counted (list_any is_hash_hash definition.body)) (sym same) ∙ ap (λ (b : Bool). counted b c.replace-out.result.out.items) (sym c.args.waits.filling.body.has_paste) ∙ c.in_ok-more.ensures.ok.1)
     c.in_ok-append.ensures
     ∙ ap (starts macros) (sym c.replace-out.ensures.after) in
     stops_handed_each c.from_residual-in_err-go_on.result c.in_err-go_on.field-0.0 (λ macros. starts macros c.replace-out.new.dest) (λ macros. taken_up macros c.args.waits (Ok (gives put progress))) c.from_residual-in_err-go_on.ensures.1
@@ -53,7 +53,7 @@ returns-in_err-go_on-clause-stop c =
 pub returns-clause-ok : goal.returns-clause-ok
 returns-clause-ok c = λ macros.
     let filling : code_filling.Filling = c.args.waits.filling in
-    let definition = filling.definition.now in
+    let definition = filling.body.definition.now in
     let progress : Progress = c.args.progress.now in
     let now : Progress = c.fill_whole.new.progress in
     let put : List Item = c.args.level.now.out.items in
@@ -65,7 +65,7 @@ returns-clause-ok c = λ macros.
     let becomes : (macros : Macros) → taken_up macros c.args.waits (Ok (gives put progress)) ≡ starts macros c.replace-out.new.dest = λ macros.
     take_up-is macros c.args.waits (gives put progress) more (pieces_in c.append.new.self) now
     (c.in_ok-more.ensures.ok.0 ∙ ap (argument_pieces filling.site c.args.waits.whole) same)
-    (ap (counted (list_any is_hash_hash definition.body)) (sym same) ∙ ap (λ (b : Bool). counted b c.replace-out.result.out.items) (sym c.has_paste-counts.ensures) ∙ c.in_ok-more.ensures.ok.1)
+    (ap (counted (list_any is_hash_hash definition.body)) (sym same) ∙ ap (λ (b : Bool). counted b c.replace-out.result.out.items) (sym c.args.waits.filling.body.has_paste) ∙ c.in_ok-more.ensures.ok.1)
     c.in_ok-append.ensures
     ∙ ap (starts macros) (sym c.replace-out.ensures.after) in
     ap (outward macros c.args.waiting.now.items) (becomes macros) ∙ c.in_ok-go_on.ensures.ok macros

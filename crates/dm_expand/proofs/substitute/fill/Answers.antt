@@ -1,11 +1,11 @@
 use Rattle.std.proofs.Common.{◌∷◌, [], List, Ok, ap, ◌∙◌, sym, subst}
-use Rattle.dm_expand.specs.declared.body.Role.{Role}
+use Rattle.dm_macro.specs.declared.role.Role.{Role}
 use Rattle.dm_expand.specs.Items.{Item}
 use Rattle.dm_expand.specs.Steps.{Progress, take_argument}
 use Rattle.dm_expand.specs.Laws.{Follows}
 use Rattle.dm_expand.specs.Pastes as pastes
 use Rattle.dm_expand.specs.Substitution as substitution
-use Rattle.dm_expand.specs.Views.{part_with}
+use Rattle.dm_macro.specs.Roles.{part_with}
 use Rattle.dm_expand.specs.ListViews.{fills}
 use Rattle.dm_expand.proofs.FillLemmas.{filled-plain, filled-paste, filled-hash, filled-beside, operand-is}
 use Rattle.dm_expand.proofs.ProgressLemmas.{take_argument-follows}

@@ -6,7 +6,9 @@ use Rattle.dm_macro.specs.Bodies as bodies
 use Rattle.dm_expand.specs.Steps.{Progress}
 use Rattle.dm_expand.specs.Pastes as pastes
 use Rattle.dm_expand.specs.Substitution as substitution
-use Rattle.dm_expand.specs.Views.{piece_value, pieces_in, part_with}
+use Rattle.dm_macro.specs.declared.role.Role.{Role}
+use Rattle.dm_macro.specs.Roles.{part_with}
+use Rattle.dm_expand.specs.Views.{piece_value, pieces_in}
 use Rattle.dm_expand.specs.ListViews.{fills, pieces_before, counted_if}
 use Rattle.dm_expand.specs.Works.{IsContent, parts_from}
 use Rattle.dm_expand.proofs.ListLemmas.{length_map}
@@ -16,17 +18,17 @@ use Rattle.dm_expand.proofs.substitute.fill_at.Goals as goal
 
 pub returns-in_default-clause-ok : goal.returns-in_default-clause-ok
 returns-in_default-clause-ok c = λ expander.
-    let definition = c.args.definition.now in
+    let definition = c.args.body.definition.now in
     let names : List (List ℕ) = bodies.parameters_of definition in
     let body : List PpToken = definition.body in
     let i = c.args.index in
     let rest : List bodies.Part = parts_from definition (i + 1) in
     ap (λ (parts : List bodies.Part). pieces_before (pieces_in c.args.pieces.now) (substitution.filled_all expander c.args.site.now c.args.counts parts c.args.progress.now))
-    (parts-at names body i c.token_at-token.result.now c.requires.inside c.token_at-token.ensures.is ∙ ap (λ (xs : List bodies.Part). xs ++ rest) (sym c.in_default.ensures))
+    (parts-at names body i c.token_at-token.result.now c.requires.inside c.token_at-token.ensures.is ∙ ap (λ (xs : List bodies.Part). xs ++ rest) (sym (c.in_default.ensures c.token_at-token.result.now c.token_at-token.ensures.is).0))
 
 pub returns-in_err-count_if-in-Tokens-clause-stop : goal.returns-in_err-count_if-in-Tokens-clause-stop
 returns-in_err-count_if-in-Tokens-clause-stop c =
-    let definition = c.args.definition.now in
+    let definition = c.args.body.definition.now in
     let names : List (List ℕ) = bodies.parameters_of definition in
     let body : List PpToken = definition.body in
     let i = c.args.index in
@@ -40,7 +42,7 @@ returns-in_err-count_if-in-Tokens-clause-stop c =
     stops_handed_each c.from_residual-in_err-count_if-in-Tokens.result c.in_err-count_if-in-Tokens.field-0.0 (λ expander. counted_if c.args.counts c.place_of-in-Tokens.result c.token_count.result now) _ c.from_residual-in_err-count_if-in-Tokens.ensures.1
     (λ expander other is.
     ap (λ (parts : List bodies.Part). pieces_before pieces (substitution.filled_all expander c.args.site.now c.args.counts parts progress))
-    (parts-at names body i c.token_at-token.result.now c.requires.inside c.token_at-token.ensures.is ∙ ap (λ (xs : List bodies.Part). xs ++ rest) (sym c.in-Some.ensures))
+    (parts-at names body i c.token_at-token.result.now c.requires.inside c.token_at-token.ensures.is ∙ ap (λ (xs : List bodies.Part). xs ++ rest) (sym (c.in-Some.ensures c.token_at-token.result.now c.token_at-token.ensures.is).0))
     ∙ ap (pieces_before pieces) (filled_all-count-stops expander c.args.site.now c.args.counts part rest progress (fills more now) other (content expander)
     (ap (λ (place : Place). counted_if c.args.counts place (length more) now) (sym c.place_of-in-Tokens.ensures)
     ∙ ap (λ (n : ℕ). counted_if c.args.counts c.place_of-in-Tokens.result n now) (sym (c.token_count.ensures ∙ ap (λ (xs : List Item). length xs) c.as_slice.ensures.value ∙ sym (length_map pastes.token c.in-Tokens.more.items)))
@@ -49,7 +51,7 @@ returns-in_err-count_if-in-Tokens-clause-stop c =
 
 pub returns-in-Whole-clause-ok : goal.returns-in-Whole-clause-ok
 returns-in-Whole-clause-ok c = λ expander.
-    let definition = c.args.definition.now in
+    let definition = c.args.body.definition.now in
     let names : List (List ℕ) = bodies.parameters_of definition in
     let body : List PpToken = definition.body in
     let i = c.args.index in
@@ -62,13 +64,13 @@ returns-in-Whole-clause-ok c = λ expander.
     let waits : bodies.Part = bodies.whole c.token_at-token.result.now c.in-Whole.parameter c.in-Whole.occurrence in
     ap (λ (parts : List bodies.Part). pieces_before pieces (substitution.filled_all expander c.args.site.now c.args.counts parts progress))
     (parts-at names body i c.token_at-token.result.now c.requires.inside c.token_at-token.ensures.is
-    ∙ ap (λ (xs : List bodies.Part). xs ++ rest) (sym c.in-Some.ensures)
-    ∙ ap (λ (p : bodies.Part). p ∷ rest) content.0)
+    ∙ ap (λ (xs : List bodies.Part). xs ++ rest) (sym (c.in-Some.ensures c.token_at-token.result.now c.token_at-token.ensures.is).0)
+    ∙ ap (λ (role : Role). part_with c.token_at-token.result.now role ∷ rest) content.0)
     ∙ ap (λ (q : Progress). pieces_before pieces (substitution.filled_all expander c.args.site.now c.args.counts (waits ∷ rest) q)) (sym content.1)
 
 pub returns-in_ok-append-in-Tokens-clause-ok : goal.returns-in_ok-append-in-Tokens-clause-ok
 returns-in_ok-append-in-Tokens-clause-ok c = λ expander.
-    let definition = c.args.definition.now in
+    let definition = c.args.body.definition.now in
     let names : List (List ℕ) = bodies.parameters_of definition in
     let body : List PpToken = definition.body in
     let i = c.args.index in
@@ -82,7 +84,7 @@ returns-in_ok-append-in-Tokens-clause-ok c = λ expander.
     let after : Progress = c.count_if-in-Tokens.new.progress in
     let behind = substitution.filled_all expander c.args.site.now c.args.counts rest after in
     ap (λ (parts : List bodies.Part). pieces_before pieces (substitution.filled_all expander c.args.site.now c.args.counts parts progress))
-    (parts-at names body i c.token_at-token.result.now c.requires.inside c.token_at-token.ensures.is ∙ ap (λ (xs : List bodies.Part). xs ++ rest) (sym c.in-Some.ensures))
+    (parts-at names body i c.token_at-token.result.now c.requires.inside c.token_at-token.ensures.is ∙ ap (λ (xs : List bodies.Part). xs ++ rest) (sym (c.in-Some.ensures c.token_at-token.result.now c.token_at-token.ensures.is).0))
     ∙ ap (pieces_before pieces) (filled_all-part expander c.args.site.now c.args.counts part rest progress (fills more now) after (content expander)
     (ap (λ (place : Place). counted_if c.args.counts place (length more) now) (sym c.place_of-in-Tokens.ensures)
     ∙ ap (λ (n : ℕ). counted_if c.args.counts c.place_of-in-Tokens.result n now) (sym (c.token_count.ensures ∙ ap (λ (xs : List Item). length xs) c.as_slice.ensures.value ∙ sym (length_map pastes.token c.in-Tokens.more.items)))
@@ -92,7 +94,7 @@ returns-in_ok-append-in-Tokens-clause-ok c = λ expander.
 
 pub returns-in_err-count_if-in-One-clause-stop : goal.returns-in_err-count_if-in-One-clause-stop
 returns-in_err-count_if-in-One-clause-stop c =
-    let definition = c.args.definition.now in
+    let definition = c.args.body.definition.now in
     let names : List (List ℕ) = bodies.parameters_of definition in
     let body : List PpToken = definition.body in
     let i = c.args.index in
@@ -106,7 +108,7 @@ returns-in_err-count_if-in-One-clause-stop c =
     stops_handed_each c.from_residual-in_err-count_if-in-One.result c.in_err-count_if-in-One.field-0.0 (λ expander. counted_if c.args.counts c.place_of.result 1 now) _ c.from_residual-in_err-count_if-in-One.ensures.1
     (λ expander other is.
     ap (λ (parts : List bodies.Part). pieces_before pieces (substitution.filled_all expander c.args.site.now c.args.counts parts progress))
-    (parts-at names body i c.token_at-token.result.now c.requires.inside c.token_at-token.ensures.is ∙ ap (λ (xs : List bodies.Part). xs ++ rest) (sym c.in-Some.ensures))
+    (parts-at names body i c.token_at-token.result.now c.requires.inside c.token_at-token.ensures.is ∙ ap (λ (xs : List bodies.Part). xs ++ rest) (sym (c.in-Some.ensures c.token_at-token.result.now c.token_at-token.ensures.is).0))
     ∙ ap (pieces_before pieces) (filled_all-count-stops expander c.args.site.now c.args.counts part rest progress (fills more now) other (content expander)
     (ap (λ (place : Place). counted_if c.args.counts place (length more) now) (sym c.place_of.ensures)
     ∙ is)))
@@ -114,7 +116,7 @@ returns-in_err-count_if-in-One-clause-stop c =
 
 pub returns-in_ok-push-in-One-clause-ok : goal.returns-in_ok-push-in-One-clause-ok
 returns-in_ok-push-in-One-clause-ok c = λ expander.
-    let definition = c.args.definition.now in
+    let definition = c.args.body.definition.now in
     let names : List (List ℕ) = bodies.parameters_of definition in
     let body : List PpToken = definition.body in
     let i = c.args.index in
@@ -128,7 +130,7 @@ returns-in_ok-push-in-One-clause-ok c = λ expander.
     let after : Progress = c.count_if.new.progress in
     let behind = substitution.filled_all expander c.args.site.now c.args.counts rest after in
     ap (λ (parts : List bodies.Part). pieces_before pieces (substitution.filled_all expander c.args.site.now c.args.counts parts progress))
-    (parts-at names body i c.token_at-token.result.now c.requires.inside c.token_at-token.ensures.is ∙ ap (λ (xs : List bodies.Part). xs ++ rest) (sym c.in-Some.ensures))
+    (parts-at names body i c.token_at-token.result.now c.requires.inside c.token_at-token.ensures.is ∙ ap (λ (xs : List bodies.Part). xs ++ rest) (sym (c.in-Some.ensures c.token_at-token.result.now c.token_at-token.ensures.is).0))
     ∙ ap (pieces_before pieces) (filled_all-part expander c.args.site.now c.args.counts part rest progress (fills more now) after (content expander)
     (ap (λ (place : Place). counted_if c.args.counts place (length more) now) (sym c.place_of.ensures)
     ∙ c.in_ok-count_if-in-One.ensures.ok))

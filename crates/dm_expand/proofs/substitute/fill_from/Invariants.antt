@@ -9,6 +9,6 @@ use Rattle.dm_expand.proofs.substitute.fill_from.Given as goal
 abbrev pub invariant-parts : goal.invariant-parts
 invariant-parts l =
     ((expander : Expander) →
-    pieces_before (pieces_in l.fn.pieces) (filled_all expander l.site l.counts (parts_from l.definition l.from) l.fn.progress)
-    ≡ pieces_before (pieces_in l.pieces) (filled_all expander l.site l.counts (parts_from l.definition l.index) l.progress))
+    pieces_before (pieces_in l.fn.pieces) (filled_all expander l.site l.counts (parts_from l.body.definition.now l.from) l.fn.progress)
+    ≡ pieces_before (pieces_in l.pieces) (filled_all expander l.site l.counts (parts_from l.body.definition.now l.index) l.progress))
     × Follows l.fn.progress l.progress × IsWithin l.progress

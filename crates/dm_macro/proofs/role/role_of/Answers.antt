@@ -41,7 +41,7 @@ returns-in_ok-small-in-Some c =
           ∙ ap (parameter_part names before token behind) same
           ∙ other_token names before token behind (Some parameter) (sym c.is_hash_hash.ensures ∙ c.if-is_hash_hash.false) some,
       c.parameter_role.ensures.last names (λ last.
-        ap (λ p. places_of names p behind) same
+          ap (λ p. places_of names p behind) same
           ∙ last-place names parameter before token behind c.count_of-places.result c.count_of.result seen (c.count_of.ensures ∙ c.requires.all parameter) some
           (sym c.saturating_sub-last.ensures ∙ eqb-true _ 1 last)),
     )

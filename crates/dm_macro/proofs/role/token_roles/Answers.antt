@@ -23,10 +23,10 @@ tokens-preserved c =
     let token : PpToken = c.token_at.result.now in
     let role : Option Role = c.in_ok-role.role in (
       λ parameter.
-        c.in_ok-count.ensures parameter
+          c.in_ok-count.ensures parameter
           ∙ ap (λ n. n + counted names parameter token) (c.tokens.invariant.0 parameter)
           ∙ sym (places-more names parameter definition.body i token below c.token_at.ensures),
       subst (AreRolesOf definition) (sym c.in_ok-push.ensures.items)
-        (roles-more definition c.tokens.roles.items role c.tokens.invariant.1 (subst (λ n. IsRoleAt definition n role) (sym c.tokens.invariant.2) c.in_ok-role.ensures)),
+          (roles-more definition c.tokens.roles.items role c.tokens.invariant.1 (subst (λ n. IsRoleAt definition n role) (sym c.tokens.invariant.2) c.in_ok-role.ensures)),
       omega (arith, ap length c.in_ok-push.ensures.items, length-append c.tokens.roles.items (role ∷ []), c.tokens.invariant.2),
     )

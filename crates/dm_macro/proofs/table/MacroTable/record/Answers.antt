@@ -19,24 +19,28 @@ kept_roles : (before after : List Definition) (all later : List code_roles.Roles
 kept_roles before after all later read same are = subst (AreAllRoles after) (sym same) (subst (λ ds. AreAllRoles ds all) (sym read) are)
 
 pub invariant_of-self : goal.invariant_of-self
-invariant_of-self c =
-    (kept c.self.inside.read.items c.reserve.new.self.items c.self.inside.names c.self.inside.names c.reserve.ensures.items refl c.self.invariant.0,
-    kept_roles c.self.inside.read.items c.reserve.new.self.items c.self.inside.roles.items c.self.inside.roles.items c.reserve.ensures.items refl c.self.invariant.1)
+invariant_of-self c = (
+  kept c.self.inside.read.items c.reserve.new.self.items c.self.inside.names c.self.inside.names c.reserve.ensures.items refl c.self.invariant.0,
+  kept_roles c.self.inside.read.items c.reserve.new.self.items c.self.inside.roles.items c.self.inside.roles.items c.reserve.ensures.items refl c.self.invariant.1,
+)
 
 pub invariant_of-self-in_err-reserve-2 : goal.invariant_of-self-in_err-reserve-2
-invariant_of-self-in_err-reserve-2 c =
-    (kept c.self.inside.read.items c.reserve.new.self.items c.self.inside.names c.self.inside.names c.reserve.ensures.items refl c.self.invariant.0,
-    kept_roles c.self.inside.read.items c.reserve.new.self.items c.self.inside.roles.items c.reserve-2.new.self.items c.reserve.ensures.items c.reserve-2.ensures.items c.self.invariant.1)
+invariant_of-self-in_err-reserve-2 c = (
+  kept c.self.inside.read.items c.reserve.new.self.items c.self.inside.names c.self.inside.names c.reserve.ensures.items refl c.self.invariant.0,
+  kept_roles c.self.inside.read.items c.reserve.new.self.items c.self.inside.roles.items c.reserve-2.new.self.items c.reserve.ensures.items c.reserve-2.ensures.items c.self.invariant.1,
+)
 
 pub invariant_of-self-in_err-copy : goal.invariant_of-self-in_err-copy
-invariant_of-self-in_err-copy c =
-    (kept c.self.inside.read.items c.reserve.new.self.items c.self.inside.names c.self.inside.names c.reserve.ensures.items refl c.self.invariant.0,
-    kept_roles c.self.inside.read.items c.reserve.new.self.items c.self.inside.roles.items c.reserve-2.new.self.items c.reserve.ensures.items c.reserve-2.ensures.items c.self.invariant.1)
+invariant_of-self-in_err-copy c = (
+  kept c.self.inside.read.items c.reserve.new.self.items c.self.inside.names c.self.inside.names c.reserve.ensures.items refl c.self.invariant.0,
+  kept_roles c.self.inside.read.items c.reserve.new.self.items c.self.inside.roles.items c.reserve-2.new.self.items c.reserve.ensures.items c.reserve-2.ensures.items c.self.invariant.1,
+)
 
 pub invariant_of-self-in_err-insert : goal.invariant_of-self-in_err-insert
-invariant_of-self-in_err-insert c =
-    (kept c.self.inside.read.items c.reserve.new.self.items c.self.inside.names c.insert.new.self c.reserve.ensures.items c.in_err-insert.ensures.err c.self.invariant.0,
-    kept_roles c.self.inside.read.items c.reserve.new.self.items c.self.inside.roles.items c.reserve-2.new.self.items c.reserve.ensures.items c.reserve-2.ensures.items c.self.invariant.1)
+invariant_of-self-in_err-insert c = (
+  kept c.self.inside.read.items c.reserve.new.self.items c.self.inside.names c.insert.new.self c.reserve.ensures.items c.in_err-insert.ensures.err c.self.invariant.0,
+  kept_roles c.self.inside.read.items c.reserve.new.self.items c.self.inside.roles.items c.reserve-2.new.self.items c.reserve.ensures.items c.reserve-2.ensures.items c.self.invariant.1,
+)
 
 -- the names after the definition
 names_after : (c : goal.After-push_reserved-2) → c.if-is_none.self-inside.names ≡ with_name c.self.inside.names c.args.definition.name (length c.self.inside.read.items)
@@ -75,6 +79,7 @@ invariant_of-self-2 c =
     let definition = c.args.definition in
     let before : List Definition = c.self.inside.read.items in
     let read = c.push_reserved.ensures.items ∙ ap (λ items. items ++ definition ∷ []) (read_before c) in
-    let roles = c.push_reserved-2.ensures.items ∙ ap (λ items. items ++ c.args.roles ∷ []) (roles_before c) in
-    (kept (before ++ definition ∷ []) c.push_reserved.new.self.items (with_name c.self.inside.names definition.name (length before)) c.if-is_none.self-inside.names read (names_after c) (recorded_sound before c.self.inside.names definition c.self.invariant.0),
-    kept_roles (before ++ definition ∷ []) c.push_reserved.new.self.items (c.self.inside.roles.items ++ c.args.roles ∷ []) c.push_reserved-2.new.self.items read roles (all-more before c.self.inside.roles.items definition c.args.roles c.self.invariant.1 c.requires.roles))
+    let roles = c.push_reserved-2.ensures.items ∙ ap (λ items. items ++ c.args.roles ∷ []) (roles_before c) in (
+      kept (before ++ definition ∷ []) c.push_reserved.new.self.items (with_name c.self.inside.names definition.name (length before)) c.if-is_none.self-inside.names read (names_after c) (recorded_sound before c.self.inside.names definition c.self.invariant.0),
+      kept_roles (before ++ definition ∷ []) c.push_reserved.new.self.items (c.self.inside.roles.items ++ c.args.roles ∷ []) c.push_reserved-2.new.self.items read roles (all-more before c.self.inside.roles.items definition c.args.roles c.self.invariant.1 c.requires.roles),
+    )
