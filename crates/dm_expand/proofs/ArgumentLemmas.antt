@@ -1,7 +1,7 @@
 -- Invocations, a token at a time.
-use Rattle.std.proofs.Common.{◌≡◌, ℕ, zero, suc, ◌-◌, Bool, true, false, cond, ◌&&◌, eqb, nat_lt, List, [], ◌∷◌, ◌++◌, length, refl, sym, ap, ◌∙◌, Option, Some, None, append_assoc}
+use Rattle.std.proofs.Common.{◌≡◌, ℕ, zero, suc, ◌+◌, ◌-◌, ◌<◌, ◌≤◌, Bool, true, false, cond, ◌&&◌, eqb, nat_lt, List, [], ◌∷◌, ◌++◌, length, take, drop, get_or, refl, sym, ap, ◌∙◌, Option, Some, None, append_assoc}
 use Rattle.std.proofs.lemmas.Bool.{cond-true, cond-false, false≢true}
-use Rattle.std.proofs.lemmas.List.{append-nil}
+use Rattle.std.proofs.lemmas.List.{append-nil, at_drop_more, drop_all, take_all, take_more}
 use Rattle.dm_expand.specs.Items.{Item}
 use Rattle.dm_expand.specs.Arguments.{Enclosed, enclosed_in, inside_too, depth_behind, closes, separates, in_first, separated, exact_arguments}
 use Rattle.dm_expand.specs.Views.{all_inside, in_front, is_one_empty}
@@ -98,6 +98,28 @@ pub separated-last : (all given : List (List Item)) (current : List Item) (comma
     → all ≡ given ++ in_front current (separated commas depth []) → all ≡ given ++ current ∷ []
 separated-last all given current commas depth before =
     before ∙ ap (λ x. given ++ in_front current x) (separated-nothing commas depth) ∙ ap (λ (x : List Item). given ++ x ∷ []) (append-nil current)
+
+-- one token more of a list without a comma so far
+pub unseparated-more : (all : List (List Item)) (items : List Item) (commas depth i : ℕ) (item : Item) → i < length items → item ≡ get_or items i item
+    → all ≡ in_front (take i items) (separated commas depth (drop i items)) → ((separates item && eqb depth 0) && nat_lt 0 commas) ≡ false
+    → all ≡ in_front (take (i + 1) items) (separated commas (depth_behind depth item) (drop (i + 1) items))
+unseparated-more all items commas depth i item lt at before is =
+    let rest : List Item = drop (i + 1) items in
+    before
+    ∙ at_drop_more (λ (xs : List Item). in_front (take i items) (separated commas depth xs)) items i item lt
+    ∙ ap (λ (x : Item). in_front (take i items) (separated commas depth (x ∷ rest))) (sym at)
+    ∙ ap (in_front (take i items)) (separated-goes_on commas depth item rest is)
+    ∙ in_front-more (take i items) item (separated commas (depth_behind depth item) rest)
+    ∙ ap (λ (xs : List Item). in_front xs (separated commas (depth_behind depth item) rest)) (sym (take_more items i item lt ∙ ap (λ (x : Item). take i items ++ x ∷ []) (sym at)))
+
+-- a list without a comma
+pub unseparated-last : (all : List (List Item)) (items : List Item) (commas depth i : ℕ) → length items ≤ i
+    → all ≡ in_front (take i items) (separated commas depth (drop i items)) → all ≡ items ∷ []
+unseparated-last all items commas depth i past before =
+    before
+    ∙ ap (λ (xs : List Item). in_front (take i items) (separated commas depth xs)) (drop_all i items past)
+    ∙ ap (in_front (take i items)) (separated-nothing commas depth)
+    ∙ ap (λ (xs : List Item). xs ∷ []) (append-nil (take i items) ∙ take_all i items past)
 
 pub exact-nothing : (given : List (List Item)) → exact_arguments 0 given ≡ cond (is_one_empty given) (Some []) None
 unfolding exact_arguments

@@ -74,6 +74,16 @@ unfolding begins_with
 prefix-begins [] rest = refl
 prefix-begins (mark ∷ name) rest = and_from _ _ (same_mark-itself mark) (prefix-begins name rest)
 
+-- no mark at all is how each trail begins
+pub begins-nothing : (name trail : List Mark) → length name ≡ 0 → true ≡ begins_with name trail
+unfolding begins_with
+begins-nothing [] trail none = refl
+begins-nothing (mark ∷ marks) trail none = absurd (omega arith)
+
+pub common-nothing : (left right : List Mark) → length left ≡ 0 → IsLongestCommonPrefix left right []
+common-nothing [] right none = (([], refl), (right, refl), λ shared mine theirs. mine)
+common-nothing (mark ∷ marks) right none = absurd (omega arith)
+
 -- a test that says whether a trail begins with another is the one of the definition
 pub begins-is : (name trail : List Mark) (b : Bool) → (IsTrue b ↔ IsPrefix name trail) → b ≡ begins_with name trail
 begins-is name trail b means =

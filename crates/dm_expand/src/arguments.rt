@@ -1,4 +1,4 @@
-ghost use Rattle.std.specs.Prelude.{◌≡◌, ◌==◌, ◌&&◌, nat_lt, ◌≤◌, ◌<◌, ◌+◌, ◌^◌, [], ◌∷◌, length, IfOk, MatchOption, option_map};
+ghost use Rattle.std.specs.Prelude.{◌≡◌, false, ◌==◌, ◌&&◌, nat_lt, ◌≤◌, ◌<◌, ◌+◌, ◌^◌, [], ◌∷◌, length, IfOk, MatchOption, option_map};
 ghost use Rattle.dm_macro.specs.Bodies.{named_parameters};
 ghost use Rattle.dm_macro.specs.Signs as sign;
 ghost use Rattle.dm_expand.specs.Arguments as arguments;
@@ -92,13 +92,31 @@ pub fn take_enclosed(alloc: Global, queue: &mut VecDeque<Item>) -> Result<Option
     Ok(None)
 }
 
+// Whether a comma that no inner parentheses enclose separates arguments, where there may be so many commas.
+fn is_separated(commas: usize, inside: &[Item]) -> bool
+    ensures { result ≡ false → arguments.separated commas 0 inside.now ≡ inside.now ∷ [] }
+{
+    let mut depth = 0;
+    for item in inside {
+        if ends_argument(commas, depth, item) {
+            return true;
+        }
+        depth = depth_behind(depth, item);
+    }
+    false
+}
+
 // The tokens between the commas that no inner parentheses enclose, up to so many commas. What stands behind these is one
 // argument.
 fn separated(alloc: Global, commas: usize, inside: List<Item>) -> Result<List<List<Item>>, Memory>
     ensures { IfOk result (λ given. given ≡ arguments.separated commas 0 inside) }
 {
-    let mut queue = VecDeque::from(inside.into_vec());
     let mut given = List::new(alloc);
+    if !is_separated(commas, inside.items()) {
+        given.push(inside)?;
+        return Ok(given);
+    }
+    let mut queue = VecDeque::from(inside.into_vec());
     let mut current = Vec::new(alloc);
     let mut left = commas;
     let mut depth = 0;

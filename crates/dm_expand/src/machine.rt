@@ -56,10 +56,16 @@ pub struct Waiting<'a> {
     pub whole: Whole<'a>,
 }
 
-// Puts tokens before others.
+// Puts tokens before others, and moves the fewer of them.
 fn put_before(tokens: Vec<Item>, rest: &mut VecDeque<Item>) -> Result<(), Memory>
     ensures { OnOk result (rest.new.items ≡ tokens.items ++ rest.old.items) }
 {
+    if rest.len() < tokens.len() {
+        let mut all = VecDeque::from(tokens);
+        all.append(rest)?;
+        *rest = all;
+        return Ok(());
+    }
     let mut tokens = tokens;
     'tokens: while let Some(item) = tokens.pop() {
         rest.push_front(item)?;

@@ -1,5 +1,7 @@
-ghost use Rattle.std.specs.Prelude.{◌≡◌, ◌≤◌, [], ◌∷◌, ◌++◌, length, take, drop, reverse, slice_get, IfOk, OnOk, IsTrue, MatchOption};
+ghost use Rattle.std.specs.Prelude.{◌≡◌, ◌≤◌, List as Sequence, [], ◌∷◌, ◌++◌, length, take, drop, reverse, slice_get, IfOk, OnOk, IsTrue, MatchOption};
 ghost use Rattle.std.specs.List.{list_any};
+ghost use Rattle.dm_token.specs.declared.expansion.Mark.{Mark};
+ghost use Rattle.dm_token.specs.Prefixes.{IsLongestCommonPrefix};
 ghost use Rattle.dm_expand.specs.Trails as trails;
 ghost use Rattle.dm_expand.specs.Ways as ways;
 
@@ -79,6 +81,16 @@ fn are_same(left: &Trail, right: &Trail) -> bool
     *left == *right
 }
 
+// How many marks two trails share from the outermost on.
+fn shared_count(left: &Trail, right: &Trail) -> u32
+    ensures { (both : Sequence Mark) × IsLongestCommonPrefix left.now right.now both × (result ≡ length both) }
+{
+    if left.length() == 0 {
+        return 0;
+    }
+    left.common(right).length()
+}
+
 /// The way of an argument to one of its parameter's places. Contracts see the trail of the macro's name, and the base:
 /// that trail with the marks of the expansion and of the argument. Neighbours mostly came alike, so the last trail that
 /// was led on is kept with what became of it, and the next one shares what it can.
@@ -142,14 +154,14 @@ impl Way {
         ensures led { IfOk result (λ longer. longer ≡ ways.led self.old trail.now) }
         ensures same { self.new ≡ self.old }
     {
-        let known = self.last.common(trail).length();
+        let known = shared_count(&self.last, trail);
         let behind = self.last.length() - known;
         if behind < self.became.length() - self.base.length() {
             let front = outermost(&self.became, self.became.length() - behind).copy()?;
             let longer = regrown(&mut self.marks, front, trail, known)?;
             return Ok(longer);
         }
-        let shared = self.name.common(trail).length();
+        let shared = shared_count(&self.name, trail);
         let base = self.base.copy()?;
         let longer = regrown(&mut self.marks, base, trail, shared)?;
         Ok(longer)
@@ -160,6 +172,9 @@ impl Way {
 pub fn begins_with(name: &Trail, trail: &Trail) -> bool
     ensures { result ≡ trails.begins_with name.now trail.now }
 {
+    if name.length() == 0 {
+        return true;
+    }
     name.begins(trail)
 }
 

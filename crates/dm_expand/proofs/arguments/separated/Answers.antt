@@ -28,9 +28,9 @@ tokens-preserved-then-ends_argument c =
       separated-next _ given current c.tokens.left c.tokens.depth item rest
           (c.tokens.invariant.0 ∙ ap (λ (xs : List Item). given ++ in_front current (arguments.separated c.tokens.left c.tokens.depth xs)) c.in-Some.ensures)
           (sym c.if-ends_argument.ensures)
-          ∙ ap (λ (g : List (List Item)). g ++ in_front [] (arguments.separated (c.tokens.left - 1) c.tokens.depth rest)) (sym (c.in_ok-push.ensures.ok ∙ ap (λ (xs : List Item). given ++ xs ∷ []) c.from_vec.ensures))
-          ∙ ap (λ (xs : List Item). c.push.new.self ++ in_front xs (arguments.separated (c.tokens.left - 1) c.tokens.depth rest)) (sym c.new-current-then-ends_argument.ensures.items)
-          ∙ ap (λ (n : ℕ). c.push.new.self ++ in_front c.new-current-then-ends_argument.result.items (arguments.separated n c.tokens.depth rest)) (sym c.saturating_sub-left.ensures),
+          ∙ ap (λ (g : List (List Item)). g ++ in_front [] (arguments.separated (c.tokens.left - 1) c.tokens.depth rest)) (sym (c.in_ok-push-2.ensures.ok ∙ ap (λ (xs : List Item). given ++ xs ∷ []) c.from_vec.ensures))
+          ∙ ap (λ (xs : List Item). c.push-then-ends_argument.new.self ++ in_front xs (arguments.separated (c.tokens.left - 1) c.tokens.depth rest)) (sym c.new-current-then-ends_argument.ensures.items)
+          ∙ ap (λ (n : ℕ). c.push-then-ends_argument.new.self ++ in_front c.new-current-then-ends_argument.result.items (arguments.separated n c.tokens.depth rest)) (sym c.saturating_sub-left.ensures),
       omega (arith, outside),
     )
 
@@ -44,16 +44,16 @@ tokens-preserved c =
       separated-more _ given current c.tokens.left depth item rest
           (c.tokens.invariant.0 ∙ ap (λ (xs : List Item). given ++ in_front current (arguments.separated c.tokens.left depth xs)) c.in-Some.ensures)
           (sym c.if-ends_argument.ensures)
-          ∙ ap (λ (xs : List Item). given ++ in_front xs (arguments.separated c.tokens.left (arguments.depth_behind depth item) rest)) (sym c.in_ok-push-2.ensures.items)
+          ∙ ap (λ (xs : List Item). given ++ in_front xs (arguments.separated c.tokens.left (arguments.depth_behind depth item) rest)) (sym c.in_ok-push-3.ensures.items)
           ∙ ap (λ (d : ℕ). given ++ in_front c.push-else-ends_argument.new.self.items (arguments.separated c.tokens.left d rest)) (sym c.depth_behind-depth.ensures.is),
-      omega (arith, c.depth_behind-depth.ensures.near, ap length c.in_ok-push-2.ensures.items, length-append current (item ∷ []), c.tokens.invariant.1),
+      omega (arith, c.depth_behind-depth.ensures.near, ap length c.in_ok-push-3.ensures.items, length-append current (item ∷ []), c.tokens.invariant.1),
     )
 
 pub returns : goal.returns
 returns c =
     let given : List (List Item) = c.tokens.given in
     let current : List Item = c.tokens.current.items in
-    c.in_ok-push-3.ensures.ok
+    c.in_ok-push-4.ensures.ok
     ∙ ap (λ (xs : List Item). given ++ xs ∷ []) c.from_vec-2.ensures
     ∙ sym (separated-last _ given current c.tokens.left c.tokens.depth
     (c.tokens.invariant.0 ∙ ap (λ (xs : List Item). given ++ in_front current (arguments.separated c.tokens.left c.tokens.depth xs)) c.in_default.ensures.0))
