@@ -5,9 +5,8 @@ use Rattle.std.specs.List.{position_from}
 use Rattle.std.proofs.lemmas.Bool.{cond-true, cond-false}
 use Rattle.std.proofs.lemmas.List.{at_drop_more}
 use Rattle.dm_token.specs.declared.token.PpToken.{PpToken}
-use Rattle.dm_token.specs.declared.expansion.Definition.{Definition}
 use Rattle.dm_macro.specs.Signs.{is_identifier, is_word, variable_arguments}
-use Rattle.dm_macro.specs.Bodies.{named_parameters, is_last, parameter_of, parameters_of}
+use Rattle.dm_macro.specs.Bodies.{names_with, is_last, parameter_of}
 
 -- what is left of a list, and its first item
 pub next_is : {A B : Type 0} (whole : List A → B) (items : List A) (i : ℕ) (item : A) (all : B) → i < length items → item ≡ get_or items i item → whole (drop i items) ≡ all → whole (item ∷ drop (i + 1) items) ≡ all
@@ -36,48 +35,48 @@ position_from-front test at place (x ∷ xs) ys some =
 abbrev others_of : Bool → List (List ℕ)
 others_of variadic = cond variadic (variable_arguments ∷ []) []
 
-pub parameter_of-other : (definition : Definition) (pp : PpToken) → false ≡ is_identifier pp → None ≡ parameter_of (parameters_of definition) pp
+pub parameter_of-other : (names : List (List ℕ)) (pp : PpToken) → false ≡ is_identifier pp → None ≡ parameter_of names pp
 unfolding parameter_of
-parameter_of-other definition pp other = sym (cond-false _ _ _ (sym other))
+parameter_of-other names pp other = sym (cond-false _ _ _ (sym other))
 
-pub parameter_of-named : (definition : Definition) (pp : PpToken) (place : ℕ) → true ≡ is_identifier pp → Some place ≡ position_from (bytes_eq pp.spelling) 0 (named_parameters definition.parameters) → Some place ≡ parameter_of (parameters_of definition) pp
-unfolding parameter_of parameters_of
-parameter_of-named definition pp place identifier found =
-    sym (cond-true _ _ _ (sym identifier) ∙ position_from-front (bytes_eq pp.spelling) 0 place (named_parameters definition.parameters) (others_of definition.variadic) (sym found))
+pub parameter_of-named : (names : List (List ℕ)) (variadic : Bool) (pp : PpToken) (place : ℕ) → true ≡ is_identifier pp → Some place ≡ position_from (bytes_eq pp.spelling) 0 names → Some place ≡ parameter_of (names_with names variadic) pp
+unfolding parameter_of
+parameter_of-named names variadic pp place identifier found =
+    sym (cond-true _ _ _ (sym identifier) ∙ position_from-front (bytes_eq pp.spelling) 0 place names (others_of variadic) (sym found))
 
 -- a name that none of the named parameters has
-behind_named : (definition : Definition) (pp : PpToken) → true ≡ is_identifier pp → None ≡ position_from (bytes_eq pp.spelling) 0 (named_parameters definition.parameters)
-    → parameter_of (parameters_of definition) pp ≡ position_from (bytes_eq pp.spelling) (0 + length (named_parameters definition.parameters)) (others_of definition.variadic)
-unfolding parameter_of parameters_of
-behind_named definition pp identifier none =
-    cond-true _ _ _ (sym identifier) ∙ position_from-append (bytes_eq pp.spelling) 0 (named_parameters definition.parameters) (others_of definition.variadic) (sym none)
+behind_named : (names : List (List ℕ)) (variadic : Bool) (pp : PpToken) → true ≡ is_identifier pp → None ≡ position_from (bytes_eq pp.spelling) 0 names
+    → parameter_of (names_with names variadic) pp ≡ position_from (bytes_eq pp.spelling) (0 + length names) (others_of variadic)
+unfolding parameter_of
+behind_named names variadic pp identifier none =
+    cond-true _ _ _ (sym identifier) ∙ position_from-append (bytes_eq pp.spelling) 0 names (others_of variadic) (sym none)
 
 and_last : (a b : Bool) → true ≡ a → (a && b) ≡ b
 and_last a b is = ap (λ x. x && b) (sym is)
 
-pub parameter_of-variable : (definition : Definition) (pp : PpToken) → true ≡ is_identifier pp → None ≡ position_from (bytes_eq pp.spelling) 0 (named_parameters definition.parameters)
-    → definition.variadic ≡ true → true ≡ is_word variable_arguments pp → Some (length (named_parameters definition.parameters)) ≡ parameter_of (parameters_of definition) pp
-parameter_of-variable definition pp identifier none variadic word =
-    let count = length (named_parameters definition.parameters) in
+pub parameter_of-variable : (names : List (List ℕ)) (variadic : Bool) (pp : PpToken) → true ≡ is_identifier pp → None ≡ position_from (bytes_eq pp.spelling) 0 names
+    → variadic ≡ true → true ≡ is_word variable_arguments pp → Some (length names) ≡ parameter_of (names_with names variadic) pp
+parameter_of-variable names variadic pp identifier none is_so word =
+    let count = length names in
     let same : 0 + count ≡ count = omega arith in
-    sym (behind_named definition pp identifier none
-    ∙ ap (λ v. position_from (bytes_eq pp.spelling) (0 + count) (others_of v)) variadic
+    sym (behind_named names variadic pp identifier none
+    ∙ ap (λ v. position_from (bytes_eq pp.spelling) (0 + count) (others_of v)) is_so
     ∙ cond-true _ _ _ (sym (and_last _ (bytes_eq pp.spelling variable_arguments) identifier) ∙ sym word)
     ∙ ap (λ (n : ℕ). Some n) same)
 
-pub parameter_of-word : (definition : Definition) (pp : PpToken) → true ≡ is_identifier pp → None ≡ position_from (bytes_eq pp.spelling) 0 (named_parameters definition.parameters)
-    → definition.variadic ≡ true → false ≡ is_word variable_arguments pp → None ≡ parameter_of (parameters_of definition) pp
-parameter_of-word definition pp identifier none variadic word =
-    let count = length (named_parameters definition.parameters) in
-    sym (behind_named definition pp identifier none
-    ∙ ap (λ v. position_from (bytes_eq pp.spelling) (0 + count) (others_of v)) variadic
+pub parameter_of-word : (names : List (List ℕ)) (variadic : Bool) (pp : PpToken) → true ≡ is_identifier pp → None ≡ position_from (bytes_eq pp.spelling) 0 names
+    → variadic ≡ true → false ≡ is_word variable_arguments pp → None ≡ parameter_of (names_with names variadic) pp
+parameter_of-word names variadic pp identifier none is_so word =
+    let count = length names in
+    sym (behind_named names variadic pp identifier none
+    ∙ ap (λ v. position_from (bytes_eq pp.spelling) (0 + count) (others_of v)) is_so
     ∙ cond-false _ _ _ (sym (and_last _ (bytes_eq pp.spelling variable_arguments) identifier) ∙ sym word))
 
-pub parameter_of-fixed : (definition : Definition) (pp : PpToken) → true ≡ is_identifier pp → None ≡ position_from (bytes_eq pp.spelling) 0 (named_parameters definition.parameters)
-    → definition.variadic ≡ false → None ≡ parameter_of (parameters_of definition) pp
-parameter_of-fixed definition pp identifier none variadic =
-    let count = length (named_parameters definition.parameters) in
-    sym (behind_named definition pp identifier none ∙ ap (λ v. position_from (bytes_eq pp.spelling) (0 + count) (others_of v)) variadic)
+pub parameter_of-fixed : (names : List (List ℕ)) (variadic : Bool) (pp : PpToken) → true ≡ is_identifier pp → None ≡ position_from (bytes_eq pp.spelling) 0 names
+    → variadic ≡ false → None ≡ parameter_of (names_with names variadic) pp
+parameter_of-fixed names variadic pp identifier none is_so =
+    let count = length names in
+    sym (behind_named names variadic pp identifier none ∙ ap (λ v. position_from (bytes_eq pp.spelling) (0 + count) (others_of v)) is_so)
 
 -- the last token, by its index
 pub is_last-at : (test : PpToken → Bool) (tokens : List PpToken) (last : PpToken) → 0 < length tokens → last ≡ get_or tokens (length tokens - 1) last → is_last test tokens ≡ test last

@@ -4,6 +4,7 @@ pub mod HashLemmas
 pub mod Listings
 pub mod MapLemmas
 pub mod NameSetLemmas
+pub mod NamedLemmas
 pub mod NumberSets
 pub mod RoleLemmas
 pub mod SameLemmas

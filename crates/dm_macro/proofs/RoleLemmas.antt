@@ -8,7 +8,7 @@ use Rattle.dm_token.specs.declared.token.PpToken.{PpToken}
 use Rattle.dm_token.specs.declared.expansion.Definition.{Definition}
 use Rattle.dm_macro.specs.declared.role.Role.{Role}
 use Rattle.dm_macro.specs.declared.role.Roles as code_roles
-use Rattle.dm_macro.specs.Bodies.{is_at, parameter_of, parameters_of, places_of}
+use Rattle.dm_macro.specs.Bodies.{is_at, parameter_of, places_of}
 use Rattle.dm_macro.specs.Roles.{IsRoleAt, AreRolesOf, AreRoles, AreAllRoles, AreCounts}
 
 -- PLACES OF A PARAMETER
@@ -79,12 +79,12 @@ push-count (count ∷ counts) (suc other) = push-count counts other
 -- THE TOKENS OF A REPLACEMENT LIST
 
 -- one more token
-pub roles-more : (definition : Definition) (roles : List (Option Role)) (role : Option Role) → AreRolesOf definition roles → IsRoleAt definition (length roles) role → AreRolesOf definition (roles ++ role ∷ [])
-roles-more definition roles role are is index lt =
+pub roles-more : (names : List (List ℕ)) (body : List PpToken) (roles : List (Option Role)) (role : Option Role) → AreRolesOf names body roles → IsRoleAt names body (length roles) role → AreRolesOf names body (roles ++ role ∷ [])
+roles-more names body roles role are is index lt =
     ⊎_elim
-    (λ yes. subst (IsRoleAt definition index) (sym (ap (λ n. get_or (roles ++ role ∷ []) n None) (yes.1 ∙ at-end) ∙ get_or-append-add roles (role ∷ []) 0 None)) (subst (λ n. IsRoleAt definition n role) (sym yes.1) is))
+    (λ yes. subst (IsRoleAt names body index) (sym (ap (λ n. get_or (roles ++ role ∷ []) n None) (yes.1 ∙ at-end) ∙ get_or-append-add roles (role ∷ []) 0 None)) (subst (λ n. IsRoleAt names body n role) (sym yes.1) is))
     (λ no. let below : index < length roles = omega (arith, lt, no.1, length-append roles (role ∷ [])) in
-    subst (IsRoleAt definition index) (sym (get_or_append_left roles (role ∷ []) None index below)) (are index below))
+    subst (IsRoleAt names body index) (sym (get_or_append_left roles (role ∷ []) None index below)) (are index below))
     (eqb_tells index (length roles))
   where
     at-end : length roles ≡ length roles + 0

@@ -23,9 +23,13 @@ unfoldable pub named_parameters : Option (List (List ℕ)) → List (List ℕ)
 named_parameters None = []
 named_parameters (Some names) = names
 
--- the parameters' names, `__VA_ARGS__` last (6.10.3.1p2)
+-- parameters' names, `__VA_ARGS__` last where there are variable arguments (6.10.3.1p2)
+abbrev pub names_with : List (List ℕ) → Bool → List (List ℕ)
+names_with names variadic = names ++ (if variadic then variable_arguments ∷ [] else [])
+
+-- the names of a macro's parameters
 unfoldable pub parameters_of : Definition → List (List ℕ)
-parameters_of definition = named_parameters definition.parameters ++ (if definition.variadic then variable_arguments ∷ [] else [])
+parameters_of definition = names_with (named_parameters definition.parameters) definition.variadic
 
 -- the position of the parameter that a token names
 unfoldable pub parameter_of : List (List ℕ) → PpToken → Option ℕ

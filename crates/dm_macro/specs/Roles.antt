@@ -1,11 +1,13 @@
 -- What is kept of the tokens of a replacement list, for all expansions of its macro.
-use Rattle.std.specs.Prelude.{◌≡◌, ◌<◌, ◌+◌, ℕ, List, [], ◌∷◌, take, drop, length, slice_index_or, Option, None, Some, if◌then◌else◌}
-use Rattle.std.specs.List.{list_any}
+use Rattle.std.specs.Prelude.{◌≡◌, ◌<◌, ◌+◌, ℕ, List, [], ◌∷◌, take, drop, length, slice_index_or, bytes_eq, Option, None, Some, if◌then◌else◌}
+use Rattle.std.specs.List.{list_any, position_from}
+use Rattle.std.specs.FinMap as map
 use Rattle.dm_token.specs.declared.token.PpToken.{PpToken}
 use Rattle.dm_token.specs.declared.expansion.Definition.{Definition}
 use Rattle.dm_macro.specs.declared.role.Role.{Role}
 use Rattle.dm_macro.specs.declared.role.Role.TheVariants.{Plain, Hash, Beside, Whole, Paste}
 use Rattle.dm_macro.specs.declared.role.Roles as code_roles
+use Rattle.dm_macro.specs.Numbers.{Numbers}
 use Rattle.dm_macro.specs.Signs.{is_hash_hash}
 use Rattle.dm_macro.specs.Bodies.{Part, plain, hash, beside, whole, paste, parameters_of, parameter_of, is_at, places_of, part_of}
 
@@ -39,19 +41,18 @@ AreLast names behind role = (parameter : ℕ) → last_of role ≡ Some paramete
 abbrev pub IsRole : List (List ℕ) → List PpToken → PpToken → List PpToken → Option Role → Type 0
 IsRole names before token behind role = (parts_with token role ≡ part_of names before token behind) × AreLast names behind role
 
--- The token at an index of a replacement list is this.
-abbrev pub IsRoleAt : Definition → ℕ → Option Role → Type 0
-IsRoleAt definition index role =
-    (token : PpToken) → token ≡ slice_index_or definition.body index token
-    → IsRole (parameters_of definition) (take index definition.body) token (drop (index + 1) definition.body) role
+-- The token at an index of a replacement list is this, where these are the names of the parameters.
+abbrev pub IsRoleAt : List (List ℕ) → List PpToken → ℕ → Option Role → Type 0
+IsRoleAt names body index role =
+    (token : PpToken) → token ≡ slice_index_or body index token → IsRole names (take index body) token (drop (index + 1) body) role
 
 -- The first tokens of a replacement list are these.
-abbrev pub AreRolesOf : Definition → List (Option Role) → Type 0
-AreRolesOf definition roles = (index : ℕ) → index < length roles → IsRoleAt definition index (slice_index_or roles index None)
+abbrev pub AreRolesOf : List (List ℕ) → List PpToken → List (Option Role) → Type 0
+AreRolesOf names body roles = (index : ℕ) → index < length roles → IsRoleAt names body index (slice_index_or roles index None)
 
 -- This is what is kept of a replacement list.
 pub record AreRoles (definition : Definition) (roles : code_roles.Roles) : Type 0 where
-  pub tokens : AreRolesOf definition roles.tokens.items
+  pub tokens : AreRolesOf (parameters_of definition) definition.body roles.tokens.items
   pub count : length roles.tokens.items ≡ length definition.body
   pub pastes : roles.pastes ≡ list_any is_hash_hash definition.body
 
@@ -61,6 +62,10 @@ AreAllRoles [] [] = Unit {0}
 AreAllRoles [] (roles ∷ others) = ⊥
 AreAllRoles (definition ∷ definitions) [] = ⊥
 AreAllRoles (definition ∷ definitions) (roles ∷ others) = AreRoles definition roles × AreAllRoles definitions others
+
+-- Parameters are looked up by their names.
+abbrev pub HavePositions : List (List ℕ) → Numbers → Type 0
+HavePositions names positions = (name : List ℕ) → map.get positions name ≡ position_from (bytes_eq name) 0 names
 
 -- Each parameter is named so often by these tokens.
 abbrev pub AreCounts : List (List ℕ) → List PpToken → List ℕ → Type 0

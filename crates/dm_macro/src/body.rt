@@ -1,5 +1,6 @@
 ghost use Rattle.std.specs.Prelude.{◌≡◌, ◌<◌, ◌+◌, length, take, drop, slice_index_or, Option, None};
 ghost use Rattle.std.specs.List.{list_any};
+ghost use Rattle.dm_macro.specs.Bodies.{parameters_of};
 ghost use Rattle.dm_macro.specs.Signs.{is_hash_hash};
 ghost use Rattle.dm_macro.specs.Roles.{AreRolesOf, AreRoles, IsRoleAt};
 
@@ -13,7 +14,7 @@ pub struct Body<'a> {
     roles: &'a [Option<Role>],
     /// Whether `##` is among the tokens.
     pub pastes: bool,
-    ghost fits: { AreRolesOf definition.now roles.now },
+    ghost fits: { AreRolesOf (parameters_of definition.now) definition.now.body roles.now },
     ghost count: { length roles.now ≡ length definition.now.body },
     ghost has_paste: { pastes ≡ list_any is_hash_hash definition.now.body },
 }
@@ -33,7 +34,7 @@ impl<'a> Body<'a> {
     /// What the token at an index is, or `None` where it is part of the one before it.
     pub fn role_at(&self, index: usize) -> Option<Role>
         requires { index < length self.now.definition.now.body }
-        ensures { IsRoleAt self.now.definition.now index result }
+        ensures { IsRoleAt (parameters_of self.now.definition.now) self.now.definition.now.body index result }
     {
         self.roles[index]
     }

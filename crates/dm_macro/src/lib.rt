@@ -8,6 +8,7 @@ mod hash;
 mod hide_set;
 mod name_map;
 mod name_set;
+mod named;
 mod parameters;
 mod role;
 mod same;
@@ -18,6 +19,7 @@ mod tests;
 
 pub use body::Body;
 pub use hide_set::HideSet;
-pub use role::{Role, named_count};
+pub use named::named_count;
+pub use role::Role;
 pub use sign::{is_fixed, is_predefined};
 pub use table::MacroTable;

@@ -1,15 +1,15 @@
 //! What the tokens of a replacement list are (6.10.3.1 to 6.10.3.3), found once for all expansions of its macro.
 
-ghost use Rattle.std.specs.Prelude.{◌≡◌, ◌≤◌, ◌<◌, ◌+◌, ℕ, true, Some, None, List as Sequence, take, drop, slice_index_or, ◌∷◌, ◌++◌, length, bytes_eq, cond, IfOk, OnOk};
-ghost use Rattle.std.specs.List.{list_any, position_from};
+ghost use Rattle.std.specs.Prelude.{◌≡◌, ◌≤◌, ◌<◌, ◌+◌, ℕ, true, Some, None, List as Sequence, take, drop, slice_index_or, ◌∷◌, ◌++◌, length, cond, IfOk, OnOk};
+ghost use Rattle.std.specs.List.{list_any};
 ghost use Rattle.dm_token.specs.declared.token.PpToken.{PpToken as Token};
 ghost use Rattle.dm_macro.specs.Signs as sign;
 ghost use Rattle.dm_macro.specs.Bodies as bodies;
-ghost use Rattle.dm_macro.specs.Bodies.{named_parameters};
 ghost use Rattle.dm_macro.specs.Roles.{part_with, parts_with, last_of, AreLast, IsRole, IsRoleAt, AreRolesOf, AreRoles, AreCounts};
 
-use crate::sign::{is_hash, is_hash_hash, is_identifier, is_variable_arguments};
-use dm_token::{Definition, List, Memory, PpToken, Text};
+use crate::named::Parameters;
+use crate::sign::{is_hash, is_hash_hash};
+use dm_token::{Definition, Memory, PpToken};
 use std::alloc::Global;
 
 /// What a token of a replacement list is. A parameter has its position, and says which of its places in the list this
@@ -33,56 +33,6 @@ pub enum Role {
 pub(crate) struct Roles {
     pub(crate) tokens: Vec<Option<Role>>,
     pub(crate) pastes: bool,
-}
-
-/// How many parameters have names of their own.
-#[tactic(auto, unfolding(crate::specs::Bodies::named_parameters))]
-pub fn named_count(definition: &Definition) -> usize
-    ensures { result ≡ length (named_parameters definition.now.parameters) }
-{
-    match &definition.parameters {
-        None => 0,
-        Some(names) => names.len(),
-    }
-}
-
-// The position of the name in a list that a token spells.
-fn position_of(names: &List<Text>, token: &PpToken) -> Option<usize>
-    ensures { result ≡ position_from (bytes_eq token.now.spelling) 0 names.now }
-{
-    for (position, name) in names.items().iter().enumerate() {
-        if token.spelling == *name {
-            return Some(position);
-        }
-    }
-    None
-}
-
-// The position of the parameter with a name of its own that a token spells.
-#[tactic(auto, unfolding(crate::specs::Bodies::named_parameters))]
-fn named_position(definition: &Definition, token: &PpToken) -> Option<usize>
-    ensures { result ≡ position_from (bytes_eq token.now.spelling) 0 (named_parameters definition.now.parameters) }
-{
-    match &definition.parameters {
-        None => None,
-        Some(names) => position_of(names, token),
-    }
-}
-
-// The position of the parameter that a token names; `__VA_ARGS__` is the last one.
-fn parameter_of(definition: &Definition, token: &PpToken) -> Option<usize>
-    ensures { result ≡ bodies.parameter_of (bodies.parameters_of definition.now) token.now }
-{
-    if !is_identifier(token) {
-        return None;
-    }
-    if let Some(position) = named_position(definition, token) {
-        return Some(position);
-    }
-    if definition.variadic && is_variable_arguments(token) {
-        return Some(named_count(definition));
-    }
-    None
 }
 
 // The number of a parameter or of one of its places.
@@ -121,34 +71,34 @@ fn add_to(counts: &mut Vec<u32>, parameter: usize) -> Result<(), Memory>
 }
 
 // Counts the parameter that a token names.
-fn count(definition: &Definition, token: &PpToken, counts: &mut Vec<u32>) -> Result<(), Memory>
-    ensures { OnOk result ((other : ℕ) → slice_index_or counts.new.items other 0 ≡ slice_index_or counts.old.items other 0 + cond (bodies.is_at other (bodies.parameter_of (bodies.parameters_of definition.now) token.now)) 1 0) }
+fn count(parameters: &Parameters, token: &PpToken, counts: &mut Vec<u32>) -> Result<(), Memory>
+    ensures { OnOk result ((other : ℕ) → slice_index_or counts.new.items other 0 ≡ slice_index_or counts.old.items other 0 + cond (bodies.is_at other (bodies.parameter_of parameters.now token.now)) 1 0) }
 {
-    if let Some(parameter) = parameter_of(definition, token) {
+    if let Some(parameter) = parameters.parameter_of(token) {
         add_to(counts, parameter)?;
     }
     Ok(())
 }
 
 // How often each parameter is named.
-fn counts_of(alloc: Global, definition: &Definition) -> Result<Vec<u32>, Memory>
-    ensures { IfOk result (λ counts. AreCounts (bodies.parameters_of definition.now) definition.now.body counts.items) }
+fn counts_of(alloc: Global, parameters: &Parameters, body: &[PpToken]) -> Result<Vec<u32>, Memory>
+    ensures { IfOk result (λ counts. AreCounts parameters.now body.now counts.items) }
 {
     let mut counts = Vec::new(alloc);
-    for token in definition.body.items() {
-        count(definition, token, &mut counts)?;
+    for token in body {
+        count(parameters, token, &mut counts)?;
     }
     Ok(counts)
 }
 
 // The parameter that the first of these tokens names.
 #[tactic(auto, unfolding(crate::specs::Bodies::first_parameter))]
-fn first_parameter(definition: &Definition, behind: &[PpToken]) -> Option<usize>
-    ensures { result ≡ bodies.first_parameter (bodies.parameters_of definition.now) behind.now }
+fn first_parameter(parameters: &Parameters, behind: &[PpToken]) -> Option<usize>
+    ensures { result ≡ bodies.first_parameter parameters.now behind.now }
 {
     match behind {
         [] => None,
-        [first, ..] => parameter_of(definition, first),
+        [first, ..] => parameters.parameter_of(first),
     }
 }
 
@@ -182,11 +132,11 @@ fn ends_with_hash(before: &[PpToken]) -> bool
 
 // A token that names no parameter.
 #[tactic(auto, unfolding(crate::specs::Bodies::token_part))]
-fn token_role(definition: &Definition, token: &PpToken, behind: &[PpToken]) -> Result<Role, Memory>
-    ensures role { IfOk result (λ role. part_with token.now role ≡ bodies.token_part token.now (bodies.first_parameter (bodies.parameters_of definition.now) behind.now)) }
+fn token_role(parameters: &Parameters, token: &PpToken, behind: &[PpToken]) -> Result<Role, Memory>
+    ensures role { IfOk result (λ role. part_with token.now role ≡ bodies.token_part token.now (bodies.first_parameter parameters.now behind.now)) }
     ensures last { IfOk result (λ role. last_of (Some role) ≡ None) }
 {
-    let Some(parameter) = first_parameter(definition, behind) else {
+    let Some(parameter) = first_parameter(parameters, behind) else {
         return Ok(Role::Plain);
     };
     if is_hash(token) {
@@ -220,22 +170,22 @@ fn parameter_role(
 // before it and in all.
 #[tactic(auto, unfolding(crate::specs::Bodies::part_of, crate::specs::Bodies::other_part))]
 fn role_of(
-    definition: &Definition,
+    parameters: &Parameters,
     before: &[PpToken],
     token: &PpToken,
     behind: &[PpToken],
     seen: &[u32],
     all: &[u32],
 ) -> Result<Option<Role>, Memory>
-    requires seen { AreCounts (bodies.parameters_of definition.now) before.now seen.now }
-    requires all { AreCounts (bodies.parameters_of definition.now) (before.now ++ token.now ∷ behind.now) all.now }
-    ensures { IfOk result (λ role. IsRole (bodies.parameters_of definition.now) before.now token.now behind.now role) }
+    requires seen { AreCounts parameters.now before.now seen.now }
+    requires all { AreCounts parameters.now (before.now ++ token.now ∷ behind.now) all.now }
+    ensures { IfOk result (λ role. IsRole parameters.now before.now token.now behind.now role) }
 {
     if is_hash_hash(token) {
         return Ok(Some(Role::Paste));
     }
-    match parameter_of(definition, token) {
-        None => Ok(Some(token_role(definition, token, behind)?)),
+    match parameters.parameter_of(token) {
+        None => Ok(Some(token_role(parameters, token, behind)?)),
         Some(parameter) => {
             let places = count_of(seen, parameter);
             let last = count_of(all, parameter).saturating_sub(places) == 1;
@@ -245,11 +195,10 @@ fn role_of(
 }
 
 // The token at an index of a replacement list.
-fn token_at(definition: &Definition, index: usize) -> &PpToken
-    requires { index < length definition.now.body }
-    ensures { result.now ≡ slice_index_or definition.now.body index result.now }
+fn token_at(body: &[PpToken], index: usize) -> &PpToken
+    requires { index < length body.now }
+    ensures { result.now ≡ slice_index_or body.now index result.now }
 {
-    let body = definition.body.items();
     &body[index]
 }
 
@@ -271,46 +220,40 @@ fn tokens_from(body: &[PpToken], index: usize) -> &[PpToken]
 
 // What the token at an index of a replacement list is, where each parameter is named so often before it and in all.
 fn role_at(
-    definition: &Definition,
+    parameters: &Parameters,
+    body: &[PpToken],
     index: usize,
     seen: &[u32],
     all: &[u32],
 ) -> Result<Option<Role>, Memory>
-    requires inside { index < length definition.now.body }
-    requires seen { AreCounts (bodies.parameters_of definition.now) (take index definition.now.body) seen.now }
-    requires all { AreCounts (bodies.parameters_of definition.now) definition.now.body all.now }
-    ensures { IfOk result (IsRoleAt definition.now index) }
+    requires inside { index < length body.now }
+    requires seen { AreCounts parameters.now (take index body.now) seen.now }
+    requires all { AreCounts parameters.now body.now all.now }
+    ensures { IfOk result (IsRoleAt parameters.now body.now index) }
 {
-    let body = definition.body.items();
     let before = tokens_before(body, index);
     let behind = tokens_from(body, index + 1);
-    let role = role_of(
-        definition,
-        before,
-        token_at(definition, index),
-        behind,
-        seen,
-        all,
-    )?;
+    let role = role_of(parameters, before, token_at(body, index), behind, seen, all)?;
     Ok(role)
 }
 
 // What the tokens of a replacement list are, where each parameter is named so often in all.
 fn token_roles(
     alloc: Global,
-    definition: &Definition,
+    parameters: &Parameters,
+    body: &[PpToken],
     all: &[u32],
 ) -> Result<Vec<Option<Role>>, Memory>
-    requires { AreCounts (bodies.parameters_of definition.now) definition.now.body all.now }
-    ensures roles { IfOk result (λ roles. AreRolesOf definition.now roles.items) }
-    ensures count { IfOk result (λ roles. length roles.items ≡ length definition.now.body) }
+    requires { AreCounts parameters.now body.now all.now }
+    ensures roles { IfOk result (λ roles. AreRolesOf parameters.now body.now roles.items) }
+    ensures count { IfOk result (λ roles. length roles.items ≡ length body.now) }
 {
     let mut seen = Vec::new(alloc);
-    let mut roles = Vec::with_capacity(alloc, definition.body.len())?;
-    'tokens: for index in 0..definition.body.len() {
-        let role = role_at(definition, index, seen.as_slice(), all)?;
+    let mut roles = Vec::with_capacity(alloc, body.len())?;
+    'tokens: for index in 0..body.len() {
+        let role = role_at(parameters, body, index, seen.as_slice(), all)?;
         roles.push(role)?;
-        count(definition, token_at(definition, index), &mut seen)?;
+        count(parameters, token_at(body, index), &mut seen)?;
     }
     Ok(roles)
 }
@@ -325,10 +268,12 @@ fn has_paste(body: &[PpToken]) -> bool
 pub(crate) fn roles_of(alloc: Global, definition: &Definition) -> Result<Roles, Memory>
     ensures { IfOk result (AreRoles definition.now) }
 {
-    let all = counts_of(alloc, definition)?;
-    let tokens = token_roles(alloc, definition, all.as_slice())?;
+    let parameters = Parameters::new(alloc, definition)?;
+    let body = definition.body.items();
+    let all = counts_of(alloc, &parameters, body)?;
+    let tokens = token_roles(alloc, &parameters, body, all.as_slice())?;
     Ok(Roles {
         tokens,
-        pastes: has_paste(definition.body.items()),
+        pastes: has_paste(body),
     })
 }

@@ -2,7 +2,7 @@ use Rattle.std.proofs.Common.{◌≡◌, ℕ, ◌+◌, ◌-◌, List, [], ◌∷
 use Rattle.std.proofs.lemmas.Bool.{cond-false, eqb-true}
 use Rattle.dm_token.specs.declared.token.PpToken.{PpToken}
 use Rattle.dm_macro.specs.Signs.{is_hash_hash}
-use Rattle.dm_macro.specs.Bodies.{Part, paste, parameters_of, places_of, part_of, other_part, parameter_part, parameter_of}
+use Rattle.dm_macro.specs.Bodies.{Part, paste, places_of, part_of, other_part, parameter_part, parameter_of}
 use Rattle.dm_macro.proofs.RoleLemmas.{last-place}
 use Rattle.dm_macro.proofs.role.role_of.Goals as goal
 
@@ -19,7 +19,7 @@ never n e = cc
 pub returns-in_ok-token_role-in-None : goal.returns-in_ok-token_role-in-None
 unfolding other_part
 returns-in_ok-token_role-in-None c =
-    let names : List (List ℕ) = parameters_of c.args.definition.now in
+    let names : List (List ℕ) = c.args.parameters.now in
     let none : parameter_of names c.args.token.now ≡ None = sym c.parameter_of.ensures ∙ c.in-None.is in (
       ap (λ (part : Part). part ∷ []) c.in_ok-token_role-in-None.ensures.role
           ∙ other_token names c.args.before.now c.args.token.now c.args.behind.now None (sym c.is_hash_hash.ensures ∙ c.if-is_hash_hash.false) none,
@@ -29,7 +29,7 @@ returns-in_ok-token_role-in-None c =
 pub returns-in_ok-small-in-Some : goal.returns-in_ok-small-in-Some
 unfolding other_part
 returns-in_ok-small-in-Some c =
-    let names : List (List ℕ) = parameters_of c.args.definition.now in
+    let names : List (List ℕ) = c.args.parameters.now in
     let before : List PpToken = c.args.before.now in
     let token : PpToken = c.args.token.now in
     let behind : List PpToken = c.args.behind.now in
