@@ -16,7 +16,7 @@ use Rattle.dm_expand.specs.declared.machine.Level as code_level
 use Rattle.dm_expand.specs.declared.machine.Waiting as code_waiting
 use Rattle.dm_expand.specs.Items.{Item, first_with_blank}
 use Rattle.dm_expand.specs.Steps.{Progress, Output, ◌>>=◌, take_argument}
-use Rattle.dm_macro.specs.Bodies.{Part, plain, hash, beside, whole, paste, part_of, other_part, parameter_part, token_part, parts_behind, parts_of, parameters_of, places_of, parameter_of, is_last, is_first, is_at, first_parameter}
+use Rattle.dm_macro.specs.Bodies.{Part, plain, hash, beside, whole, paste, part_of, other_part, parameter_part, token_part, parts_behind, parts_of, places_of, parameter_of, is_last, is_first, is_at, first_parameter}
 use Rattle.dm_expand.specs.Strings.{quoted}
 use Rattle.dm_expand.specs.Pastes.{Site, Piece, token, placemarker, operator, made, no_token, joined_as, joined_tokens, joined_with, joined, piece_before, pasted_behind, pasted, tokens_of}
 use Rattle.dm_expand.specs.Substitution.{Expander, Filled, filled, filled_all, placed, operands, argument_for, argument_item, body_item, finished, is_operator}

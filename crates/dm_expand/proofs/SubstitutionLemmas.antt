@@ -204,3 +204,7 @@ tokens_before-token out item (Err stop) = refl
 pub tokens_before-nothing : (r : Result Output Stop) → tokens_before [] r ≡ r
 tokens_before-nothing (Ok output) = refl
 tokens_before-nothing (Err stop) = refl
+
+pub tokens_before-append : (out more : List Item) (r : Result Output Stop) → tokens_before out (tokens_before more r) ≡ tokens_before (out ++ more) r
+tokens_before-append out more (Ok output) = ap (λ (x : List Item). Ok (gives x output.progress)) (sym (append_assoc out more output.tokens))
+tokens_before-append out more (Err stop) = refl

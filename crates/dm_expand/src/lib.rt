@@ -4,7 +4,7 @@
 
 ghost use Rattle.std.specs.Prelude.{◌≡◌, ◌≤◌, ◌+◌, Ok, IfOk, IfErr, length, map};
 ghost use Rattle.dm_expand.specs.Items.{of_source};
-ghost use Rattle.dm_expand.specs.Expansion.{expansion_of, token_of};
+ghost use Rattle.dm_expand.specs.Expansion.{expansion_of};
 ghost use Rattle.dm_expand.specs.Views.{StopsAs};
 ghost use Rattle.dm_expand.specs.AnswerViews.{looked_up, answer, AreNumberedFrom};
 
@@ -36,9 +36,6 @@ pub use laws::{
 use machine::expand_list;
 use progress::Progress;
 use std::alloc::Global;
-
-/// How many items more than it has a list may have room for when it is emptied.
-const SPARE: usize = 32_768;
 
 /// The count of a unit's work: the definitions that it reads, its expansions, and the tokens that they put out.
 #[derive(Clone, Copy, Debug, PartialEq, Eq)]
@@ -81,8 +78,7 @@ pub fn expand(
     };
     let source = source_items(alloc, group)?;
     let mut progress = Progress::new(alloc, first_instance, work.spent);
-    let out = expand_list(&macros, source, &mut progress)?;
-    let tokens = tokens_of(alloc, out)?;
+    let tokens = expand_list(&macros, source, &mut progress)?;
     let Progress {
         instance: _,
         spent,
@@ -91,7 +87,7 @@ pub fn expand(
     } = progress;
     work.spent = spent;
     Ok(Expanded {
-        tokens,
+        tokens: List::from_vec(tokens),
         expansions: List::from_vec(expansions),
     })
 }
@@ -100,33 +96,10 @@ pub fn expand(
 fn source_items(alloc: Global, group: &[PpToken]) -> Result<Vec<Item>, Memory>
     ensures { IfOk result (λ items. items.items ≡ map of_source group.now) }
 {
-    let mut items = Vec::new(alloc);
+    let mut items = Vec::with_capacity(alloc, group.len())?;
     for token in group {
         let item = Item::of_source(alloc, token)?;
         items.push(item)?;
     }
     Ok(items)
-}
-
-// The tokens that are put out, without their hide sets.
-fn tokens_of(alloc: Global, items: Vec<Item>) -> Result<List<Token>, Memory>
-    ensures { IfOk result (λ tokens. tokens ≡ map token_of items.items) }
-{
-    let mut left = items;
-    let mut tokens = Vec::with_capacity(alloc, left.len())?;
-    'items: while let Some(item) = left.pop() {
-        tokens.push(item.into_token())?;
-        give_back(&mut left);
-    }
-    tokens.reverse();
-    Ok(List::from_vec(tokens))
-}
-
-// Gives back the room that a list has no more use for, once that is much.
-fn give_back(items: &mut Vec<Item>)
-    ensures { items.new.items ≡ items.old.items }
-{
-    if items.capacity().saturating_sub(items.len()) > SPARE {
-        items.shrink_to_fit();
-    }
 }

@@ -1,4 +1,4 @@
-ghost use Rattle.std.specs.Prelude.{◌≡◌, ◌≤◌, ◌<◌, ◌+◌, ◌-◌, suc, not, ◌∷◌, ◌++◌, IfOk, IfErr, OnOk, Ok, length};
+ghost use Rattle.std.specs.Prelude.{◌≡◌, ◌≤◌, ◌<◌, ◌+◌, ◌-◌, suc, not, List as Sequence, [], ◌∷◌, ◌++◌, map, IfOk, IfErr, OnOk, Ok, length};
 ghost use Rattle.std.specs.List.{list_any};
 ghost use Rattle.dm_macro.specs.Signs.{is_hash_hash};
 ghost use Rattle.dm_token.specs.declared.expansion.Mark.TheVariants.{Expansion};
@@ -6,7 +6,9 @@ ghost use Rattle.dm_expand.specs.Laws.{Follows};
 ghost use Rattle.dm_expand.specs.Steps.{Progress as Progressed};
 ghost use Rattle.dm_expand.specs.Substitution.{filled_all};
 ghost use Rattle.dm_expand.specs.Expansion as expansion;
-ghost use Rattle.dm_expand.specs.Expansion.{Macros as LookedUp, expanded};
+ghost use Rattle.dm_expand.specs.Items.{Item as Entry};
+ghost use Rattle.dm_expand.specs.declared.head.Invocation as code_invocation;
+ghost use Rattle.dm_expand.specs.Expansion.{Macros as LookedUp, expanded, token_of};
 ghost use Rattle.dm_expand.specs.Views.{StopsAs, IsWithin, pieces_in};
 ghost use Rattle.dm_expand.specs.HeadViews.{macros_of, site_with};
 ghost use Rattle.dm_expand.specs.ListViews.{gives, fills, pieces_before, tokens_before};
@@ -23,10 +25,13 @@ use crate::progress::Progress;
 use crate::substitute::{Whole, complete, fill_from, fill_whole};
 use crate::trails::grown;
 use dm_macro::Body;
-use dm_token::{List, Mark, Memory, Place, Refusal, Stop};
+use dm_token::{List, Mark, Memory, Place, Refusal, Stop, Token};
 use std::alloc::Global;
 use std::collections::VecDeque;
 use std::mem;
+
+/// How many tokens the outermost list gathers before they are put out.
+const GATHERED: usize = 256;
 
 /// How many tokens a list may have more than a quarter of its room when the room is given back.
 const SPARE: usize = 8;
@@ -360,14 +365,43 @@ fn replace<'a>(
     Ok(())
 }
 
-/// The complete expansion of a list of tokens.
+// Puts out tokens of a list, without their hide sets.
+fn put_all(out: &mut Vec<Item>, put: &mut Vec<Token>) -> Result<(), Memory>
+    ensures put { OnOk result (put.new.items ≡ put.old.items ++ map token_of out.old.items) }
+    ensures nothing { OnOk result (out.new.items ≡ []) }
+{
+    let mut left = VecDeque::from(mem::replace(out, Vec::new(*put.allocator())));
+    'tokens: while let Some(item) = next_of(&mut left) {
+        put.push(item.into_token())?;
+    }
+    *out = left.into_vec();
+    Ok(())
+}
+
+// Puts out what the outermost list has gathered before an invocation, once that is much.
+fn put_some<'a>(
+    waiting: &[Waiting<'a>],
+    level: &mut Level,
+    put: &mut Vec<Token>,
+) -> Result<(), Memory>
+    ensures { OnOk result ((more : Sequence Entry) × (put.new.items ≡ put.old.items ++ map token_of more)
+        × ((macros : LookedUp) (invocation : code_invocation.Invocation) (progress : Progressed) →
+        outward macros waiting.now (invoked_on macros level.old invocation progress) ≡ tokens_before more (outward macros waiting.now (invoked_on macros level.new invocation progress)))) }
+{
+    if waiting.is_empty() && level.out.len() >= GATHERED {
+        put_all(&mut level.out, put)?;
+    }
+    Ok(())
+}
+
+/// The complete expansion of a list of tokens, as they are put out.
 pub fn expand_list(
     macros: &Macros,
     tokens: Vec<Item>,
     progress: &mut Progress,
-) -> Result<Vec<Item>, Stop>
+) -> Result<Vec<Token>, Stop>
     requires { IsWithin progress.old }
-    ensures ok { IfOk result (λ out. expansion.expanded (macros_of macros.now) tokens.items progress.old ≡ Ok (gives out.items progress.new)) }
+    ensures ok { IfOk result (λ put. (out : Sequence Entry) × (put.items ≡ map token_of out) × (expansion.expanded (macros_of macros.now) tokens.items progress.old ≡ Ok (gives out progress.new))) }
     ensures follows { OnOk result (Follows progress.old progress.new) }
     ensures stop { IfErr result (λ stop. StopsAs (expansion.expanded (macros_of macros.now) tokens.items progress.old) stop) }
 {
@@ -377,6 +411,7 @@ pub fn expand_list(
     };
     let mut waiting = Vec::new(macros.alloc);
     let mut extensions = Extensions::new(macros.alloc);
+    let mut put = Vec::new(macros.alloc);
     'expansions: while let Some(invocation) = advance(
         macros,
         &mut extensions,
@@ -384,8 +419,9 @@ pub fn expand_list(
         &mut waiting,
         progress,
     )? {
+        put_some(waiting.as_slice(), &mut level, &mut put)?;
         replace(macros.alloc, invocation, &mut level, &mut waiting, progress)?;
     }
-    let Level { rest: _, out } = level;
-    Ok(out)
+    put_all(&mut level.out, &mut put)?;
+    Ok(put)
 }

@@ -1,7 +1,6 @@
 use Rattle.std.proofs.Common.{◌≡◌, ◌++◌, ◌∷◌, [], List, Result, ap, ◌∙◌, sym}
 use Rattle.dm_token.specs.declared.stop.Stop.{Stop}
 use Rattle.dm_expand.specs.declared.machine.Level as code_level
-use Rattle.dm_expand.specs.declared.machine.Filling as code_filling
 use Rattle.dm_expand.specs.declared.machine.Waiting as code_waiting
 use Rattle.dm_expand.specs.Items.{Item}
 use Rattle.dm_expand.specs.Steps.{Output}

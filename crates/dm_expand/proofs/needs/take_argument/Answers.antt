@@ -1,4 +1,4 @@
-use Rattle.std.proofs.Common.{◌≡◌, ℕ, [], refl, take, drop, set}
+use Rattle.std.proofs.Common.{ℕ, [], refl, take, drop, set}
 use Rattle.dm_macro.specs.Bodies.{parameters_of}
 use Rattle.dm_expand.specs.Works.{parts_from}
 use Rattle.dm_expand.proofs.NeedsLemmas.{all-served, unnamed-served}
