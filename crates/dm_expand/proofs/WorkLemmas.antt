@@ -1,9 +1,12 @@
 -- Lists whose expansion waits for that of an argument.
-use Rattle.std.proofs.Common.{◌≡◌, ℕ, suc, ◌+◌, ◌-◌, Bool, false, not, List, [], ◌∷◌, ◌++◌, length, map, Option, Some, None, refl, sym, ap, ◌∙◌, arith, Result, Ok, Err}
+use Rattle.std.proofs.Common.{◌≡◌, ℕ, suc, ◌+◌, ◌-◌, Bool, true, false, not, ◌==◌, List, [], ◌∷◌, ◌++◌, length, map, Option, Some, None, refl, sym, ap, ◌∙◌, arith, append_assoc, Result, Ok, Err}
 use Rattle.std.specs.List.{list_any}
+use Rattle.std.proofs.lemmas.Bool.{ne_eqb}
+use Rattle.std.proofs.lemmas.List.{map-append}
 use Rattle.std.specs.Option.{is_some}
 use Rattle.dm_token.specs.declared.stop.Stop.{Stop}
 use Rattle.dm_token.specs.declared.token.PpToken.{PpToken}
+use Rattle.dm_token.specs.declared.token.Token.{Token}
 use Rattle.dm_token.specs.declared.expansion.Definition.{Definition}
 use Rattle.dm_macro.specs.HideSets.{HiddenNumbers}
 use Rattle.dm_macro.specs.Signs.{is_hash_hash}
@@ -15,11 +18,11 @@ use Rattle.dm_expand.specs.Steps.{Progress, Output, ◌>>=◌, begin}
 use Rattle.dm_macro.specs.Bodies.{Part, whole, parts_of}
 use Rattle.dm_expand.specs.Pastes.{Site, Piece, token}
 use Rattle.dm_expand.specs.Substitution.{Filled, filled, filled_all, placed, argument_for, substituted}
-use Rattle.dm_expand.specs.Expansion.{Macros, expanded, replaced, site_of}
+use Rattle.dm_expand.specs.Expansion.{Macros, expanded, replaced, site_of, token_of}
 use Rattle.dm_expand.specs.Views.{pieces_in}
 use Rattle.dm_expand.specs.ListViews.{gives, fills, pieces_before, tokens_before, counted_if, invocation_value}
-use Rattle.dm_expand.specs.Works.{parts_from, whole_and_others, argument_pieces, put_together, goes_on, completed, filled_behind, taken_up, outward, scanned_on, invoked_on, load}
-use Rattle.dm_expand.proofs.SubstitutionLemmas.{operators-are, parts_of-is, pieces_before-append, pieces_before-nothing, tokens_before-nothing}
+use Rattle.dm_expand.specs.Works.{parts_from, whole_and_others, argument_pieces, put_together, goes_on, completed, filled_behind, taken_up, outward, scanned_on, invoked_on, passed_on, found_on, ArePut, load}
+use Rattle.dm_expand.proofs.SubstitutionLemmas.{operators-are, parts_of-is, pieces_before-append, pieces_before-nothing, tokens_before-append, tokens_before-nothing}
 
 -- A PART THAT WAITS
 
@@ -165,3 +168,39 @@ unfolding replaced
 replace-stops macros level invocation p stop begun =
     let value = invocation_value invocation level.rest.items in
     ap (λ (r : Result Progress Stop). tokens_before level.out.items (r >>= λ begun. substituted (expanded macros) (site_of value p.instance) invocation.hidden (parts_of invocation.found.body.definition.now) begun >>= goes_on macros level)) begun
+
+-- WHAT IS PUT OUT
+
+-- tokens that were put out of a list before
+pub passed-put : (macros : Macros) (level after : code_level.Level) (found : Option code_invocation.Invocation) (p : Progress) (more : List Item)
+    → level.out.items ≡ more ++ after.out.items → after.rest.items ≡ level.rest.items → passed_on macros level found p ≡ tokens_before more (passed_on macros after found p)
+passed-put macros level after None p more out rest =
+    ap (λ (xs : List Item). tokens_before xs (expanded macros level.rest.items p)) out
+    ∙ sym (tokens_before-append more after.out.items (expanded macros level.rest.items p))
+    ∙ ap (λ (xs : List Item). tokens_before more (tokens_before after.out.items (expanded macros xs p))) (sym rest)
+passed-put macros level after (Some invocation) p more out rest =
+    let made : List Item → Result Output Stop = λ behind. replaced (expanded macros) (invocation_value invocation behind) p in
+    ap (λ (xs : List Item). tokens_before xs (made level.rest.items)) out
+    ∙ sym (tokens_before-append more after.out.items (made level.rest.items))
+    ∙ ap (λ (xs : List Item). tokens_before more (tokens_before after.out.items (made xs))) (sym rest)
+
+-- tokens that are put out after others
+pub put-more : (outermost : Bool) (before mid after : List Token) (more behind : List Item) → ArePut outermost before more mid → ArePut outermost mid behind after → ArePut outermost before (more ++ behind) after
+put-more outermost before mid after more behind first second = (
+  second.0 ∙ ap (λ (xs : List Token). xs ++ map token_of behind) first.0 ∙ append_assoc before (map token_of more) (map token_of behind) ∙ ap (λ (xs : List Token). before ++ xs) (sym (map-append token_of more behind)),
+  λ inner. ap (λ (xs : List Item). xs ++ behind) (first.1 inner) ∙ second.1 inner,
+)
+
+-- none are put out of a list that isn't the outermost one
+pub outward-put : (macros : Macros) (waiting : List code_waiting.Waiting) (more : List Item) (r : Result Output Stop)
+    → ((length waiting == 0) ≡ false → more ≡ []) → outward macros waiting (tokens_before more r) ≡ tokens_before more (outward macros waiting r)
+outward-put macros [] more r none = outward-nothing macros (tokens_before more r) ∙ ap (tokens_before more) (sym (outward-nothing macros r))
+outward-put macros (waits ∷ waiting) more r none =
+    let nothing : more ≡ [] = none (ne_eqb (length (waits ∷ waiting)) 0 (λ (e : length (waits ∷ waiting) ≡ 0). omega (arith, e))) in
+    ap (outward macros (waits ∷ waiting)) (ap (λ (xs : List Item). tokens_before xs r) nothing ∙ tokens_before-nothing r)
+    ∙ sym (ap (λ (xs : List Item). tokens_before xs (outward macros (waits ∷ waiting) r)) nothing ∙ tokens_before-nothing (outward macros (waits ∷ waiting) r))
+
+-- where a macro is replaced next in the midst of a list, and else the list goes on
+pub passed_on-found : (macros : Macros) (level : code_level.Level) (found : Option code_invocation.Invocation) (p : Progress) → is_some found ≡ true → passed_on macros level found p ≡ found_on macros level found p
+passed_on-found macros level None p is = cc
+passed_on-found macros level (Some invocation) p is = refl

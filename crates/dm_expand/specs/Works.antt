@@ -1,7 +1,8 @@
 -- What the code's state means: lists whose expansion waits for that of an argument, innermost last.
-use Rattle.std.specs.Prelude.{◌≡◌, ◌≤◌, ◌<◌, ◌-◌, ◌+◌, ℕ, suc, Bool, true, not, List, [], ◌∷◌, ◌++◌, map, length, take, drop, Option, None, Some, Result, Ok}
+use Rattle.std.specs.Prelude.{◌≡◌, ◌≤◌, ◌<◌, ◌-◌, ◌+◌, ℕ, suc, Bool, true, false, not, List, [], ◌∷◌, ◌++◌, map, length, take, drop, Option, None, Some, Result, Ok}
 use Rattle.std.specs.List.{list_any}
 use Rattle.dm_token.specs.declared.token.PpToken.{PpToken}
+use Rattle.dm_token.specs.declared.token.Token.{Token}
 use Rattle.dm_token.specs.declared.stop.Stop.{Stop}
 use Rattle.dm_token.specs.declared.expansion.Definition.{Definition}
 use Rattle.dm_macro.specs.HideSets.{HiddenNumbers}
@@ -21,7 +22,7 @@ use Rattle.dm_expand.specs.Steps.{Progress, Output, ◌>>=◌}
 use Rattle.dm_macro.specs.Bodies.{Part, whole, parameters_of, places_of, parts_behind, parts_of}
 use Rattle.dm_expand.specs.Pastes.{Site, Piece, token, pasted, tokens_of}
 use Rattle.dm_expand.specs.Substitution.{Expander, Filled, filled, filled_all, is_operator, placed, finished}
-use Rattle.dm_expand.specs.Expansion.{Macros, expanded, replaced}
+use Rattle.dm_expand.specs.Expansion.{Macros, expanded, replaced, token_of}
 use Rattle.dm_expand.specs.Views.{piece_value, pieces_in}
 use Rattle.dm_expand.specs.ListViews.{gives, fills, pieces_before, tokens_before, counted_if, invocation_value}
 
@@ -145,6 +146,10 @@ found_on macros level (Some invocation) progress = invoked_on macros level invoc
 abbrev pub passed_on : Macros → code_level.Level → Option code_invocation.Invocation → Progress → Result Output Stop
 passed_on macros level None progress = scanned_on macros level progress
 passed_on macros level (Some invocation) progress = invoked_on macros level invocation progress
+
+-- Tokens are put out as they are without their hide sets, and only those of the outermost list.
+abbrev pub ArePut : Bool → List Token → List Item → List Token → Type 0
+ArePut outermost before more after = (after ≡ before ++ map token_of more) × (outermost ≡ false → more ≡ [])
 
 -- where no macro is replaced next, no list waits
 abbrev pub IsEnd : List code_waiting.Waiting → Option code_invocation.Invocation → Type 0

@@ -7,12 +7,11 @@ ghost use Rattle.dm_expand.specs.Steps.{Progress as Progressed};
 ghost use Rattle.dm_expand.specs.Substitution.{filled_all};
 ghost use Rattle.dm_expand.specs.Expansion as expansion;
 ghost use Rattle.dm_expand.specs.Items.{Item as Entry};
-ghost use Rattle.dm_expand.specs.declared.head.Invocation as code_invocation;
 ghost use Rattle.dm_expand.specs.Expansion.{Macros as LookedUp, expanded, token_of};
 ghost use Rattle.dm_expand.specs.Views.{StopsAs, IsWithin, pieces_in};
 ghost use Rattle.dm_expand.specs.HeadViews.{macros_of, site_with};
 ghost use Rattle.dm_expand.specs.ListViews.{gives, fills, pieces_before, tokens_before};
-ghost use Rattle.dm_expand.specs.Works.{outward, load, completed, completed_from, whole_and_others, taken_up, scanned_on, invoked_on, passed_on, found_on, IsEnd, IsLastPlace};
+ghost use Rattle.dm_expand.specs.Works.{outward, load, completed, completed_from, whole_and_others, taken_up, scanned_on, invoked_on, passed_on, found_on, ArePut, IsEnd, IsLastPlace};
 
 use crate::arguments::next_of;
 use crate::extension::Extensions;
@@ -281,19 +280,46 @@ fn scan_next<'a>(
     }
 }
 
-// Scans a list up to the next macro that is to be replaced.
+// Puts out tokens of a list, without their hide sets.
+fn put_all(out: &mut Vec<Item>, put: &mut Vec<Token>) -> Result<(), Memory>
+    ensures put { OnOk result (put.new.items ≡ put.old.items ++ map token_of out.old.items) }
+    ensures nothing { OnOk result (out.new.items ≡ []) }
+{
+    let mut left = VecDeque::from(mem::replace(out, Vec::new(*put.allocator())));
+    'tokens: while let Some(item) = next_of(&mut left) {
+        put.push(item.into_token())?;
+    }
+    *out = left.into_vec();
+    Ok(())
+}
+
+// Puts out what the outermost list has gathered, once that is much.
+fn put_some(outermost: bool, level: &mut Level, put: &mut Vec<Token>) -> Result<(), Memory>
+    ensures { OnOk result ((more : Sequence Entry) × ArePut outermost put.old.items more put.new.items × (level.old.out.items ≡ more ++ level.new.out.items) × (level.new.rest.items ≡ level.old.rest.items)) }
+{
+    if outermost && level.out.len() >= GATHERED {
+        put_all(&mut level.out, put)?;
+    }
+    Ok(())
+}
+
+// Scans a list up to the next macro that is to be replaced. Of the outermost one the tokens are put out as they come.
 fn scan<'a>(
     macros: &Macros<'a>,
     extensions: &mut Extensions,
     progress: &Progress,
+    outermost: bool,
     level: &mut Level,
+    put: &mut Vec<Token>,
 ) -> Result<Option<Invocation<'a>>, Stop>
     requires { IsWithin progress.now }
-    ensures found { IfOk result (λ found. scanned_on (macros_of macros.now) level.old progress.now ≡ found_on (macros_of macros.now) level.new found progress.now) }
+    ensures found { IfOk result (λ found. (more : Sequence Entry) × ArePut outermost put.old.items more put.new.items
+        × (scanned_on (macros_of macros.now) level.old progress.now ≡ tokens_before more (found_on (macros_of macros.now) level.new found progress.now))) }
     ensures stop { IfErr result (λ stop. StopsAs (scanned_on (macros_of macros.now) level.old progress.now) stop) }
 {
     'tokens: while let Some(item) = next_of(&mut level.rest) {
         let found = scan_next(macros, extensions, progress, item, level)?;
+        put_some(outermost, level, put)?;
         if found.is_some() {
             return Ok(found);
         }
@@ -308,18 +334,20 @@ fn advance<'a>(
     level: &mut Level,
     waiting: &mut Vec<Waiting<'a>>,
     progress: &mut Progress,
+    put: &mut Vec<Token>,
 ) -> Result<Option<Invocation<'a>>, Stop>
     requires { IsWithin progress.old }
-    ensures found { IfOk result (λ found.
-        outward (macros_of macros.now) waiting.old.items (scanned_on (macros_of macros.now) level.old progress.old)
-        ≡ outward (macros_of macros.now) waiting.new.items (found_on (macros_of macros.now) level.new found progress.new)) }
+    ensures found { IfOk result (λ found. (more : Sequence Entry) × (put.new.items ≡ put.old.items ++ map token_of more)
+        × (outward (macros_of macros.now) waiting.old.items (scanned_on (macros_of macros.now) level.old progress.old)
+        ≡ tokens_before more (outward (macros_of macros.now) waiting.new.items (found_on (macros_of macros.now) level.new found progress.new)))) }
     ensures end { IfOk result (IsEnd waiting.new.items) }
     ensures follows { OnOk result (Follows progress.old progress.new) }
     ensures stop { IfErr result (λ stop.
         StopsAs (outward (macros_of macros.now) waiting.old.items (scanned_on (macros_of macros.now) level.old progress.old)) stop) }
 {
     'levels: loop {
-        let found = scan(macros, extensions, progress, level)?;
+        let outermost = waiting.is_empty();
+        let found = scan(macros, extensions, progress, outermost, level, put)?;
         if found.is_some() {
             return Ok(found);
         }
@@ -365,35 +393,6 @@ fn replace<'a>(
     Ok(())
 }
 
-// Puts out tokens of a list, without their hide sets.
-fn put_all(out: &mut Vec<Item>, put: &mut Vec<Token>) -> Result<(), Memory>
-    ensures put { OnOk result (put.new.items ≡ put.old.items ++ map token_of out.old.items) }
-    ensures nothing { OnOk result (out.new.items ≡ []) }
-{
-    let mut left = VecDeque::from(mem::replace(out, Vec::new(*put.allocator())));
-    'tokens: while let Some(item) = next_of(&mut left) {
-        put.push(item.into_token())?;
-    }
-    *out = left.into_vec();
-    Ok(())
-}
-
-// Puts out what the outermost list has gathered before an invocation, once that is much.
-fn put_some<'a>(
-    waiting: &[Waiting<'a>],
-    level: &mut Level,
-    put: &mut Vec<Token>,
-) -> Result<(), Memory>
-    ensures { OnOk result ((more : Sequence Entry) × (put.new.items ≡ put.old.items ++ map token_of more)
-        × ((macros : LookedUp) (invocation : code_invocation.Invocation) (progress : Progressed) →
-        outward macros waiting.now (invoked_on macros level.old invocation progress) ≡ tokens_before more (outward macros waiting.now (invoked_on macros level.new invocation progress)))) }
-{
-    if waiting.is_empty() && level.out.len() >= GATHERED {
-        put_all(&mut level.out, put)?;
-    }
-    Ok(())
-}
-
 /// The complete expansion of a list of tokens, as they are put out.
 pub fn expand_list(
     macros: &Macros,
@@ -418,8 +417,8 @@ pub fn expand_list(
         &mut level,
         &mut waiting,
         progress,
+        &mut put,
     )? {
-        put_some(waiting.as_slice(), &mut level, &mut put)?;
         replace(macros.alloc, invocation, &mut level, &mut waiting, progress)?;
     }
     put_all(&mut level.out, &mut put)?;

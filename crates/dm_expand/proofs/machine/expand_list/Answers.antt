@@ -40,20 +40,15 @@ expansions-preserved c =
     let macros : Macros = macros_of c.args.macros.now in
     let progress : Progress = c.advance.new.progress in
     let waiting : List code_waiting.Waiting = c.advance.new.waiting.items in
-    let invocation : code_invocation.Invocation = c.in-Some.invocation in
     let before : List Item = c.expansions.invariant.0 in
-    let more : List Item = c.in_ok-put_some.ensures.0 in
-    let behind : code_level.Level → List code_waiting.Waiting → Result Output Stop = λ level ws. outward macros ws (invoked_on macros level invocation progress) in
+    let more : List Item = c.in_ok-invocation.ensures.found.0 in
     let follows = follows_on _ _ _ c.expansions.invariant.3 c.in_ok-invocation.ensures.follows in (
       before ++ more,
-      c.in_ok-put_some.ensures.1 ∙ ap (λ (xs : List Token). xs ++ map token_of more) c.expansions.invariant.1 ∙ sym (map-append token_of before more),
+      c.in_ok-invocation.ensures.found.1 ∙ ap (λ (xs : List Token). xs ++ map token_of more) c.expansions.invariant.1 ∙ sym (map-append token_of before more),
       c.expansions.invariant.2
           ∙ ap (tokens_before before)
-          (c.in_ok-invocation.ensures.found
-          ∙ ap (λ (found : Option code_invocation.Invocation). outward macros waiting (found_on macros c.advance.new.level found progress)) c.in-Some.is
-          ∙ ap (behind c.advance.new.level) (sym c.as_slice.ensures.value)
-          ∙ c.in_ok-put_some.ensures.2 macros invocation progress
-          ∙ ap (λ (ws : List code_waiting.Waiting). tokens_before more (behind c.put_some.new.level ws)) c.as_slice.ensures.value
+          (c.in_ok-invocation.ensures.found.2
+          ∙ ap (λ (found : Option code_invocation.Invocation). tokens_before more (outward macros waiting (found_on macros c.advance.new.level found progress))) c.in-Some.is
           ∙ ap (tokens_before more) (c.in_ok-replace.ensures.ok macros))
           ∙ tokens_before-append before more _,
       follows_on _ _ _ follows c.in_ok-replace.ensures.follows,
@@ -65,19 +60,14 @@ returns-in_err-replace-clause-stop c =
     let macros : Macros = macros_of c.args.macros.now in
     let progress : Progress = c.advance.new.progress in
     let waiting : List code_waiting.Waiting = c.advance.new.waiting.items in
-    let invocation : code_invocation.Invocation = c.in-Some.invocation in
     let before : List Item = c.expansions.invariant.0 in
-    let more : List Item = c.in_ok-put_some.ensures.0 in
-    let behind : code_level.Level → List code_waiting.Waiting → Result Output Stop = λ level ws. outward macros ws (invoked_on macros level invocation progress) in
-    stops_handed_as c.from_residual-in_err-replace.result c.in_err-replace.field-0.0 (invoked_on macros c.put_some.new.level invocation progress) _ c.from_residual-in_err-replace.ensures.1
+    let more : List Item = c.in_ok-invocation.ensures.found.0 in
+    stops_handed_as c.from_residual-in_err-replace.result c.in_err-replace.field-0.0 (invoked_on macros c.advance.new.level c.in-Some.invocation progress) _ c.from_residual-in_err-replace.ensures.1
     (λ other is.
     c.expansions.invariant.2
     ∙ ap (tokens_before before)
-    (c.in_ok-invocation.ensures.found
-    ∙ ap (λ (found : Option code_invocation.Invocation). outward macros waiting (found_on macros c.advance.new.level found progress)) c.in-Some.is
-    ∙ ap (behind c.advance.new.level) (sym c.as_slice.ensures.value)
-    ∙ c.in_ok-put_some.ensures.2 macros invocation progress
-    ∙ ap (λ (ws : List code_waiting.Waiting). tokens_before more (behind c.put_some.new.level ws)) c.as_slice.ensures.value
+    (c.in_ok-invocation.ensures.found.2
+    ∙ ap (λ (found : Option code_invocation.Invocation). tokens_before more (outward macros waiting (found_on macros c.advance.new.level found progress))) c.in-Some.is
     ∙ ap (tokens_before more) (ap (outward macros waiting) is ∙ outward-stops macros waiting other)))
     (c.in_err-replace.ensures.stop macros)
 
@@ -88,13 +78,18 @@ returns-clause-ok c =
     let level : code_level.Level = c.advance.new.level in
     let waiting : List code_waiting.Waiting = c.advance.new.waiting.items in
     let before : List Item = c.expansions.invariant.0 in
+    let more : List Item = c.in_ok-invocation.ensures.found.0 in
     let out : List Item = level.out.items in (
-      before ++ out,
-      c.in_ok-put_all.ensures.put ∙ ap (λ (xs : List Token). xs ++ map token_of out) c.expansions.invariant.1 ∙ sym (map-append token_of before out),
+      (before ++ more) ++ out,
+      c.in_ok-put_all.ensures.put
+          ∙ ap (λ (xs : List Token). xs ++ map token_of out)
+          (c.in_ok-invocation.ensures.found.1 ∙ ap (λ (xs : List Token). xs ++ map token_of more) c.expansions.invariant.1 ∙ sym (map-append token_of before more))
+          ∙ sym (map-append token_of (before ++ more) out),
       c.expansions.invariant.2
           ∙ ap (tokens_before before)
-          (c.in_ok-invocation.ensures.found
-          ∙ ap (λ (found : Option code_invocation.Invocation). outward macros waiting (found_on macros level found progress)) c.in_default.is
-          ∙ ap (λ (ws : List code_waiting.Waiting). outward macros ws (Ok (gives out progress))) (subst (IsEnd waiting) c.in_default.is c.in_ok-invocation.ensures.end)
-          ∙ outward-nothing macros (Ok (gives out progress))),
+          (c.in_ok-invocation.ensures.found.2
+          ∙ ap (λ (found : Option code_invocation.Invocation). tokens_before more (outward macros waiting (found_on macros level found progress))) c.in_default.is
+          ∙ ap (λ (ws : List code_waiting.Waiting). tokens_before more (outward macros ws (Ok (gives out progress)))) (subst (IsEnd waiting) c.in_default.is c.in_ok-invocation.ensures.end)
+          ∙ ap (tokens_before more) (outward-nothing macros (Ok (gives out progress))))
+          ∙ tokens_before-append before more (Ok (gives out progress)),
     )
