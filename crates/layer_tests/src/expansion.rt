@@ -45,16 +45,21 @@ fn expanded<R: Abort + AllocGlobal>(rt: &R, lines: &str, text: &str) -> Result<E
 }
 
 /// Each token by its spelling, with a space before it where a blank stands there.
-fn shown<R: Abort + AllocGlobal>(rt: &R, lines: &str, text: &str) -> Result<Vec<u8>, Stop> {
-    let expanded = expanded(rt, lines, text)?;
+fn spelled<R: Abort + AllocGlobal>(rt: &R, tokens: &[Token]) -> Result<Vec<u8>, Stop> {
     let mut spelled = Vec::new(rt.alloc());
-    for token in expanded.tokens.items() {
+    for token in tokens {
         if token.pp.blank_before {
             spelled.push(b' ')?;
         }
         spelled.extend_from_slice(token.pp.spelling.bytes())?;
     }
     Ok(spelled)
+}
+
+/// What a text expands to, by its tokens' spellings.
+fn shown<R: Abort + AllocGlobal>(rt: &R, lines: &str, text: &str) -> Result<Vec<u8>, Stop> {
+    let expanded = expanded(rt, lines, text)?;
+    spelled(rt, expanded.tokens.items())
 }
 
 /// Checks a row, which is a text and, behind an arrow on a new line, what it expands to.
@@ -213,6 +218,36 @@ fn hides_names_and_finds_parentheses_in_the_rescan(rt: HostRuntime) -> Result<()
     expect_shown(&rt, HIDDEN)
 }
 
+/// Parameters of which there are many, or that stand in more than one place.
+const PARAMETERS: &str = r#"#define NINE(a,b,c,d,e,f,g,h,i) i h g f e d c b a i
+#define MANY(a,b,c,d,e,f,g,h,i,...) i __VA_ARGS__ #a #__VA_ARGS__ b##i
+#define TWICE(x,y) x y x
+#define ID(x) x
+#define EACH(x) x #x x##x x
+
+NINE(1,2,3,4,5,6,7,8,9)
+=> 9 8 7 6 5 4 3 2 1 9
+
+MANY(1,2,3,4,5,6,7,8,9,10,11)
+=> 9 10,11 "1" "10,11" 29
+
+TWICE(ID(ID(1)),ID(2))
+=> 1 2 1
+
+TWICE(TWICE(a,b),TWICE(c,d))
+=> a b a c d c a b a
+
+EACH(n)
+=> n "n" nn n
+
+ID(TWICE(ID(1),ID(TWICE(2,3))))
+=> 1 2 3 2 1"#;
+
+#[test]
+fn puts_arguments_in_each_place_of_their_parameters(rt: HostRuntime) -> Result<(), Fail> {
+    expect_shown(&rt, PARAMETERS)
+}
+
 /// Macros with parameters.
 const REFUSING: &str = "#define P(a,b) a##b\n\
 #define T(a,b) a b\n\
@@ -364,4 +399,30 @@ fn expect_count<R: Abort + AllocGlobal>(
 fn nesting_takes_no_stack(rt: HostRuntime) -> Result<(), Fail> {
     expect_count(&rt, "(", 10_000, 20_001)?;
     expect_count(&rt, "ID(", 300, 1)
+}
+
+/// Checks that a text gives another one, where both stand so many times.
+fn expect_often<R: Abort + AllocGlobal>(
+    rt: &R,
+    part: &str,
+    wanted: &str,
+    count: usize,
+) -> Result<(), Fail> {
+    let mut text = Vec::new(rt.alloc());
+    put_often(&mut text, part, count)?;
+    let group = tokens_of(rt, &text)?;
+    let table = table_of(rt, "#define ID(x) x")?;
+    let mut work = Work { spent: 10 };
+    let expanded = expand(rt.alloc(), &table, &[], group.items(), 5, &mut work)?;
+    let mut whole = Vec::new(rt.alloc());
+    put_often(&mut whole, wanted, count)?;
+    let spelled = spelled(rt, expanded.tokens.items())?;
+    assert!(rt; spelled.as_slice() == whole.as_slice(), "{part}");
+    Ok(())
+}
+
+#[test]
+fn long_texts_come_in_order(rt: HostRuntime) -> Result<(), Fail> {
+    expect_often(&rt, "ID(a) b\n", " a b", 300)?;
+    expect_often(&rt, "ID(a ID(b) c)\n", " a b c", 300)
 }
