@@ -42,6 +42,19 @@ def doubling():
     return {"main.c": lines + ["D18"]}
 
 
+def deep():
+    """1,000 invocations, each in the argument of the one before."""
+    return {"main.c": ["#define F(x) x", "int a = " + "F(" * 1_000 + "1" + ")" * 1_000 + ";"]}
+
+
+def wide():
+    """A replacement list of 20,000 tokens for a macro with 100 parameters."""
+    names = ", ".join(f"p{number}" for number in range(100))
+    body = " + ".join(f"p{number % 100}" for number in range(10_000))
+    arguments = ", ".join(str(number) for number in range(100))
+    return {"main.c": [f"#define W({names}) {body}", f"int a = W({arguments});"]}
+
+
 def headers():
     """64 headers within each other, each of some lines."""
     files = {"main.c": ['#include "h1.h"', "int main_is_read;"]}
@@ -72,7 +85,7 @@ def skipped():
     return {"main.c": ["#if 0"] + [line] * ((LIMIT - 100) // (len(line) + 1)) + ["#endif", "int a;"]}
 
 
-SHAPES = [nested, chain, arguments, pastes, doubling, headers, inclusions, objects, skipped]
+SHAPES = [nested, chain, arguments, pastes, doubling, deep, wide, headers, inclusions, objects, skipped]
 
 
 def main():

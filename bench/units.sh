@@ -13,7 +13,7 @@ if ! grep -q '^rt: running ' "$work/log"; then
     exit 2
 fi
 echo "load $(uptime | sed 's/.*load average: //')"
-for shape in nested chain arguments pastes doubling headers inclusions objects skipped; do
+for shape in nested chain arguments pastes doubling deep wide headers inclusions objects skipped; do
     mkdir "$work/$shape" && python3 "$here/units.py" "$shape" "$work/$shape" || exit
     python3 "$here/compare_units.py" "$shape" "$top/crates/demacro/out/demacro" "$work/$shape" || exit
 done
