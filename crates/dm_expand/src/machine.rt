@@ -383,11 +383,13 @@ fn replace<'a>(
     let instance = progress.next_instance();
     progress.begin(found.number, &name, foreign)?;
     let site = site_of(found.number, instance, name, arguments)?;
+    let body = found.body;
+    let pieces = Pieces::with_room(alloc, body.definition.body.len())?;
     let filling = Filling {
         site,
         hidden,
-        body: found.body,
-        pieces: Pieces::new(alloc),
+        body,
+        pieces,
     };
     go_on(alloc, filling, 0, level, waiting, progress)?;
     Ok(())

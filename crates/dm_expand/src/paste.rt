@@ -48,6 +48,9 @@ pub enum Piece {
     Operator(Item),
 }
 
+/// For how many tokens there is room at most before they come.
+const MOST_ROOM: usize = 8;
+
 /// Pieces of a replacement list: those up to the last one that isn't a token, and the tokens behind it. Where `##` isn't
 /// in the list, they are all tokens.
 #[derive(Drop)]
@@ -57,13 +60,15 @@ pub struct Pieces {
 }
 
 impl Pieces {
-    pub fn new(alloc: Global) -> Pieces
-        ensures { pieces_in result ≡ [] }
+    /// No pieces, with room for so many tokens, though not for many.
+    pub fn with_room(alloc: Global, count: usize) -> Result<Pieces, Memory>
+        ensures { IfOk result (λ pieces. pieces_in pieces ≡ []) }
     {
-        Pieces {
+        let tokens = Vec::with_capacity(alloc, count.min(MOST_ROOM))?;
+        Ok(Pieces {
             front: Vec::new(alloc),
-            tokens: Vec::new(alloc),
-        }
+            tokens,
+        })
     }
 
     /// Adds a piece.

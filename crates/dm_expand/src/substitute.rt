@@ -23,7 +23,11 @@ use std::alloc::Global;
 enum Content {
     One(Piece),
     Tokens(Vec<Item>),
-    Whole(u32, u32, bool),
+    Whole {
+        parameter: u32,
+        occurrence: u32,
+        last: bool,
+    },
 }
 
 // The operand of `##` that an argument is: a placemarker in the place of none of its tokens (6.10.3.3p2).
@@ -58,17 +62,26 @@ fn fill(
             let item = body_item(alloc, site, token)?;
             Ok(Content::One(Piece::Operator(item)))
         }
-        Role::Hash(parameter) => {
+        Role::Hash { parameter } => {
             let made = fill_hash(alloc, site, token, parameter, progress)?;
             Ok(Content::One(Piece::Token(made)))
         }
-        Role::Beside(parameter, occurrence) => {
+        Role::Beside {
+            parameter,
+            occurrence,
+        } => {
             let tokens = fill_beside(alloc, site, token, parameter, occurrence, progress)?;
             Ok(operand(token.blank_before, tokens))
         }
-        Role::Whole(parameter, occurrence, last) => {
-            Ok(Content::Whole(parameter, occurrence, last))
-        }
+        Role::Whole {
+            parameter,
+            occurrence,
+            last,
+        } => Ok(Content::Whole {
+            parameter,
+            occurrence,
+            last,
+        }),
     }
 }
 
@@ -147,7 +160,11 @@ fn fill_at<'a>(
         return Ok(None);
     };
     match fill(alloc, site, token, role, progress)? {
-        Content::Whole(parameter, occurrence, last) => Ok(Some(Whole {
+        Content::Whole {
+            parameter,
+            occurrence,
+            last,
+        } => Ok(Some(Whole {
             token,
             behind: index + 1,
             parameter,

@@ -19,11 +19,20 @@ pub enum Role {
     /// Any other token.
     Plain,
     /// `#`, with the parameter behind it.
-    Hash(u32),
+    Hash {
+        parameter: u32,
+    },
     /// A parameter beside `##`.
-    Beside(u32, u32),
+    Beside {
+        parameter: u32,
+        occurrence: u32,
+    },
     /// Any other parameter, and whether this is its last place.
-    Whole(u32, u32, bool),
+    Whole {
+        parameter: u32,
+        occurrence: u32,
+        last: bool,
+    },
     /// `##`.
     Paste,
 }
@@ -140,30 +149,39 @@ fn token_role(parameters: &Parameters, token: &PpToken, behind: &[PpToken]) -> R
         return Ok(Role::Plain);
     };
     if is_hash(token) {
-        return Ok(Role::Hash(small(parameter)?));
+        return Ok(Role::Hash {
+            parameter: small(parameter)?,
+        });
     }
     Ok(Role::Plain)
 }
 
-// A token that names a parameter, of which there are so many places before this one; behind `#` it is part of that.
+// A token that names a parameter, where there are so many places of it before this one; behind `#` it is part of that.
 #[tactic(auto, unfolding(crate::specs::Bodies::parameter_part))]
 fn parameter_role(
     before: &[PpToken],
     behind: &[PpToken],
     parameter: u32,
-    places: u32,
+    occurrence: u32,
     last: bool,
 ) -> Option<Role>
-    ensures role { (names : Sequence (Sequence ℕ)) (token : Token) → places ≡ bodies.places_of names parameter before.now → parts_with token result ≡ bodies.parameter_part names before.now token behind.now parameter }
+    ensures role { (names : Sequence (Sequence ℕ)) (token : Token) → occurrence ≡ bodies.places_of names parameter before.now → parts_with token result ≡ bodies.parameter_part names before.now token behind.now parameter }
     ensures last { (names : Sequence (Sequence ℕ)) → (last ≡ true → bodies.places_of names parameter behind.now ≡ 0) → AreLast names behind.now result }
 {
     if ends_with_hash(before) {
         return None;
     }
     if ends_with_paste(before) || begins_with_paste(behind) {
-        return Some(Role::Beside(parameter, places));
+        return Some(Role::Beside {
+            parameter,
+            occurrence,
+        });
     }
-    Some(Role::Whole(parameter, places, last))
+    Some(Role::Whole {
+        parameter,
+        occurrence,
+        last,
+    })
 }
 
 // What a token of a replacement list is, with what stands before it and behind it, and how often each parameter is named
