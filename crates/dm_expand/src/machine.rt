@@ -383,13 +383,11 @@ fn replace<'a>(
     let instance = progress.next_instance();
     progress.begin(found.number, &name, foreign)?;
     let site = site_of(found.number, instance, name, arguments)?;
-    let body = found.body;
-    let pieces = Pieces::with_room(alloc, body.definition.body.len())?;
     let filling = Filling {
         site,
         hidden,
-        body,
-        pieces,
+        body: found.body,
+        pieces: Pieces::new(alloc),
     };
     go_on(alloc, filling, 0, level, waiting, progress)?;
     Ok(())

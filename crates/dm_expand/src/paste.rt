@@ -48,9 +48,6 @@ pub enum Piece {
     Operator(Item),
 }
 
-/// For how many tokens there is room at most before they come.
-const MOST_ROOM: usize = 8;
-
 /// Pieces of a replacement list: those up to the last one that isn't a token, and the tokens behind it. Where `##` isn't
 /// in the list, they are all tokens.
 #[derive(Drop)]
@@ -60,15 +57,13 @@ pub struct Pieces {
 }
 
 impl Pieces {
-    /// No pieces, with room for so many tokens, though not for many.
-    pub fn with_room(alloc: Global, count: usize) -> Result<Pieces, Memory>
-        ensures { IfOk result (λ pieces. pieces_in pieces ≡ []) }
+    pub fn new(alloc: Global) -> Pieces
+        ensures { pieces_in result ≡ [] }
     {
-        let tokens = Vec::with_capacity(alloc, count.min(MOST_ROOM))?;
-        Ok(Pieces {
+        Pieces {
             front: Vec::new(alloc),
-            tokens,
-        })
+            tokens: Vec::new(alloc),
+        }
     }
 
     /// Adds a piece.

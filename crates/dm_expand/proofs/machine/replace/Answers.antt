@@ -43,8 +43,8 @@ returns-in_err-go_on-clause-stop c =
     c.in_ok-site.ensures ∙ ap (λ (n : ℕ). site_with invocation.name (Expansion invocation.macro.number n) invocation.arguments) c.next_instance-instance.ensures in
     let starts : Macros → List Piece → Result Output Stop = λ macros xs. completed macros c.args.level.now c.in_ok-site.site c.args.invocation.hidden definition (pieces_before xs
     (filled_all (expanded macros) c.in_ok-site.site (not (list_any is_hash_hash definition.body)) (parts_from definition 0) now)) in
-    stops_handed_each c.from_residual-in_err-go_on.result c.in_err-go_on.field-0.0 (λ macros. starts macros (pieces_in c.in_ok-pieces.pieces)) (λ macros. invoked_on macros c.args.level.now c.args.invocation progress) c.from_residual-in_err-go_on.ensures.1
-    (λ macros other is. replace-is macros c.args.level.now c.args.invocation c.in_ok-site.site progress now site c.in_ok-begin.ensures.ok ∙ ap (starts macros) (sym c.in_ok-pieces.ensures) ∙ is)
+    stops_handed_each c.from_residual-in_err-go_on.result c.in_err-go_on.field-0.0 (λ macros. starts macros (pieces_in c.new.result)) (λ macros. invoked_on macros c.args.level.now c.args.invocation progress) c.from_residual-in_err-go_on.ensures.1
+    (λ macros other is. replace-is macros c.args.level.now c.args.invocation c.in_ok-site.site progress now site c.in_ok-begin.ensures.ok ∙ ap (starts macros) (sym c.new.ensures) ∙ is)
     c.in_err-go_on.ensures.stop
 
 pub returns-clause-ok : goal.returns-clause-ok
@@ -59,7 +59,7 @@ returns-clause-ok c = λ macros.
     let starts : List Piece → Result Output Stop = λ xs. completed macros c.args.level.now c.in_ok-site.site c.args.invocation.hidden definition (pieces_before xs
     (filled_all (expanded macros) c.in_ok-site.site (not (list_any is_hash_hash definition.body)) (parts_from definition 0) now)) in
     ap (outward macros c.args.waiting.now.items)
-    (replace-is macros c.args.level.now c.args.invocation c.in_ok-site.site progress now site c.in_ok-begin.ensures.ok ∙ ap starts (sym c.in_ok-pieces.ensures))
+    (replace-is macros c.args.level.now c.args.invocation c.in_ok-site.site progress now site c.in_ok-begin.ensures.ok ∙ ap starts (sym c.new.ensures))
     ∙ c.in_ok-go_on.ensures.ok macros
 
 pub returns-clause-follows : goal.returns-clause-follows
