@@ -1,5 +1,5 @@
 -- What the laws of expansion say.
-use Rattle.std.proofs.Common.{◌≡◌, ℕ, ◌<◌, ◌≤◌, Bool, true, false, ◌||◌, ◌&&◌, List, [], ◌∷◌, length, get_or, eqb, arith, Some, Ok, refl, sym, ap, ◌∙◌}
+use Rattle.std.proofs.Common.{◌≡◌, ℕ, ◌<◌, ◌≤◌, Bool, true, false, ◌||◌, ◌&&◌, List, [], ◌∷◌, ◌++◌, length, get_or, eqb, arith, Some, Ok, refl, sym, ap, ◌∙◌}
 use Rattle.std.specs.Prelude.{codes, bytes_eq}
 use Rattle.std.specs.FinSet as set
 use Rattle.std.proofs.lemmas.Bool.{cond-true, cond-false, false≢true}
@@ -96,3 +96,8 @@ expanded-no_names macros (item ∷ items) p are =
     expanded-put macros item item items p (head_of-no_name macros item items p are.0)
     ∙ ap (token_before item) (expanded-no_names macros items p are.1)
     ∙ before_others item items p
+
+-- one token more that names nothing
+pub no_names-more : (macros : Macros) (items : List Item) (item : Item) → AreNoNames macros items → IsNoName macros item → AreNoNames macros (items ++ item ∷ [])
+no_names-more macros [] item are is = (is, tt)
+no_names-more macros (first ∷ items) item are is = (are.0, no_names-more macros items item are.1 is)

@@ -21,7 +21,7 @@ use Rattle.dm_expand.specs.Substitution.{Filled, filled, filled_all, placed, arg
 use Rattle.dm_expand.specs.Expansion.{Macros, expanded, replaced, site_of, token_of}
 use Rattle.dm_expand.specs.Views.{pieces_in}
 use Rattle.dm_expand.specs.ListViews.{gives, fills, pieces_before, tokens_before, counted_if, invocation_value}
-use Rattle.dm_expand.specs.Works.{parts_from, whole_and_others, argument_pieces, put_together, goes_on, completed, filled_behind, taken_up, outward, scanned_on, invoked_on, passed_on, found_on, ArePut, load}
+use Rattle.dm_expand.specs.Works.{parts_from, argument_pieces, put_together, goes_on, completed, completed_whole, filled_behind, taken_up, outward, scanned_on, invoked_on, passed_on, found_on, ArePut, load}
 use Rattle.dm_expand.proofs.SubstitutionLemmas.{operators-are, parts_of-is, pieces_before-append, pieces_before-nothing, tokens_before-append, tokens_before-nothing}
 
 -- A PART THAT WAITS
@@ -87,16 +87,20 @@ load-push (other ∷ waiting) waits = omega (arith, load-push waiting waits)
 
 -- ITS STEPS
 
+-- a part that waits is taken up with the expansion of its argument
+pub taken_up-whole : (macros : Macros) (waits : code_waiting.Waiting) (p : Progress)
+    → completed_whole macros waits.level waits.filling waits.whole p ≡ taken_up macros waits (expanded macros (argument_for waits.filling.site waits.whole.parameter) p)
+unfolding taken_up
+taken_up-whole macros waits p =
+    ap (λ (r : Result Filled Stop). completed macros waits.level waits.filling.site waits.filling.hidden waits.filling.body.definition.now (pieces_before (pieces_in waits.filling.pieces) r))
+    (filled_all-whole macros waits.filling.site (not (list_any is_hash_hash waits.filling.body.definition.now.body)) waits.whole.token.now waits.whole.parameter waits.whole.occurrence (parts_from waits.filling.body.definition.now waits.whole.behind) p)
+
 -- an argument's list is entered
 pub enter-is : (macros : Macros) (waiting : List code_waiting.Waiting) (waits : code_waiting.Waiting) (inner : code_level.Level) (p : Progress)
     → inner.out.items ≡ [] → inner.rest.items ≡ argument_for waits.filling.site waits.whole.parameter
-    → outward macros waiting (completed macros waits.level waits.filling.site waits.filling.hidden waits.filling.body.definition.now (pieces_before (pieces_in waits.filling.pieces)
-    (filled_all (expanded macros) waits.filling.site (not (list_any is_hash_hash waits.filling.body.definition.now.body)) (whole_and_others waits.filling.body.definition.now waits.whole) p)))
-    ≡ outward macros (waiting ++ waits ∷ []) (scanned_on macros inner p)
-unfolding taken_up
+    → outward macros waiting (completed_whole macros waits.level waits.filling waits.whole p) ≡ outward macros (waiting ++ waits ∷ []) (scanned_on macros inner p)
 enter-is macros waiting waits inner p nothing argument =
-    ap (λ (r : Result Filled Stop). outward macros waiting (completed macros waits.level waits.filling.site waits.filling.hidden waits.filling.body.definition.now (pieces_before (pieces_in waits.filling.pieces) r)))
-    (filled_all-whole macros waits.filling.site (not (list_any is_hash_hash waits.filling.body.definition.now.body)) waits.whole.token.now waits.whole.parameter waits.whole.occurrence (parts_from waits.filling.body.definition.now waits.whole.behind) p)
+    ap (outward macros waiting) (taken_up-whole macros waits p)
     ∙ ap (λ (xs : List Item). outward macros waiting (taken_up macros waits (expanded macros xs p))) (sym argument)
     ∙ ap (λ (r : Result Output Stop). outward macros waiting (taken_up macros waits r)) (sym (tokens_before-nothing (expanded macros inner.rest.items p)))
     ∙ ap (λ (xs : List Item). outward macros waiting (taken_up macros waits (tokens_before xs (expanded macros inner.rest.items p)))) (sym nothing)

@@ -107,6 +107,17 @@ completed_from macros level filling from progress =
     (pieces_before (pieces_in filling.pieces)
     (filled_all (expanded macros) filling.site (not (list_any is_hash_hash filling.body.definition.now.body)) (parts_from filling.body.definition.now from) progress))
 
+-- the same where a part that waits is the next one
+abbrev pub completed_whole : Macros → code_level.Level → code_filling.Filling → code_whole.Whole → Progress → Result Output Stop
+completed_whole macros level filling waits progress =
+    completed macros level filling.site filling.hidden filling.body.definition.now
+    (pieces_before (pieces_in filling.pieces)
+    (filled_all (expanded macros) filling.site (not (list_any is_hash_hash filling.body.definition.now.body)) (whole_and_others filling.body.definition.now waits) progress))
+
+-- a replacement that waits, with the list that it goes into
+abbrev pub waits_in : code_level.Level → code_filling.Filling → code_whole.Whole → code_waiting.Waiting
+waits_in level filling waits = record { level = level; filling = filling; whole = waits }
+
 -- the other parts, behind the pieces of an argument
 unfoldable pub filled_behind : Macros → Site → Bool → List Part → List Piece → Progress → Result Filled Stop
 filled_behind macros site counts parts pieces progress = do

@@ -2,23 +2,25 @@ ghost use Rattle.std.specs.Prelude.{◌≡◌, ◌≤◌, ◌<◌, ◌+◌, ◌-
 ghost use Rattle.std.specs.List.{list_any};
 ghost use Rattle.dm_macro.specs.Signs.{is_hash_hash};
 ghost use Rattle.dm_token.specs.declared.expansion.Mark.TheVariants.{Expansion};
-ghost use Rattle.dm_expand.specs.Laws.{Follows};
+ghost use Rattle.dm_expand.specs.Laws.{AreNoNames, Follows};
 ghost use Rattle.dm_expand.specs.Steps.{Progress as Progressed};
-ghost use Rattle.dm_expand.specs.Substitution.{filled_all};
+ghost use Rattle.dm_expand.specs.declared.machine.Level.{Level as Outer};
+ghost use Rattle.dm_expand.specs.Substitution.{filled_all, argument_for as given};
 ghost use Rattle.dm_expand.specs.Expansion as expansion;
 ghost use Rattle.dm_expand.specs.Items.{Item as Entry};
 ghost use Rattle.dm_expand.specs.Expansion.{Macros as LookedUp, expanded, token_of};
 ghost use Rattle.dm_expand.specs.Views.{StopsAs, IsWithin, pieces_in};
 ghost use Rattle.dm_expand.specs.HeadViews.{macros_of, site_with};
 ghost use Rattle.dm_expand.specs.ListViews.{gives, fills, pieces_before, tokens_before};
-ghost use Rattle.dm_expand.specs.Works.{outward, load, completed, completed_from, whole_and_others, taken_up, scanned_on, invoked_on, passed_on, found_on, ArePut, IsEnd, IsLastPlace};
+ghost use Rattle.dm_expand.specs.Works.{outward, load, completed, completed_from, completed_whole, waits_in, whole_and_others, taken_up, scanned_on, invoked_on, passed_on, found_on, ArePut, IsEnd, IsLastPlace};
 
 use crate::arguments::next_of;
 use crate::extension::Extensions;
+use crate::fill::argument_for;
 use crate::head::{Head, Invocation, Macros, head_of, names_nothing};
 use crate::hidden::Hidden;
 use crate::item::Item;
-use crate::needs::take_argument;
+use crate::needs::{stay, take_argument};
 use crate::paste::{Pieces, Site};
 use crate::progress::Progress;
 use crate::substitute::{Whole, complete, fill_from, fill_whole};
@@ -133,8 +135,7 @@ fn enter<'a>(
     requires inside { whole.behind ≤ length filling.body.definition.now.body }
     requires last { IsLastPlace filling.body.definition.now whole }
     ensures ok { OnOk result ((macros : LookedUp) (progress : Progressed) →
-        outward macros waiting.old.items (completed macros level.old filling.entry.site filling.entry.hidden filling.entry.body.definition.now (pieces_before (pieces_in filling.entry.pieces)
-        (filled_all (expanded macros) filling.entry.site (not (list_any is_hash_hash filling.entry.body.definition.now.body)) (whole_and_others filling.entry.body.definition.now whole.entry) progress)))
+        outward macros waiting.old.items (completed_whole macros level.old filling.entry whole.entry progress)
         ≡ outward macros waiting.new.items (scanned_on macros level.new progress)) }
     ensures load { OnOk result (load waiting.new.items ≡ load waiting.old.items + suc (length filling.entry.body.definition.now.body - whole.entry.behind)) }
 {
@@ -181,9 +182,55 @@ fn leave(
     Ok(())
 }
 
+// Fills in a parameter whose argument expands to these tokens.
+fn fill_in<'a>(
+    macros: &Macros<'a>,
+    filling: Filling<'a>,
+    whole: Whole<'a>,
+    tokens: Vec<Item>,
+    progress: &mut Progress,
+) -> Result<Filling<'a>, Stop>
+    requires { IsWithin progress.old }
+    ensures ok { IfOk result (λ filled. (level : Outer) →
+        taken_up (macros_of macros.now) (waits_in level filling.entry whole.entry) (Ok (gives tokens.items progress.old)) ≡ completed_from (macros_of macros.now) level filled whole.entry.behind progress.new) }
+    ensures body { IfOk result (λ filled. filled.body.definition.now ≡ filling.entry.body.definition.now) }
+    ensures follows { OnOk result (Follows progress.old progress.new) }
+    ensures stop { IfErr result (λ stop. (level : Outer) →
+        StopsAs (taken_up (macros_of macros.now) (waits_in level filling.entry whole.entry) (Ok (gives tokens.items progress.old))) stop) }
+{
+    let mut filling = filling;
+    let counts = !filling.body.pastes;
+    let more = fill_whole(macros.alloc, &filling.site, whole, tokens, counts, progress)?;
+    filling.pieces.append(more)?;
+    Ok(filling)
+}
+
+// Fills in a parameter whose argument is its own expansion.
+fn fill_at_once<'a>(
+    macros: &Macros<'a>,
+    filling: Filling<'a>,
+    whole: Whole<'a>,
+    progress: &mut Progress,
+) -> Result<Filling<'a>, Stop>
+    requires within { IsWithin progress.old }
+    requires last { IsLastPlace filling.body.definition.now whole }
+    requires stays { AreNoNames (macros_of macros.now) (given filling.site whole.parameter) }
+    ensures ok { IfOk result (λ filled. (level : Outer) →
+        completed_whole (macros_of macros.now) level filling.entry whole.entry progress.old ≡ completed_from (macros_of macros.now) level filled whole.entry.behind progress.new) }
+    ensures body { IfOk result (λ filled. filled.body.definition.now ≡ filling.entry.body.definition.now) }
+    ensures follows { OnOk result (Follows progress.old progress.new) }
+    ensures stop { IfErr result (λ stop. (level : Outer) → StopsAs (completed_whole (macros_of macros.now) level filling.entry whole.entry progress.old) stop) }
+{
+    let mut filling = filling;
+    let body = filling.body;
+    let argument = take_argument(macros.alloc, &mut filling.site, body.definition, whole)?;
+    let filled = fill_in(macros, filling, whole, argument, progress)?;
+    Ok(filled)
+}
+
 // Goes on with a replacement from one of its parts on.
 fn go_on<'a>(
-    alloc: Global,
+    macros: &Macros<'a>,
     filling: Filling<'a>,
     from: usize,
     level: &mut Level,
@@ -191,62 +238,63 @@ fn go_on<'a>(
     progress: &mut Progress,
 ) -> Result<(), Stop>
     requires { IsWithin progress.old }
-    ensures ok { OnOk result ((macros : LookedUp) →
-        outward macros waiting.old.items (completed_from macros level.old filling.entry from progress.old) ≡ outward macros waiting.new.items (scanned_on macros level.new progress.new)) }
+    ensures ok { OnOk result (outward (macros_of macros.now) waiting.old.items (completed_from (macros_of macros.now) level.old filling.entry from progress.old)
+        ≡ outward (macros_of macros.now) waiting.new.items (scanned_on (macros_of macros.now) level.new progress.new)) }
     ensures follows { OnOk result (Follows progress.old progress.new) }
     ensures load { OnOk result (load waiting.new.items ≤ load waiting.old.items + (length filling.entry.body.definition.now.body - from)) }
-    ensures stop { IfErr result (λ stop. (macros : LookedUp) → StopsAs (completed_from macros level.old filling.entry from progress.old) stop) }
+    ensures stop { IfErr result (λ stop. StopsAs (completed_from (macros_of macros.now) level.old filling.entry from progress.old) stop) }
 {
+    let alloc = macros.alloc;
     let mut filling = filling;
-    let mine = &mut filling;
-    let counts = !mine.body.pastes;
-    let left = fill_from(
-        alloc,
-        &mine.site,
-        mine.body,
-        from,
-        counts,
-        progress,
-        &mut mine.pieces,
-    )?;
-    match left {
-        Some(whole) => {
-            enter(alloc, filling, whole, level, waiting)?;
-            Ok(())
-        }
-        None => {
+    let mut next = from;
+    'parts: loop {
+        let mine = &mut filling;
+        let counts = !mine.body.pastes;
+        let left = fill_from(
+            alloc,
+            &mine.site,
+            mine.body,
+            next,
+            counts,
+            progress,
+            &mut mine.pieces,
+        )?;
+        let Some(whole) = left else {
             leave(alloc, filling, level, progress)?;
-            Ok(())
+            return Ok(());
+        };
+        if !stay(macros, argument_for(&filling.site, whole.parameter)) {
+            enter(alloc, filling, whole, level, waiting)?;
+            return Ok(());
         }
+        filling = fill_at_once(macros, filling, whole, progress)?;
+        next = whole.behind;
     }
 }
 
 // Takes up a replacement that waited for the expansion of an argument, which is put out now.
 fn take_up<'a>(
-    alloc: Global,
+    macros: &Macros<'a>,
     waits: Waiting<'a>,
     level: &mut Level,
     waiting: &mut Vec<Waiting<'a>>,
     progress: &mut Progress,
 ) -> Result<(), Stop>
     requires { IsWithin progress.old }
-    ensures ok { OnOk result ((macros : LookedUp) →
-        outward macros waiting.old.items (taken_up macros waits.entry (Ok (gives level.old.out.items progress.old))) ≡ outward macros waiting.new.items (scanned_on macros level.new progress.new)) }
+    ensures ok { OnOk result (outward (macros_of macros.now) waiting.old.items (taken_up (macros_of macros.now) waits.entry (Ok (gives level.old.out.items progress.old)))
+        ≡ outward (macros_of macros.now) waiting.new.items (scanned_on (macros_of macros.now) level.new progress.new)) }
     ensures follows { OnOk result (Follows progress.old progress.new) }
     ensures load { OnOk result (load waiting.new.items < load waiting.old.items + suc (length waits.entry.filling.body.definition.now.body - waits.entry.whole.behind)) }
-    ensures stop { IfErr result (λ stop. (macros : LookedUp) → StopsAs (taken_up macros waits.entry (Ok (gives level.old.out.items progress.old))) stop) }
+    ensures stop { IfErr result (λ stop. StopsAs (taken_up (macros_of macros.now) waits.entry (Ok (gives level.old.out.items progress.old))) stop) }
 {
     let Waiting {
         level: outer,
         filling,
         whole,
     } = waits;
-    let mut filling = filling;
     let Level { rest: _, out } = mem::replace(level, outer);
-    let counts = !filling.body.pastes;
-    let more = fill_whole(alloc, &filling.site, whole, out, counts, progress)?;
-    filling.pieces.append(more)?;
-    go_on(alloc, filling, whole.behind, level, waiting, progress)?;
+    let filled = fill_in(macros, filling, whole, out, progress)?;
+    go_on(macros, filled, whole.behind, level, waiting, progress)?;
     Ok(())
 }
 
@@ -354,24 +402,24 @@ fn advance<'a>(
         let Some(waits) = waiting.pop() else {
             return Ok(None);
         };
-        take_up(macros.alloc, waits, level, waiting, progress)?;
+        take_up(macros, waits, level, waiting, progress)?;
     }
 }
 
 // A macro is replaced, as far as no argument is to be expanded first.
 fn replace<'a>(
-    alloc: Global,
+    macros: &Macros<'a>,
     invocation: Invocation<'a>,
     level: &mut Level,
     waiting: &mut Vec<Waiting<'a>>,
     progress: &mut Progress,
 ) -> Result<(), Stop>
     requires { IsWithin progress.old }
-    ensures ok { OnOk result ((macros : LookedUp) →
-        outward macros waiting.old.items (invoked_on macros level.old invocation.entry progress.old) ≡ outward macros waiting.new.items (scanned_on macros level.new progress.new)) }
+    ensures ok { OnOk result (outward (macros_of macros.now) waiting.old.items (invoked_on (macros_of macros.now) level.old invocation.entry progress.old)
+        ≡ outward (macros_of macros.now) waiting.new.items (scanned_on (macros_of macros.now) level.new progress.new)) }
     ensures follows { OnOk result (Follows progress.old progress.new) }
     ensures rises { OnOk result (progress.old.spent < progress.new.spent) }
-    ensures stop { IfErr result (λ stop. (macros : LookedUp) → StopsAs (invoked_on macros level.old invocation.entry progress.old) stop) }
+    ensures stop { IfErr result (λ stop. StopsAs (invoked_on (macros_of macros.now) level.old invocation.entry progress.old) stop) }
 {
     let Invocation {
         found,
@@ -387,9 +435,9 @@ fn replace<'a>(
         site,
         hidden,
         body: found.body,
-        pieces: Pieces::new(alloc),
+        pieces: Pieces::new(macros.alloc),
     };
-    go_on(alloc, filling, 0, level, waiting, progress)?;
+    go_on(macros, filling, 0, level, waiting, progress)?;
     Ok(())
 }
 
@@ -419,7 +467,7 @@ pub fn expand_list(
         progress,
         &mut put,
     )? {
-        replace(macros.alloc, invocation, &mut level, &mut waiting, progress)?;
+        replace(macros, invocation, &mut level, &mut waiting, progress)?;
     }
     put_all(&mut level.out, &mut put)?;
     Ok(put)

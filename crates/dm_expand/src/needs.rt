@@ -1,10 +1,13 @@
-ghost use Rattle.std.specs.Prelude.{◌≡◌, List as Sequence, [], IfOk, OnOk, slice_index_or, set};
+ghost use Rattle.std.specs.Prelude.{◌≡◌, IsTrue, List as Sequence, [], IfOk, OnOk, slice_index_or, set};
 ghost use Rattle.dm_expand.specs.Items.{Item as Token};
+ghost use Rattle.dm_expand.specs.HeadViews.{macros_of};
+ghost use Rattle.dm_expand.specs.Laws.{AreNoNames};
 ghost use Rattle.dm_expand.specs.Needs.{with_others, AreServed};
 ghost use Rattle.dm_expand.specs.Substitution as substitution;
 ghost use Rattle.dm_expand.specs.Works.{parts_from, IsLastPlace};
 
 use crate::fill::argument_for;
+use crate::head::{Macros, names_nothing};
 use crate::item::{Item, copied};
 use crate::paste::Site;
 use crate::substitute::Whole;
@@ -46,4 +49,16 @@ pub fn take_argument(
     }
     let copy = copied(alloc, argument_for(site, whole.parameter))?;
     Ok(copy)
+}
+
+/// Whether it is sure that tokens are their own expansion, since they name no macro and nothing that is predefined.
+pub fn stay(macros: &Macros, items: &[Item]) -> bool
+    ensures { IsTrue result → AreNoNames (macros_of macros.now) items.now }
+{
+    for item in items {
+        if !names_nothing(macros, item) {
+            return false;
+        }
+    }
+    true
 }

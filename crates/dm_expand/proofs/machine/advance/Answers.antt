@@ -92,7 +92,7 @@ returns-in_err-take_up-clause-stop c =
     let up = waits_to macros c.levels.waiting.items popped c.in-Some.waits c.levels.level c.scan.new.level c.in_ok-found.found c.levels.progress _ c.levels.invariant.0 more c.levels.invariant.2 c.in_ok-found.ensures.found.2 none (not_some c.in_ok-found.found (sym c.if-is_some.ensures)) c.in-Some.ensures.items in
     stops_handed_as c.from_residual-in_err-take_up.result c.in_err-take_up.field-0.0 (taken_up macros c.in-Some.waits done) _ c.from_residual-in_err-take_up.ensures.1
     (λ other is. up ∙ ap (tokens_before (c.levels.invariant.0 ++ more)) (ap (outward macros popped) is ∙ outward-stops macros popped other))
-    (c.in_err-take_up.ensures.stop macros)
+    c.in_err-take_up.ensures.stop
 
 pub levels-smaller : goal.levels-smaller
 levels-smaller c = omega (arith, c.in_ok-take_up.ensures.load, ap load c.in-Some.ensures.items ∙ load-push c.pop.new.self.items c.in-Some.waits)
@@ -108,7 +108,7 @@ levels-preserved c =
       put_behind c.args.put.now.items c.levels.put.items c.scan.new.put.items c.levels.invariant.0 more c.levels.invariant.1 c.in_ok-found.ensures.found.1.0,
       waits_to macros c.levels.waiting.items c.pop.new.self.items c.in-Some.waits c.levels.level c.scan.new.level c.in_ok-found.found c.levels.progress _ c.levels.invariant.0 more c.levels.invariant.2 c.in_ok-found.ensures.found.2 none
           (not_some c.in_ok-found.found (sym c.if-is_some.ensures)) c.in-Some.ensures.items
-          ∙ ap (tokens_before all) (c.in_ok-take_up.ensures.ok macros),
+          ∙ ap (tokens_before all) c.in_ok-take_up.ensures.ok,
       follows_on _ c.levels.progress _ c.levels.invariant.3 c.in_ok-take_up.ensures.follows,
       within_on c.levels.progress _ c.levels.invariant.4 c.in_ok-take_up.ensures.follows,
     )

@@ -49,7 +49,7 @@ expansions-preserved c =
           ∙ ap (tokens_before before)
           (c.in_ok-invocation.ensures.found.2
           ∙ ap (λ (found : Option code_invocation.Invocation). tokens_before more (outward macros waiting (found_on macros c.advance.new.level found progress))) c.in-Some.is
-          ∙ ap (tokens_before more) (c.in_ok-replace.ensures.ok macros))
+          ∙ ap (tokens_before more) c.in_ok-replace.ensures.ok)
           ∙ tokens_before-append before more _,
       follows_on _ _ _ follows c.in_ok-replace.ensures.follows,
       within_on _ _ (within_on _ _ c.expansions.invariant.4 c.in_ok-invocation.ensures.follows) c.in_ok-replace.ensures.follows,
@@ -69,7 +69,7 @@ returns-in_err-replace-clause-stop c =
     (c.in_ok-invocation.ensures.found.2
     ∙ ap (λ (found : Option code_invocation.Invocation). tokens_before more (outward macros waiting (found_on macros c.advance.new.level found progress))) c.in-Some.is
     ∙ ap (tokens_before more) (ap (outward macros waiting) is ∙ outward-stops macros waiting other)))
-    (c.in_err-replace.ensures.stop macros)
+    c.in_err-replace.ensures.stop
 
 pub returns-clause-ok : goal.returns-clause-ok
 returns-clause-ok c =
