@@ -341,12 +341,13 @@ fn put_all(out: &mut Vec<Item>, put: &mut Vec<Token>) -> Result<(), Memory>
     Ok(())
 }
 
-// Puts out what the outermost list has gathered, once that is much.
+// Puts out what the outermost list has gathered, once that is much, and gives back room that it has left.
 fn put_some(outermost: bool, level: &mut Level, put: &mut Vec<Token>) -> Result<(), Memory>
     ensures { OnOk result ((more : Sequence Entry) × ArePut outermost put.old.items more put.new.items × (level.old.out.items ≡ more ++ level.new.out.items) × (level.new.rest.items ≡ level.old.rest.items)) }
 {
     if outermost && level.out.len() >= GATHERED {
         put_all(&mut level.out, put)?;
+        give_back(&mut level.rest);
     }
     Ok(())
 }
