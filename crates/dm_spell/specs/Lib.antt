@@ -1,2 +1,5 @@
+pub mod Directives
+pub mod Keywords
+pub mod Punctuators
 pub mod Rows
 pub mod Tables

@@ -1,10 +1,12 @@
 pub mod Answer
 pub mod Bytes
 pub mod Equal
-pub mod formers
+pub mod LimitNumbers
 pub mod Limits
 pub mod Names
 pub mod Places
 pub mod Prefixes
+pub mod Refusals
 pub mod TrailFalls
 pub mod Trails
+pub mod formers

@@ -6,10 +6,12 @@
 mod boxed;
 mod bytes;
 mod expansion;
+pub mod limit_numbers;
 mod limits;
 mod list;
 mod name;
 mod place;
+pub mod refusals;
 mod stop;
 #[cfg(test)]
 mod tests;
@@ -21,7 +23,11 @@ mod unit;
 pub use boxed::Boxed;
 pub use bytes::is_digit;
 pub use expansion::{Definition, Expansion, Mark, Origin};
-pub use limits::{greatest_int, source_length_limit};
+pub use limits::{
+    GREATEST_HEIGHT, HEADER_COUNT, MOST_DEFINITIONS, MOST_FILES, MOST_INCLUSIONS, MOST_NESTED,
+    MOST_TOKENS, MOST_TYPE_BYTES, MOST_UNITS, MOST_WORK, USUAL_STEPS, greatest_int,
+    source_length_limit,
+};
 pub use list::List;
 pub use name::is_normal_name;
 pub use place::{Place, Span, place_at};

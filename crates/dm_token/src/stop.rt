@@ -8,7 +8,7 @@ pub struct Memory;
 /// Why source is refused, and where.
 #[derive(Clone, Copy, Debug, PartialEq, Eq)]
 pub struct Refusal {
-    /// 1 to 22, as printed.
+    /// One of `refusals`, as printed.
     pub number: u8,
     /// The number of the typing rule that is broken, or 0.
     pub detail: u8,
@@ -18,7 +18,7 @@ pub struct Refusal {
 /// A limit that is passed.
 #[derive(Clone, Copy, Debug, PartialEq, Eq)]
 pub struct Limit {
-    /// 1 to 10, as printed.
+    /// One of `limit_numbers`, as printed.
     pub number: u8,
     /// The number of the file that is named beside it.
     pub file: u32,
