@@ -2,16 +2,22 @@
 """Tries whether each edit of must-fail/ and more-must-fail/ still fits the files of its crate, and lists those that don't.
 
 An edit has lines `file: PATH`, and below each pairs of lines `old: TEXT` and `new: TEXT`. A pair replaces what the earlier ones
-left, in which its old text has to stand exactly once. Nothing is proved here: whether the prover refuses an edit is for
-`rt ci`, and for `bench/edits.sh` where the gate leaves it out.
+left, in which its old text has to stand exactly once; its new text names no constant that the file doesn't. Nothing is proved
+here: whether the prover refuses an edit is for `rt ci`, and for `bench/edits.sh` where the gate leaves it out.
 
 usage: edits.py [NAME..]     only the edits of these crates
 """
 import os
+import re
 import sys
 
 TOP = os.path.dirname(os.path.dirname(os.path.abspath(__file__)))
 FOLDERS = ["must-fail", "more-must-fail"]
+CONSTANT = re.compile(r"(?<!::)\b[A-Z][A-Z0-9]*_[A-Z0-9_]+\b")
+
+
+class Misfit(Exception):
+    """Why an edit doesn't fit."""
 
 
 def read(path):
@@ -19,30 +25,39 @@ def read(path):
         return file.read()
 
 
-def misfit(crate, edit):
-    """Why an edit doesn't fit its crate, or None where it does."""
-    texts, was = {}, {}
+def pairs_of(edit):
+    """The pairs of an edit, each with the path of its file."""
     path = old = None
     for line in read(edit).split("\n"):
         key, _, text = line.partition(": ")
         if key == "file":
             path = text
-            if path not in texts:
-                if not os.path.isfile(os.path.join(crate, path)):
-                    return f"there is no file {path}"
-                texts[path] = was[path] = read(os.path.join(crate, path))
         elif key == "old" and path and old is None:
             old = text
         elif key in ("new", "new:") and old:
-            count = texts[path].count(old)
-            if count != 1:
-                return f"this stands {count} times in {path}: {old}"
-            texts[path], old = texts[path].replace(old, text), None
+            yield path, old, text
+            old = None
         elif line:
-            return f"this line is out of place: {line}"
+            raise Misfit(f"this line is out of place: {line}")
     if old is not None:
-        return f"there is no new text for: {old}"
-    return "it changes nothing" if texts == was else None
+        raise Misfit(f"there is no new text for: {old}")
+
+
+def fit(crate, edit):
+    """Makes an edit of the texts of its crate's files, of which nothing is written."""
+    texts = {}
+    for path, old, new in pairs_of(edit):
+        at = os.path.join(crate, path)
+        if not os.path.isfile(at):
+            raise Misfit(f"there is no file {path}")
+        text = texts.get(path) or read(at)
+        if text.count(old) != 1:
+            raise Misfit(f"this stands {text.count(old)} times in {path}: {old}")
+        for name in set(CONSTANT.findall(new)) - set(CONSTANT.findall(text)):
+            raise Misfit(f"{path} doesn't name {name}")
+        texts[path] = text.replace(old, new)
+    if all(text == read(os.path.join(crate, path)) for path, text in texts.items()):
+        raise Misfit("it changes nothing")
 
 
 def edits_of(crate):
@@ -54,13 +69,17 @@ def edits_of(crate):
 
 
 def main():
-    names = sys.argv[1:] or sorted(os.listdir(os.path.join(TOP, "crates")))
-    crates = [os.path.join(TOP, "crates", name) for name in names]
-    found = [(edit, misfit(crate, edit)) for crate in crates for edit in edits_of(crate)]
-    wrong = [(edit, why) for edit, why in found if why]
-    for edit, why in wrong:
-        print(f"{os.path.relpath(edit, TOP)}: {why}")
-    print(f"edits: {len(wrong)} of {len(found)} don't fit their files" if wrong else f"edits: all {len(found)} fit their files")
+    count = wrong = 0
+    for name in sys.argv[1:] or sorted(os.listdir(os.path.join(TOP, "crates"))):
+        crate = os.path.join(TOP, "crates", name)
+        for edit in edits_of(crate):
+            count += 1
+            try:
+                fit(crate, edit)
+            except Misfit as why:
+                wrong += 1
+                print(f"{os.path.relpath(edit, TOP)}: {why}")
+    print(f"edits: {wrong} of {count} don't fit their files" if wrong else f"edits: all {count} fit their files")
     return 1 if wrong else 0
 
 
