@@ -50,7 +50,7 @@ def fit(crate, edit):
         at = os.path.join(crate, path)
         if not os.path.isfile(at):
             raise Misfit(f"there is no file {path}")
-        text = texts.get(path) or read(at)
+        text = texts[path] if path in texts else read(at)
         if text.count(old) != 1:
             raise Misfit(f"this stands {text.count(old)} times in {path}: {old}")
         for name in set(CONSTANT.findall(new)) - set(CONSTANT.findall(text)):
