@@ -1,8 +1,7 @@
 -- Which statements a tree of the code holds doesn't depend on what types its numbers stand for.
 --     expression-anywhere, whole-anywhere      of a tree
 --     initial-anywhere, local-anywhere      of an initialiser and of a declarator
-use Rattle.std.specs.Prelude.{◌≡◌, ℕ, suc, Bool, true, false, not, ◌&&◌, IsTrue, List, [], ◌∷◌, ◌++◌, map, length, Option, Some, None, refl}
-use Rattle.std.specs.List.{list_all}
+use Rattle.std.specs.Prelude.{◌≡◌, ℕ, suc, Bool, true, false, not, ◌&&◌, List, [], ◌∷◌, ◌++◌, map, length, Option, Some, None, refl}
 use Rattle.std.proofs.Common.{sym, ap, ap₂, ◌∙◌, subst}
 use Rattle.dm_type.specs.CTypes.{CType, void}
 use Rattle.dm_type.specs.Tables.{Table, type_of}

@@ -57,7 +57,7 @@ all_named names i (static ∷ statics) objects d (inl e) = by_name (or_true (sta
     by_name (inr f) later = later (inl f)
 
 pub begins_known : (program : Program) (input : List ℕ) (state : State) → Begins program input state → AreKnown program state.statics
-begins_known program input state (names, fresh, main, is_main, e) =
+begins_known program input state (bytes, names, fresh, main, is_main, e) =
     subst (λ (s : State). AreKnown program s.statics) (sym e) (λ d f. all_named names 0 program.statics [] d (inl f))
 
 -- ---- steps

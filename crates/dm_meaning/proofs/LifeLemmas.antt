@@ -21,7 +21,7 @@ use Rattle.dm_meaning.specs.Values.{Name, numbered, literal_of, elsewhere, part,
 use Rattle.dm_meaning.specs.Memory.{Memory, Block, look_up, changed_block, written, killed, contents_at, or_unset, IsFresh}
 use Rattle.dm_meaning.specs.Primitives.{Answer, answers, stops, refuses, Prim}
 use Rattle.dm_meaning.specs.Programs.{Program, Definition, layout, declaration_of, definition_of}
-use Rattle.dm_meaning.specs.Causes.{earliest, when, is_unset, is_null, member_causes, read_causes, store_causes, update_causes, use_causes, follow_causes, moved_pointer, moved_causes, pointer_distance, distance_causes, order_causes}
+use Rattle.dm_meaning.specs.Causes.{earliest, when, is_unset, is_null, entry_causes, read_causes, store_causes, update_causes, use_causes, follow_causes, moved_pointer, moved_causes, pointer_distance, distance_causes, order_causes}
 use Rattle.dm_meaning.specs.Operations.{Result, of_value, designates, Operand, World, Scene, Objects, Did, gives, breaks, ends_with, decided, unless, plain, typed, or_null, or_zero, truth_in, pointer_minus, byte_at, equal_pointers, ordered, equated, update_at, count_at, faulted, on_one, on_two, on_value, on_set, ill, on_place, designated, object_named, part_of, read_at, followed, member_of, converted, convert_bare, Truth, holds, untold, truth_of, on_truth, signed, on_pointers, on_move, on_plus, pointer_plus, combined, store_at, Made, replace_at, operate, provided, is_of_kind, number_alone, on_target, pointer_further}
 use Rattle.dm_meaning.specs.Running.{Doing, evaluates, gives_truth, gives_value, Run, done, to_do, Runs, no_runs, more_runs, locks_in, locks_in_all, Open, first_open, others_open, open_parts, operands_in, Hole, within, Holes, in_first, in_others}
 use Rattle.dm_meaning.specs.Expressions.{Move, goes, calls, fails, exits, lifted, as_move, by_truth, on_operand, value_of, answered, undefined_called, called, call_step, function_named, nth_run, form_step, node_step, own_or_inner, where_open, moves, moves_in}
@@ -187,7 +187,7 @@ module _ (n : ℕ) where
     member_keeps : (m : ℕ) (kind : CType) (result : Result) → DidKeeps (member_of scene world m kind result)
     member_keeps m kind (of_value value) =
         unless_keeps (when Unset (is_unset (or_unset (part_value value (part m ∷ []))))) (plain world (or_unset (part_value value (part m ∷ [])))) alive
-    member_keeps m kind (designates at) = unless_keeps (member_causes (layout scene.program) world.memory kind at) (gives world (designates (part_of at m)) []) alive
+    member_keeps m kind (designates at) = unless_keeps (entry_causes (layout scene.program) world.memory kind at) (gives world (designates (part_of at m)) []) alive
 
     converted_keeps : (kind : CType) (value : Value) → DidKeeps (converted world kind value)
     converted_keeps (integer kind) (integer_value other z) = alive
@@ -296,7 +296,8 @@ module _ (n : ℕ) where
     operate_keeps (object d) kind operands = designated_keeps (object_named scene.objects d)
     operate_keeps (function d) kind operands = alive
     operate_keeps read kind operands = one_keeps operands (λ a. on_place a.result (read_at scene world locks kind)) (λ a. place_keeps a.result (read_at scene world locks kind) (read_keeps kind))
-    operate_keeps decay kind operands = one_keeps operands _ (λ a. place_keeps a.result _ (λ at. alive))
+    operate_keeps decay kind operands =
+        one_keeps operands _ (λ a. place_keeps a.result _ (λ at. unless_keeps (entry_causes (layout scene.program) world.memory a.kind at) (plain world (pointer_value (to (part_of at 0)))) alive))
     operate_keeps convert kind operands = one_keeps operands _ (λ a. convert_keeps (bare kind) a.result)
     operate_keeps address kind operands = one_keeps operands _ (λ a. place_keeps a.result _ (λ at. alive))
     operate_keeps follow kind operands = one_keeps operands (λ a. on_value a.result (followed world)) (λ a. value_keeps a.result (followed world) followed_keeps)

@@ -118,11 +118,11 @@ module _ (change : Called) (calling : IsCallingWithAll change) where
       }
 
   begins_agrees : (input : List ℕ) (state : State) → Begins (new_of change) input state → (other : State) × Begins change.old input other × StateAgrees change [] state other
-  begins_agrees input state (names, fresh, main, is_main_here, e) =
+  begins_agrees input state (bytes, names, fresh, main, is_main_here, e) =
       let found = other_main (main_of (new_of change)) (main_of change.old) main (functions_main change.functions change.old.functions calling.functions) is_main_here in
       let small : IsSmall (limit change) (Some main) = subst (IsSmall (limit change)) is_main_here (main_small (new_of change) change.functions) in (
         start names change.old found.0 input,
-        (names, fresh, found.0, found.1, refl),
+        (bytes, names, fresh, found.0, found.1, refl),
         subst (λ s. StateAgrees change [] s (start names change.old found.0 input)) (sym e) (start_agrees names main found.0 input (found.2, small)),
       )
 
