@@ -70,7 +70,7 @@ module _ (scene : Scene) (world : World) (locks : List At) where
   provided_changes true did h = h
   provided_changes false did h = tt
 
-  number_changes : (kind : CType) (z : ℤ) → DidChanges (number_alone world kind z)
+  pub number_changes : (kind : CType) (z : ℤ) → DidChanges (number_alone world kind z)
   number_changes kind z = provided_changes (is_of_kind (typed kind z)) (plain world (typed kind z)) unchanged
 
   one_changes : (operands : List Operand) (next : Operand → Did) → ((a : Operand) → DidChanges (next a)) → DidChanges (on_one operands next)

@@ -25,7 +25,9 @@ mod PassRunLemmas
 mod PassStatementLemmas
 mod PassStateLemmas
 mod PassRefineLemmas
+mod FrameLemmas
 mod KnownLemmas
+mod OrderLemmas
 mod PassUnitLemmas
 mod LikenessLemmas
 mod StandLemmas

@@ -129,7 +129,7 @@ typed_result kind z = (typed kind z, refl, typed_set kind z)
 pointer_result : (p : Pointer) → IsSetResult (of_value (pointer_value p))
 pointer_result p = (pointer_value p, refl, refl)
 
-unless_sets : (causes : List Cause) (did : Did) → (causes ≡ [] → DidSets did) → DidSets (unless causes did)
+pub unless_sets : (causes : List Cause) (did : Did) → (causes ≡ [] → DidSets did) → DidSets (unless causes did)
 unless_sets [] did h = h refl
 unless_sets (cause ∷ causes) did h = tt
 

@@ -10,7 +10,7 @@ use Rattle.dm_type.specs.CTypes.{CType}
 use Rattle.dm_meaning.specs.declared.cause.Cause.{Cause}
 use Rattle.dm_meaning.specs.declared.cause.Cause.TheVariants.{Overflow, Division, Shift, Conflict, Null, Bounds, Pointer as Order, Life, Unset, OtherType, Const, NoValue, External}
 use Rattle.dm_meaning.specs.Values.{Name, elsewhere, Path, At, Pointer, null, to, Value, integer_value, pointer_value, parts, unset, same_name, overlaps_any}
-use Rattle.dm_meaning.specs.Objects.{Layout, Reached, object_of, outside, foreign, unknown, are_alike, moved, distance}
+use Rattle.dm_meaning.specs.Objects.{Layout, Reached, object_of, outside, foreign, unknown, agree_without_const, moved, distance}
 use Rattle.dm_meaning.specs.Memory.{Memory, Block, look, reached, contents_at, lives, may_be_written}
 
 -- the order of the table of causes
@@ -63,7 +63,7 @@ is_outside unknown = false
 
 -- an object of another type than that of the access; const apart, types are compared by compatibility
 abbrev pub is_other : CType → Reached → Bool
-is_other access (object_of type fixed) = not (are_alike type access)
+is_other access (object_of type fixed) = not (agree_without_const type access)
 is_other access outside = false
 is_other access foreign = true
 is_other access unknown = false

@@ -3,7 +3,7 @@
 --     part_at layout type path      what a path leads to
 --     byte_of layout type path      its first byte, from the object's
 --     moved layout type target path count      the path that many elements further on
---     are_alike a b      the types are compatible, const apart
+--     agree_without_const a b      the types are compatible, const apart
 --     all_unset, all_zero      the first values of objects (6.7.9p10)
 use Rattle.std.specs.Prelude.{ℕ, zero, suc, ◌+◌, ◌*◌, nat_lt, nat_le, Bool, true, false, ◌||◌, List, [], ◌∷◌, map, replicate, Option, Some, None, option_map, slice_get, ℤ, pos, negsuc, ◌+ℤ◌, ◌-ℤ◌, ◌==◌, if◌then◌else◌}
 use Rattle.dm_int.specs.Operators.{int_eq}
@@ -72,8 +72,8 @@ unqualified (function result parameters) = function result parameters
 unqualified (const type) = unqualified type
 
 -- the types are compatible, const apart
-abbrev pub are_alike : CType → CType → Bool
-are_alike a b = are_compatible (unqualified a) (unqualified b)
+abbrev pub agree_without_const : CType → CType → Bool
+agree_without_const a b = are_compatible (unqualified a) (unqualified b)
 
 -- ---- bytes
 
@@ -117,12 +117,12 @@ alone (suc n) = past ∷ []
 
 -- move within an array of one whose element has this type
 abbrev pub moved_alone : CType → CType → ℕ → ℤ → Option Path
-moved_alone type target index count = if are_alike type target then option_map alone (up_to 1 (pos index +ℤ count)) else None
+moved_alone type target index count = if agree_without_const type target then option_map alone (up_to 1 (pos index +ℤ count)) else None
 
 -- move within the array that this type is, from an element
 abbrev pub moved_along : CType → CType → ℕ → ℤ → Option Path
 moved_along (array type (Some length)) target n count =
-    if are_alike type target then option_map (λ index. part index ∷ []) (up_to length (pos n +ℤ count)) else None
+    if agree_without_const type target then option_map (λ index. part index ∷ []) (up_to length (pos n +ℤ count)) else None
 moved_along type target n count = None
 
 abbrev pub is_array : CType → Bool
@@ -158,12 +158,12 @@ apart_within true inner = inner
 apart_within false inner = None
 
 abbrev pub distance_between : CType → CType → ℕ → ℕ → Path → Path → Option ℤ → Option ℤ
-distance_between (array type length) target m n [] [] inner = if are_alike type target then Some (apart m n) else None
+distance_between (array type length) target m n [] [] inner = if agree_without_const type target then Some (apart m n) else None
 distance_between whole target m n p q inner = apart_within (m == n) inner
 
 -- an object as an array of one of the target type
 abbrev pub distance_alone : CType → CType → ℕ → ℕ → Option ℤ
-distance_alone type target m n = if are_alike type target then Some (apart m n) else None
+distance_alone type target m n = if agree_without_const type target then Some (apart m n) else None
 
 -- How many elements of the target type lie between two paths into an object, if both lead to elements of one array, or one past its end.
 abbrev pub distance : Layout → CType → CType → Path → Path → Option ℤ

@@ -1,9 +1,10 @@
-ghost use Rattle.std.specs.Prelude.{◌≡◌, ◌⊎◌, ℕ, List};
+ghost use Rattle.std.specs.Prelude.{◌≡◌, ◌⊎◌, ℕ, List, Some, length};
 ghost use Rattle.dm_meaning.specs.Among.{IsAmong};
-ghost use Rattle.dm_meaning.specs.Machines.{going};
+ghost use Rattle.dm_meaning.specs.Machines.{going, RunsWithin};
 ghost use Rattle.dm_meaning.specs.MoreObjects.{IsSettled, Spared, with_memory};
 ghost use Rattle.dm_meaning.specs.Refinement.{Refines};
 ghost use Rattle.dm_meaning.specs.Replaced.{Replaced, new_of, IsReplacement};
+ghost use Rattle.dm_meaning.specs.Choices.{run_by};
 ghost use Rattle.dm_meaning.specs.Called as called;
 ghost use Rattle.dm_meaning.specs.Called.{Called, IsCalling};
 ghost use Rattle.dm_meaning.specs.CalledUnits.{IsUnitCalling, IsUnitCallingWith, IsUnitCallingWithAll};
@@ -24,7 +25,7 @@ ghost use Rattle.dm_meaning.specs.Primitives.{Prim};
 ghost use Rattle.dm_meaning.specs.Lifetimes.{IsAlive, numbers_of};
 ghost use Rattle.dm_meaning.specs.States.{State};
 ghost use Rattle.dm_meaning.specs.Steps.{Step};
-ghost use Rattle.dm_meaning.specs.Units.{Begins, machine_of, program_of};
+ghost use Rattle.dm_meaning.specs.Units.{AreBytes, Begins, machine_of, program_of};
 ghost use Rattle.dm_meaning.specs.ReplacedUnits.{IsUnitReplacement};
 ghost use Rattle.dm_tree.specs.Units.{TypedUnit};
 ghost use Rattle.dm_type.specs.Tables.{Table};
@@ -44,6 +45,13 @@ pub fn inner_steps()
 /// The locks of a part of an expression are among those of the whole.
 pub fn inner_locks()
     ensures { (hole : Hole) (run : Run) (lock : At) → IsAmong lock (locks_in run) → IsAmong lock (locks_in (filled_in hole run)) }
+{}
+
+/// What a run has come to by choices, one for each step, is what a run of the machine has come to: by as many steps where it
+/// hasn't ended, and by no more where it has.
+pub fn chosen_runs()
+    ensures { (program : Program) (choices input : List ℕ) (state : State) → AreBytes input → run_by program choices input ≡ Some state
+        → RunsWithin (machine_of program) input (length choices) state }
 {}
 
 /// Each program refines itself.

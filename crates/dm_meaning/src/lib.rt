@@ -18,7 +18,8 @@ pub use examples::{
     unset_and_dead_are_carried_and_not_used, values_fit_their_types,
 };
 pub use laws::{
-    Simulation, called_refines, called_units_refine, called_with_refines, called_with_units_refine,
+    Simulation, called_refines, called_units_refine, called_with_all_refines,
+    called_with_all_units_refine, called_with_refines, called_with_units_refine, chosen_runs,
     enumerated_refines, extended_answers, extended_steps, inner_locks, inner_steps, own_lifetimes,
     refines_itself, refines_through, settled_beginnings, simulated, spared_steps, unended_steps,
     units_refine,
