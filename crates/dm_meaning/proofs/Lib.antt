@@ -16,6 +16,7 @@ mod FewerLemmas
 mod YieldLemmas
 mod StaticLemmas
 mod CallExample
+mod EnumeratorExample
 mod GrowLemmas
 mod ChangeLemmas
 mod SpareRunLemmas
