@@ -206,9 +206,6 @@ module _ (program : Program) (names : ℕ → ℕ) (objects : Objects) (memory m
     ends_here : TasksSettled memory (ends objects ∷ rest)
     ends_here = (made, settled)
 
-    evaluation_here : (tree : Tree) (use_of : Use) → UseSettled memory use_of → TasksSettled memory rest → TaskSettled memory (evaluation tree use_of)
-    evaluation_here tree use_of h k = (begun_locks memory tree, h)
-
     otherwise : Same (onward objects (ends objects ∷ rest) more) (onward objects (ends objects ∷ rest) memory)
     otherwise = stays (ends objects ∷ rest) ends_here
 

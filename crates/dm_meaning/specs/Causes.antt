@@ -2,7 +2,7 @@
 --     earliest causes      the first in the table's order
 --     read_causes, store_causes      those of an access (6.3.2.1p2, 6.5p2, 6.5p7, 6.2.4p2, 6.7.3p6)
 --     pointer_causes, moved_causes, ..      those of pointers
-use Rattle.std.specs.Prelude.{ℕ, nat_le, Bool, true, false, not, ◌&&◌, ◌||◌, List, [], ◌∷◌, ◌++◌, Option, Some, None, Result, Ok, Err, is_none, ℤ, pos, if◌then◌else◌}
+use Rattle.std.specs.Prelude.{ℕ, nat_le, Bool, true, false, not, ◌&&◌, ◌||◌, List, [], ◌∷◌, ◌++◌, Option, Some, None, is_none, ℤ, pos, if◌then◌else◌}
 use Rattle.dm_int.specs.declared.Fault.{Fault}
 use Rattle.dm_int.specs.declared.Fault.TheVariants.{Overflow as TooGreat, Zero, Shift as BadShift}
 use Rattle.dm_int.specs.Operators.{int_eq}
@@ -48,10 +48,6 @@ abbrev pub fault_cause : Fault → Cause
 fault_cause TooGreat = Overflow
 fault_cause Zero = Division
 fault_cause BadShift = Shift
-
-abbrev pub fault_causes : Result ℤ Fault → List Cause
-fault_causes (Ok number) = []
-fault_causes (Err fault) = fault_cause fault ∷ []
 
 -- ---- accesses
 
