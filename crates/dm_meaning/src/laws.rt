@@ -125,7 +125,8 @@ pub fn extended_answers()
 
 /// A program in which calls of an added function without parameters, whose body is one `return` of an expression, stand in
 /// place of the expression, at any places in any functions, refines the program with the expression. The expression gives a
-/// value and names no objects but those of static storage duration, and the values of `case` labels stay the same.
+/// value and names no objects but those of static storage duration, which the program may define or not, and the values of
+/// `case` labels stay the same.
 pub fn called_refines()
     ensures { (change : Called) → IsCalling change → Refines (machine_of (called.new_of change)) (machine_of change.old) }
 {}
@@ -145,8 +146,9 @@ pub fn settled_beginnings()
 /// A program in which calls of an added function with one parameter, whose body is one `return` of an expression, stand in
 /// place of the expression with the argument in place of the parameter, at any places in any functions, refines the program
 /// with the expression. The expression gives a value, reads the parameter once, and first, below its outermost operator, and
-/// names no other objects but those of static storage duration. The argument gives a value of another type than void; it may
-/// have effects, and calls of the added function in it. The values of `case` labels stay the same.
+/// names no other objects but those of static storage duration, which the program may define or not. The argument gives a value
+/// of another type than void; it may have effects, and calls of the added function in it. The values of `case` labels stay the
+/// same.
 pub fn called_with_refines()
     ensures { (change : Called) (parameter : ℕ) → IsCallingWith change parameter → Refines (machine_of (called.new_of change)) (machine_of change.old) }
 {}
@@ -170,9 +172,9 @@ pub fn called_with_units_refine()
 /// A program in which calls of an added function, whose body is one `return` of an expression, stand in place of the expression
 /// with the arguments in place of the parameters, at any places in any functions, refines the program with the expression. The
 /// function has any number of parameters, none among them. The expression gives a value, reads each parameter once, and first,
-/// and names no other objects but those of static storage duration; it may be a parameter and nothing else. The arguments give
-/// values of other types than void; they may have effects, and calls of the added function in them, and are evaluated in any
-/// order. The values of `case` labels stay the same.
+/// and names no other objects but those of static storage duration, which the program may define or not; it may be a parameter
+/// and nothing else. The arguments give values of other types than void; they may have effects, and calls of the added function
+/// in them, and are evaluated in any order. The values of `case` labels stay the same.
 pub fn called_with_all_refines()
     ensures { (change : Called) → IsCallingWithAll change → Refines (machine_of (called.new_of change)) (machine_of change.old) }
 {}
