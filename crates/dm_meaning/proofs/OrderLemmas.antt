@@ -1,10 +1,9 @@
 -- Where objects are numbered in the order in which they are made, their numbers were never used: so a run by choices is one of the machine's.
-use Rattle.std.specs.Prelude.{◌≡◌, refl, ◌⊎◌, ℕ, zero, suc, ◌+◌, ◌≤◌, ◌==◌, Bool, true, false, List, [], ◌∷◌, ◌++◌, map, length, Option, Some, None, option_map, if◌then◌else◌}
+use Rattle.std.specs.Prelude.{◌≡◌, refl, ℕ, zero, suc, ◌+◌, ◌≤◌, ◌==◌, Bool, true, false, List, [], ◌∷◌, map, length, Option, Some, None, option_map, if◌then◌else◌}
 use Rattle.std.proofs.Common.{arith, ap, sym, ◌∙◌, subst, inl, inr}
 use Rattle.dm_token.specs.declared.place.Place.{Place}
 use Rattle.dm_type.specs.CTypes.{CType}
-use Rattle.dm_tree.specs.Trees.{Label, both, either, choose, comma, call, sizeof_tree, block as block_form, for_loop, full, if_statement, switch, while_loop, do_loop, break, continue, return, Tree, node, listed, parts_of, Initialiser, one_expression, in_braces}
-use Rattle.dm_tree.specs.Units.{Declaration}
+use Rattle.dm_tree.specs.Trees.{Label, block as block_form, for_loop, full, if_statement, switch, while_loop, do_loop, break, continue, return, Tree, node, listed, parts_of, Initialiser, one_expression, in_braces}
 use Rattle.dm_meaning.specs.declared.cause.Cause.{Cause}
 use Rattle.dm_meaning.specs.declared.cause.Cause.TheVariants.{NoValue}
 use Rattle.dm_meaning.specs.Among.{IsAmong}
@@ -12,24 +11,24 @@ use Rattle.dm_meaning.specs.Machines.{Standing, going, exited, undefined, Goes, 
 use Rattle.dm_meaning.specs.Values.{Name, numbered, literal_of, elsewhere, Path, At, Value, unset, with_part}
 use Rattle.dm_meaning.specs.Memory.{Memory, Block, look_up, new_block, changed_block, written, killed, IsFresh}
 use Rattle.dm_meaning.specs.Objects.{all_zero}
-use Rattle.dm_meaning.specs.Primitives.{Answer, answers, stops, refuses, Prim}
+use Rattle.dm_meaning.specs.Primitives.{Prim}
 use Rattle.dm_meaning.specs.Programs.{Program, Definition, Static, layout, declaration_of, definition_of}
-use Rattle.dm_meaning.specs.Operations.{Result, Operand, World, Scene, Objects, Did, gives, breaks, ends_with, object_named, whole, Truth, holds, untold, truth_of, operate}
-use Rattle.dm_meaning.specs.Running.{Doing, evaluates as evaluating, gives_truth, gives_value, Run, done, to_do, Runs, no_runs, more_runs, locks_in, locks_in_all, Open, first_open, others_open, open_parts, operands_in, Hole, within, Holes, in_first, in_others}
-use Rattle.dm_meaning.specs.Expressions.{Move, goes, calls, fails, exits, lifted, as_move, by_truth, on_operand, value_of, answered, undefined_called, called, call_step, function_named, nth_run, form_step, node_step, own_or_inner, where_open, moves, moves_in}
+use Rattle.dm_meaning.specs.Operations.{Result, Objects, object_named, whole, Truth, holds, untold, truth_of}
+use Rattle.dm_meaning.specs.Running.{Run, done, to_do, locks_in, Hole}
+use Rattle.dm_meaning.specs.Expressions.{Move, goes, calls, fails, exits, value_of, moves}
 use Rattle.dm_meaning.specs.States.{Use, drops, chooses, selects, repeats, continues, returns, initialises, Task, begins, declares, initials, evaluates, again, tests, ends, ends_switch, leaves, skips, hands_back, Caller, State}
 use Rattle.dm_meaning.specs.Statements.{Turned, onward, refused, type_declared, named_from, made_from, named_since, declared_in, as_list, on_one_tree, on_first_tree, on_option_tree, on_tree_if, returning, begin_form, begin_tree, unlabelled, begin_declarator, begin_initialiser, by_test, concluded, unfolded, ended, after_break, after_continue}
 use Rattle.dm_meaning.specs.Steps.{given_from, opened_memory, opened, lacks_value, gone_back, handed_back, is_main, gives_nothing, body_place, no_place, closed, turned, moved, scene_of, expression_steps, task_steps, steps_from, next, Step}
 use Rattle.dm_meaning.specs.Units.{AreBytes, static_numbers, zeroed_from, static_value, initialised, all_initialised, statics_memory, argv_kind, arguments_for, start, main_of, machine_of}
 use Rattle.dm_meaning.specs.Choices.{chosen, in_order, stepped, after, after_start, run_by}
-use Rattle.dm_meaning.proofs.AmongLemmas.{among_either, among-map_from}
-use Rattle.dm_meaning.proofs.ChangeLemmas.{Changes, DidChanges, number_changes, operate_changes}
+use Rattle.dm_meaning.proofs.AmongLemmas.{among-map_from}
 use Rattle.dm_meaning.proofs.ExtendLemmas.{look_changed}
 use Rattle.dm_meaning.proofs.GrowLemmas.{differ_is}
 use Rattle.dm_meaning.proofs.MoveLemmas.{HasOne}
 use Rattle.dm_meaning.proofs.OptionLemmas.{none_is_some, some_is_some}
 use Rattle.dm_meaning.proofs.StateLemmas.{from_steps}
 use Rattle.dm_meaning.proofs.StepLemmas.{has_next}
+use Rattle.dm_meaning.proofs.StoreLemmas.{MoveKeeps, moves_keep}
 
 -- ---- memory
 
@@ -57,6 +56,9 @@ order_written : (name : Name) (path : Path) (value : Value) (memory : Memory) �
 order_written (numbered n) path value memory order = order_changed n (λ block. record block { contents = with_part path value block.contents }) memory order
 order_written (literal_of bytes unit) path value memory order = order
 order_written (elsewhere identifier) path value memory order = order
+
+order_stored : (at : At) (value : Value) (memory : Memory) → InOrder memory → InOrder (written memory at value)
+order_stored at value memory order = order_written at.name at.path value memory order
 
 order_killed : (ns : List ℕ) (memory : Memory) → InOrder memory → InOrder (killed ns memory)
 order_killed [] memory order = order
@@ -151,110 +153,7 @@ order_start program main input =
     order_opened program (λ i. suc argv + i) main (arguments_for argv main.parameters) ((argv, block) ∷ statics_memory program (λ i. i) statics)
     (all.0, λ j k e. all.1 j (suc argv + k) (omega (arith, e)))
 
--- ---- expressions
-
-module _ (scene : Scene) (world : World) (locks : List At) (order : InOrder world.memory) where
-  abbrev MoveOrders : {T H : Type 0} → Move T H → Type 0
-  MoveOrders (goes after t) = InOrder after.memory
-  MoveOrders (calls f arguments kind h) = Unit {0}
-  MoveOrders (fails cause place) = Unit {0}
-  MoveOrders (exits status) = Unit {0}
-
-  lifted_orders : {T H U G : Type 0} (f : T → U) (g : H → G) (m : Move T H) → MoveOrders m → MoveOrders (lifted f g m)
-  lifted_orders f g (goes after t) h = h
-  lifted_orders f g (calls e arguments kind a) h = tt
-  lifted_orders f g (fails cause place) h = tt
-  lifted_orders f g (exits status) h = tt
-
-  changes_order : (later : World) (new : List At) → Changes world later new → InOrder later.memory
-  changes_order later new (inl (e, f)) = subst (λ (w : World). InOrder w.memory) (sym e) order
-  changes_order later new (inr (at, value, e, f, made)) = subst (λ (w : World). InOrder w.memory) (sym e) (order_written at.name at.path value world.memory order)
-
-  did_orders : (kind : CType) (place : Place) (own : List At) (did : Did) → DidChanges scene world locks did → MoveOrders (as_move kind place own did)
-  did_orders kind place own (gives later result new) h = changes_order later new h
-  did_orders kind place own (breaks cause) h = tt
-  did_orders kind place own (ends_with status) h = tt
-
-  truth_orders : (place : Place) (truth : Truth) (following : Bool → Run) → MoveOrders (by_truth world place truth following)
-  truth_orders place (holds b) following = order
-  truth_orders place (untold cause) following = tt
-
-  operand_orders : (place : Place) (operands : List Operand) (following : Operand → Move Run Hole) → ((a : Operand) → MoveOrders (following a)) → MoveOrders (on_operand place operands following)
-  operand_orders place [] following h = tt
-  operand_orders place (a ∷ []) following h = h a
-  operand_orders place (a ∷ b ∷ rest) following h = tt
-
-  answered_orders : (kind : CType) (place : Place) (answer : Option Answer) → MoveOrders (answered world kind place answer)
-  answered_orders kind place None = tt
-  answered_orders kind place (Some (answers value input output)) = order
-  answered_orders kind place (Some (stops status)) = tt
-  answered_orders kind place (Some (refuses cause)) = tt
-
-  undefined_orders : (kind : CType) (place : Place) (arguments : List Value) (o : Option Declaration) → MoveOrders (undefined_called scene world kind place arguments o)
-  undefined_orders kind place arguments None = tt
-  undefined_orders kind place arguments (Some declaration) = answered_orders kind place (Prim declaration.name declaration.kind (layout scene.program) world.memory arguments world.input world.output)
-
-  called_orders : (kind : CType) (place : Place) (arguments : List Value) (d : ℕ) (o : Option Definition) → MoveOrders (called scene world kind place arguments d o)
-  called_orders kind place arguments d None = undefined_orders kind place arguments (declaration_of scene.program d)
-  called_orders kind place arguments d (Some definition) = tt
-
-  call_orders : (kind : CType) (place : Place) (arguments : List Value) (o : Option ℕ) → MoveOrders (call_step scene world kind place arguments o)
-  call_orders kind place arguments None = tt
-  call_orders kind place arguments (Some d) = called_orders kind place arguments d (definition_of scene.program d)
-
-  form_orders : (label : Label) (kind : CType) (place : Place) (members : Runs) (operands : List Operand) → MoveOrders (form_step scene world locks label kind place members operands)
-  form_orders both kind place members operands = operand_orders place operands _ (λ a. truth_orders place (truth_of world.memory (value_of a.result)) _)
-  form_orders either kind place members operands = operand_orders place operands _ (λ a. truth_orders place (truth_of world.memory (value_of a.result)) _)
-  form_orders choose kind place members operands = operand_orders place operands _ (λ a. truth_orders place (truth_of world.memory (value_of a.result)) _)
-  form_orders comma kind place members operands = order
-  form_orders call kind place members operands = call_orders kind place (map (λ a. value_of a.result) operands) (function_named (nth_run 0 members))
-  form_orders sizeof_tree kind place members operands = did_orders kind place [] _ (number_changes scene world locks kind _)
-  form_orders label kind place members operands = did_orders kind place (locks_in_all members) (operate scene world locks label kind operands) (operate_changes scene world locks label kind operands)
-
-  node_orders : (doing : Doing) (kind : CType) (place : Place) (members : Runs) (operands : List Operand) → MoveOrders (node_step scene world locks doing kind place members operands)
-  node_orders (evaluating label) kind place members operands = form_orders label kind place members operands
-  node_orders gives_truth kind place members operands = operand_orders place operands _ (λ a. truth_orders place (truth_of world.memory (value_of a.result)) _)
-  node_orders gives_value kind place members operands = operand_orders place operands _ (λ a. order)
-
-  own_orders : {T H : Type 0} (o : Option (List Operand)) (own : List Operand → Move T H) (inner : List (Move T H)) → ((operands : List Operand) → MoveOrders (own operands))
-      → ((m : Move T H) → IsAmong m inner → MoveOrders m) → (m : Move T H) → IsAmong m (own_or_inner o own inner) → MoveOrders m
-  own_orders (Some operands) own inner h k m (inl e) = subst MoveOrders (sym e) (h operands)
-  own_orders (Some operands) own inner h k m (inr e) = absurd e
-  own_orders None own inner h k m e = k m e
-
-  mapped_orders : {T H U G : Type 0} (f : T → U) (g : H → G) (ms : List (Move T H)) → ((m : Move T H) → IsAmong m ms → MoveOrders m) → (m : Move U G) → IsAmong m (map (lifted f g) ms) → MoveOrders m
-  mapped_orders f g ms h m e = let from = among-map_from (lifted f g) m ms e in subst MoveOrders (sym from.2) (lifted_orders f g from.0 (h from.0 from.1))
-
-  open_orders : {T H : Type 0} (opened : Bool) (xs : List (Move T H)) → ((m : Move T H) → IsAmong m xs → MoveOrders m) → (m : Move T H) → IsAmong m (where_open opened xs) → MoveOrders m
-  open_orders true xs h m e = h m e
-  open_orders false xs h m e = absurd e
-
-  joined_orders : {T H : Type 0} (xs ys : List (Move T H)) → ((m : Move T H) → IsAmong m xs → MoveOrders m) → ((m : Move T H) → IsAmong m ys → MoveOrders m) → (m : Move T H) → IsAmong m (xs ++ ys) → MoveOrders m
-  joined_orders xs ys h k m e = pick (among_either m xs ys e)
-    where
-      pick : IsAmong m xs ⊎ IsAmong m ys → MoveOrders m
-      pick (inl a) = h m a
-      pick (inr b) = k m b
-
-  mutual
-    moves_order : (run : Run) (m : Move Run Hole) → IsAmong m (moves scene world locks run) → MoveOrders m
-    moves_order (done kind result own) m e = absurd e
-    moves_order (to_do doing kind place members) m e =
-        own_orders (operands_in (open_parts doing) members) (node_step scene world locks doing kind place members)
-        (map (lifted (to_do doing kind place) (within doing kind place)) (moves_in scene world locks (open_parts doing) members))
-        (node_orders doing kind place members)
-        (mapped_orders (to_do doing kind place) (within doing kind place) (moves_in scene world locks (open_parts doing) members) (moves_in_order members (open_parts doing))) m e
-
-    moves_in_order : (members : Runs) (opens : Open) (m : Move Runs Holes) → IsAmong m (moves_in scene world locks opens members) → MoveOrders m
-    moves_in_order no_runs opens m e = absurd e
-    moves_in_order (more_runs first rest) opens m e =
-        joined_orders (where_open (first_open opens) (map (lifted (λ run. more_runs run rest) (λ hole. in_first hole rest)) (moves scene world locks first)))
-        (map (lifted (more_runs first) (in_others first)) (moves_in scene world locks (others_open opens) rest))
-        (open_orders (first_open opens) (map (lifted (λ run. more_runs run rest) (λ hole. in_first hole rest)) (moves scene world locks first))
-        (mapped_orders (λ run. more_runs run rest) (λ hole. in_first hole rest) (moves scene world locks first) (moves_order first)))
-        (mapped_orders (more_runs first) (in_others first) (moves_in scene world locks (others_open opens) rest) (moves_in_order rest (others_open opens))) m e
-
--- ---- statements
+-- ---- steps
 
 module _ (program : Program) (names : ℕ → ℕ) (objects : Objects) (memory : Memory) (new : AreNext names 0 memory) where
   abbrev TurnOrders : Turned → Type 0
@@ -310,7 +209,7 @@ module _ (program : Program) (names : ℕ → ℕ) (objects : Objects) (memory :
 
   initialiser_orders : (rest : List Task) (at : At) (kind : CType) (initialiser : Initialiser) (trees : List Tree) → TurnOrders (begin_initialiser program objects rest memory at kind initialiser trees)
   initialiser_orders rest at kind one_expression trees = one_tree_orders trees _ _ (λ x. new.0) new.0
-  initialiser_orders rest at kind (in_braces items) trees = order_written at.name at.path _ memory new.0
+  initialiser_orders rest at kind (in_braces items) trees = order_stored at _ memory new.0
 
   test_orders : (place : Place) (truth : Truth) (following : Bool → Turned) → ((b : Bool) → TurnOrders (following b)) → TurnOrders (by_test place truth following)
   test_orders place (holds b) following h = h b
@@ -323,7 +222,7 @@ module _ (program : Program) (names : ℕ → ℕ) (objects : Objects) (memory :
   conclusion_orders rest place (repeats loop) result = test_orders place (truth_of memory (value_of result)) _ (λ b. new.0)
   conclusion_orders rest place (continues loop) result = new.0
   conclusion_orders rest place returns result = new.0
-  conclusion_orders rest place (initialises at kind) result = order_written at.name at.path _ memory new.0
+  conclusion_orders rest place (initialises at kind) result = order_stored at _ memory new.0
 
   ended_orders : (saved : Objects) (rest : List Task) → TurnOrders (ended saved objects rest memory)
   ended_orders saved rest = order_killed (named_since saved objects) memory new.0
@@ -371,7 +270,7 @@ module _ (program : Program) (names : ℕ → ℕ) (state : State) (new : AreNex
     opened_orders kind hole arguments None = new.0
     opened_orders kind hole arguments (Some definition) = order_opened program names definition arguments state.world.memory new
 
-    moved_orders : (m : Move Run Hole) → MoveOrders (scene_of program state) state.world [] new.0 m → StateOrders (moved program names state rest place use_of m)
+    moved_orders : (m : Move Run Hole) → MoveKeeps InOrder order_stored (scene_of program state) state.world [] new.0 m → StateOrders (moved program names state rest place use_of m)
     moved_orders (goes world run) h = h
     moved_orders (calls f arguments kind hole) h = opened_orders kind hole arguments (definition_of program f)
     moved_orders (fails cause at) h = new.0
@@ -383,7 +282,7 @@ module _ (program : Program) (names : ℕ → ℕ) (state : State) (new : AreNex
     expression_orders (to_do doing kind at members) other e =
         let run = to_do doing kind at members in
         let from = among-map_from (moved program names state rest place use_of) other (moves (scene_of program state) state.world (locks_in run) run) e in
-        subst StateOrders (sym from.2) (moved_orders from.0 (moves_order (scene_of program state) state.world (locks_in run) new.0 run from.0 from.1))
+        subst StateOrders (sym from.2) (moved_orders from.0 (moves_keep InOrder order_stored (scene_of program state) state.world (locks_in run) new.0 run from.0 from.1))
 
   one_orders : (one other : State) → StateOrders one → IsAmong other (one ∷ []) → StateOrders other
   one_orders one other h (inl e) = subst StateOrders (sym e) h
