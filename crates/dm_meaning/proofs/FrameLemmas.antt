@@ -17,11 +17,12 @@ use Rattle.dm_meaning.specs.Operations.{Result, Objects, object_named, Truth, ho
 use Rattle.dm_meaning.specs.Running.{Run, done, to_do, Hole, locks_in}
 use Rattle.dm_meaning.specs.Expressions.{Move, goes, calls, fails, exits, value_of, moves}
 use Rattle.dm_meaning.specs.States.{Loop, Use, drops, chooses, selects, repeats, continues, returns, initialises, Task, begins, declares, initials, evaluates, again, tests, ends, ends_switch, leaves, skips, hands_back, Frame, Caller, State}
-use Rattle.dm_meaning.specs.Statements.{Turned, onward, refused, Local, with_expressions, is_automatic, is_automatic_declaration, automatic_in, declared_by_label, declared_in, type_declared, named_from, item_tasks_by, item_tasks, items_tasks, unlabelled, start_task, start_tasks, as_list, entered, begin_for, loop_with, on_one_tree, on_first_tree, on_option_tree, on_tree_if, returning, begin_form, begin_tree, initial_of, begin_declarator, part_tasks, begin_initialiser, selected_by, by_test, begins_one, concluded, tested, continued, unfolded, ended, after_break, after_continue}
+use Rattle.dm_meaning.specs.Statements.{Turned, onward, refused, Local, with_expressions, is_automatic, is_automatic_declaration, automatic_in, declared_by_label, declared_in, type_declared, named_from, item_tasks_by, item_tasks, items_tasks, unlabelled, start_task, start_tasks, as_list, entered, begin_for, loop_with, returning, begin_form, begin_tree, initial_of, begin_declarator, part_tasks, begin_initialiser, selected_by, by_test, begins_one, concluded, tested, continued, unfolded, ended, after_break, after_continue}
 use Rattle.dm_meaning.specs.Steps.{opened_frame, opened, lacks_value, gone_back, handed_back, is_main, gives_nothing, body_place, no_place, closed, turned, moved, scene_of, expression_steps, task_steps, Step}
 use Rattle.dm_meaning.specs.Units.{main_in, Begins}
 use Rattle.dm_meaning.specs.Called.{is_parameter, is_nowhere_local}
 use Rattle.dm_meaning.proofs.AmongLemmas.{among_either, among-map_from}
+use Rattle.dm_meaning.proofs.FormLemmas.{one_tree_has, first_tree_has, option_tree_has, if_tree_has}
 use Rattle.dm_meaning.proofs.OptionLemmas.{none_is_some, some_is_some, and_left, and_right}
 use Rattle.dm_meaning.proofs.GrowLemmas.{equal_is, differ_is}
 use Rattle.dm_meaning.proofs.StateLemmas.{from_steps}
@@ -196,28 +197,6 @@ module _ (program : Program) (d : ℕ) (apart : is_nowhere_local program d ≡ t
   -- ---- statements
 
   module _ (names : ℕ → ℕ) (objects : Objects) (memory : Memory) (lacks : Lacks d objects) where
-    one_tree_lacks : (trees : List Tree) (following : Tree → Turned) (a : Turned) → ((x : Tree) → TurnedLacks d (following x)) → TurnedLacks d a → TurnedLacks d (on_one_tree trees following a)
-    one_tree_lacks [] following a h k = k
-    one_tree_lacks (x ∷ []) following a h k = h x
-    one_tree_lacks (x ∷ y ∷ rest) following a h k = k
-
-    first_tree_lacks : (trees : List Tree) (following : Tree → List Tree → Turned) (a : Turned) → ((x : Tree) (xs : List Tree) → TurnedLacks d (following x xs)) → TurnedLacks d a
-        → TurnedLacks d (on_first_tree trees following a)
-    first_tree_lacks [] following a h k = k
-    first_tree_lacks (x ∷ rest) following a h k = h x rest
-
-    option_tree_lacks : (trees : List Tree) (following : Option Tree → Turned) (a : Turned) → ((x : Option Tree) → TurnedLacks d (following x)) → TurnedLacks d a
-        → TurnedLacks d (on_option_tree trees following a)
-    option_tree_lacks [] following a h k = h None
-    option_tree_lacks (x ∷ []) following a h k = h (Some x)
-    option_tree_lacks (x ∷ y ∷ rest) following a h k = k
-
-    if_tree_lacks : (there : Bool) (trees : List Tree) (following : Option Tree → List Tree → Turned) (a : Turned) → ((x : Option Tree) (xs : List Tree) → TurnedLacks d (following x xs)) → TurnedLacks d a
-        → TurnedLacks d (on_tree_if there trees following a)
-    if_tree_lacks false trees following a h k = h None trees
-    if_tree_lacks true [] following a h k = k
-    if_tree_lacks true (x ∷ xs) following a h k = h (Some x) xs
-
     returning_lacks : (o : Option Tree) → TurnedLacks d (returning objects memory o)
     returning_lacks None = (lacks, (tt, tt))
     returning_lacks (Some tree) = (lacks, (tt, tt))
@@ -236,18 +215,18 @@ module _ (program : Program) (d : ℕ) (apart : is_nowhere_local program d ≡ t
 
       form_lacks : (label : Label) (trees : List Tree) → TurnedLacks d (begin_form program names objects rest memory label trees)
       form_lacks block_form trees = (entered_lacks trees, joined_lack (items_tasks trees) (ends objects ∷ rest) (items_lack trees) (lacks, behind))
-      form_lacks full trees = one_tree_lacks trees _ _ (λ x. (lacks, (tt, (lacks, behind)))) otherwise
+      form_lacks full trees = one_tree_has (TurnedLacks d) trees _ _ (λ x. (lacks, (tt, (lacks, behind)))) otherwise
       form_lacks if_statement trees =
-          first_tree_lacks trees _ _ (λ x xs. first_tree_lacks xs _ _ (λ y ys. option_tree_lacks ys _ _ (λ z. (lacks, (tt, (lacks, behind)))) otherwise) otherwise) otherwise
-      form_lacks switch trees = first_tree_lacks trees _ _ (λ x xs. (lacks, (tt, (lacks, behind)))) otherwise
-      form_lacks while_loop trees = first_tree_lacks trees _ _ (λ x xs. one_tree_lacks xs _ _ (λ y. (lacks, (lacks, (lacks, behind)))) otherwise) otherwise
-      form_lacks do_loop trees = first_tree_lacks trees _ _ (λ x xs. one_tree_lacks xs _ _ (λ y. (lacks, (tt, (lacks, (lacks, behind))))) otherwise) otherwise
+          first_tree_has (TurnedLacks d) trees _ _ (λ x xs. first_tree_has (TurnedLacks d) xs _ _ (λ y ys. option_tree_has (TurnedLacks d) ys _ _ (λ z. (lacks, (tt, (lacks, behind)))) otherwise) otherwise) otherwise
+      form_lacks switch trees = first_tree_has (TurnedLacks d) trees _ _ (λ x xs. (lacks, (tt, (lacks, behind)))) otherwise
+      form_lacks while_loop trees = first_tree_has (TurnedLacks d) trees _ _ (λ x xs. one_tree_has (TurnedLacks d) xs _ _ (λ y. (lacks, (lacks, (lacks, behind)))) otherwise) otherwise
+      form_lacks do_loop trees = first_tree_has (TurnedLacks d) trees _ _ (λ x xs. one_tree_has (TurnedLacks d) xs _ _ (λ y. (lacks, (tt, (lacks, (lacks, behind))))) otherwise) otherwise
       form_lacks (for_loop first second third) trees =
-          if_tree_lacks first trees _ _
-          (λ x xs. if_tree_lacks second xs _ _ (λ y ys. if_tree_lacks third ys _ _ (λ z zs. one_tree_lacks zs _ _ (λ b. for_lacks x (loop_with y z b)) otherwise) otherwise) otherwise) otherwise
+          if_tree_has (TurnedLacks d) first trees _ _
+          (λ x xs. if_tree_has (TurnedLacks d) second xs _ _ (λ y ys. if_tree_has (TurnedLacks d) third ys _ _ (λ z zs. one_tree_has (TurnedLacks d) zs _ _ (λ b. for_lacks x (loop_with y z b)) otherwise) otherwise) otherwise) otherwise
       form_lacks break trees = (lacks, (tt, behind))
       form_lacks continue trees = (lacks, (tt, behind))
-      form_lacks return trees = option_tree_lacks trees (returning objects memory) _ returning_lacks otherwise
+      form_lacks return trees = option_tree_has (TurnedLacks d) trees (returning objects memory) _ returning_lacks otherwise
       form_lacks label trees = otherwise
 
       statement_lacks : (tree : Tree) → TurnedLacks d (begin_tree program names objects rest memory tree)
@@ -262,7 +241,7 @@ module _ (program : Program) (d : ℕ) (apart : is_nowhere_local program d ≡ t
           )
 
       initialiser_lacks : (at : At) (kind : CType) (initialiser : Initialiser) (trees : List Tree) → TurnedLacks d (begin_initialiser program objects rest memory at kind initialiser trees)
-      initialiser_lacks at kind one_expression trees = one_tree_lacks trees _ _ (λ x. (lacks, (tt, behind))) (lacks, behind)
+      initialiser_lacks at kind one_expression trees = one_tree_has (TurnedLacks d) trees _ _ (λ x. (lacks, (tt, behind))) (lacks, behind)
       initialiser_lacks at kind (in_braces items) trees = (lacks, joined_lack (part_tasks (layout program) at kind 0 items trees) rest (parts_lack (layout program) at kind 0 items trees) behind)
 
       test_lacks : (place : Place) (truth : Truth) (following : Bool → Turned) → ((b : Bool) → TurnedLacks d (following b)) → TurnedLacks d (by_test place truth following)

@@ -9,6 +9,7 @@ mod StatementLemmas
 mod StateLemmas
 mod StartLemmas
 mod ExtendLemmas
+mod FormLemmas
 mod StoreLemmas
 mod LifeLemmas
 mod UnitLemmas

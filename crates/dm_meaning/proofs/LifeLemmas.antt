@@ -16,10 +16,11 @@ use Rattle.dm_meaning.specs.Operations.{Result, Objects, Truth, holds, untold, t
 use Rattle.dm_meaning.specs.Running.{Run, done, to_do, locks_in, Hole}
 use Rattle.dm_meaning.specs.Expressions.{Move, goes, calls, fails, exits, value_of, moves}
 use Rattle.dm_meaning.specs.States.{Use, drops, chooses, selects, repeats, continues, returns, initialises, Task, begins, declares, initials, evaluates as evaluating, again, tests, ends, ends_switch, leaves, skips, hands_back, Caller, State}
-use Rattle.dm_meaning.specs.Statements.{Turned, onward, refused, type_declared, made_from, named_since, declared_in, as_list, on_one_tree, on_first_tree, on_option_tree, on_tree_if, returning, begin_form, begin_tree, begin_statement, unlabelled, begin_declarator, begin_initialiser, by_test, concluded, unfolded, ended, after_break, after_continue}
+use Rattle.dm_meaning.specs.Statements.{Turned, onward, refused, type_declared, made_from, named_since, declared_in, as_list, returning, begin_form, begin_tree, begin_statement, unlabelled, begin_declarator, begin_initialiser, by_test, concluded, unfolded, ended, after_break, after_continue}
 use Rattle.dm_meaning.specs.Steps.{given_from, opened, lacks_value, gone_back, handed_back, is_main, gives_nothing, body_place, no_place, turned, moved, scene_of, expression_steps, task_steps, Step}
 use Rattle.dm_meaning.specs.Lifetimes.{IsAlive, numbers_of}
 use Rattle.dm_meaning.proofs.AmongLemmas.{among-map_from}
+use Rattle.dm_meaning.proofs.FormLemmas.{one_tree_has, first_tree_has, option_tree_has, if_tree_has}
 use Rattle.dm_meaning.proofs.ExtendLemmas.{look_changed}
 use Rattle.dm_meaning.proofs.StateLemmas.{from_steps}
 use Rattle.dm_meaning.proofs.StoreLemmas.{MoveKeeps, moves_keep}
@@ -120,56 +121,36 @@ module _ (n : ℕ) (program : Program) (names : ℕ → ℕ) (objects : Objects)
   Keeps (onward others tasks after) = IsAmong n (numbers_of objects) ⊎ IsAlive after n
   Keeps (refused cause place) = Unit {0}
 
-  one_tree_keeps : (trees : List Tree) (following : Tree → Turned) (otherwise : Turned) → ((x : Tree) → Keeps (following x)) → Keeps otherwise → Keeps (on_one_tree trees following otherwise)
-  one_tree_keeps [] following otherwise h k = k
-  one_tree_keeps (x ∷ []) following otherwise h k = h x
-  one_tree_keeps (x ∷ y ∷ rest) following otherwise h k = k
-
-  first_tree_keeps : (trees : List Tree) (following : Tree → List Tree → Turned) (otherwise : Turned) → ((x : Tree) (xs : List Tree) → Keeps (following x xs)) → Keeps otherwise → Keeps (on_first_tree trees following otherwise)
-  first_tree_keeps [] following otherwise h k = k
-  first_tree_keeps (x ∷ rest) following otherwise h k = h x rest
-
-  option_tree_keeps : (trees : List Tree) (following : Option Tree → Turned) (otherwise : Turned) → ((x : Option Tree) → Keeps (following x)) → Keeps otherwise → Keeps (on_option_tree trees following otherwise)
-  option_tree_keeps [] following otherwise h k = h None
-  option_tree_keeps (x ∷ []) following otherwise h k = h (Some x)
-  option_tree_keeps (x ∷ y ∷ rest) following otherwise h k = k
-
-  if_tree_keeps : (there : Bool) (trees : List Tree) (following : Option Tree → List Tree → Turned) (otherwise : Turned) → ((x : Option Tree) (xs : List Tree) → Keeps (following x xs)) → Keeps otherwise
-      → Keeps (on_tree_if there trees following otherwise)
-  if_tree_keeps false trees following otherwise h k = h None trees
-  if_tree_keeps true [] following otherwise h k = k
-  if_tree_keeps true (x ∷ rest) following otherwise h k = h (Some x) rest
-
   returning_keeps : (o : Option Tree) → Keeps (returning objects memory o)
   returning_keeps None = inr alive
   returning_keeps (Some tree) = inr alive
 
   begin_keeps : (rest : List Task) (label : Label) (trees : List Tree) → Keeps (begin_form program names objects rest memory label trees)
   begin_keeps rest block_form trees = inr (alive_made program names n new 0 (declared_in program trees) memory alive)
-  begin_keeps rest full trees = one_tree_keeps trees _ _ (λ x. inr alive) (inr alive)
+  begin_keeps rest full trees = one_tree_has Keeps trees _ _ (λ x. inr alive) (inr alive)
   begin_keeps rest if_statement trees =
-      first_tree_keeps trees _ _ (λ x xs. first_tree_keeps xs _ _ (λ y ys. option_tree_keeps ys _ _ (λ z. inr alive) (inr alive)) (inr alive)) (inr alive)
-  begin_keeps rest switch trees = first_tree_keeps trees _ _ (λ x xs. inr alive) (inr alive)
-  begin_keeps rest while_loop trees = first_tree_keeps trees _ _ (λ x xs. one_tree_keeps xs _ _ (λ y. inr alive) (inr alive)) (inr alive)
-  begin_keeps rest do_loop trees = first_tree_keeps trees _ _ (λ x xs. one_tree_keeps xs _ _ (λ y. inr alive) (inr alive)) (inr alive)
+      first_tree_has Keeps trees _ _ (λ x xs. first_tree_has Keeps xs _ _ (λ y ys. option_tree_has Keeps ys _ _ (λ z. inr alive) (inr alive)) (inr alive)) (inr alive)
+  begin_keeps rest switch trees = first_tree_has Keeps trees _ _ (λ x xs. inr alive) (inr alive)
+  begin_keeps rest while_loop trees = first_tree_has Keeps trees _ _ (λ x xs. one_tree_has Keeps xs _ _ (λ y. inr alive) (inr alive)) (inr alive)
+  begin_keeps rest do_loop trees = first_tree_has Keeps trees _ _ (λ x xs. one_tree_has Keeps xs _ _ (λ y. inr alive) (inr alive)) (inr alive)
   begin_keeps rest (for_loop first second third) trees =
-      if_tree_keeps first trees _ _
-      (λ x xs. if_tree_keeps second xs _ _
-      (λ y ys. if_tree_keeps third ys _ _
-      (λ z zs. one_tree_keeps zs _ _ (λ b. inr (alive_made program names n new 0 (declared_in program (as_list x)) memory alive)) (inr alive))
+      if_tree_has Keeps first trees _ _
+      (λ x xs. if_tree_has Keeps second xs _ _
+      (λ y ys. if_tree_has Keeps third ys _ _
+      (λ z zs. one_tree_has Keeps zs _ _ (λ b. inr (alive_made program names n new 0 (declared_in program (as_list x)) memory alive)) (inr alive))
       (inr alive))
       (inr alive))
       (inr alive)
   begin_keeps rest break trees = inr alive
   begin_keeps rest continue trees = inr alive
-  begin_keeps rest return trees = option_tree_keeps trees (returning objects memory) _ returning_keeps (inr alive)
+  begin_keeps rest return trees = option_tree_has Keeps trees (returning objects memory) _ returning_keeps (inr alive)
   begin_keeps rest label trees = inr alive
 
   statement_keeps : (rest : List Task) (tree : Tree) → Keeps (begin_tree program names objects rest memory tree)
   statement_keeps rest (node label kind spans trees) = begin_keeps rest label (listed trees)
 
   initialiser_keeps : (rest : List Task) (at : At) (kind : CType) (initialiser : Initialiser) (trees : List Tree) → Keeps (begin_initialiser program objects rest memory at kind initialiser trees)
-  initialiser_keeps rest at kind one_expression trees = one_tree_keeps trees _ _ (λ x. inr alive) (inr alive)
+  initialiser_keeps rest at kind one_expression trees = one_tree_has Keeps trees _ _ (λ x. inr alive) (inr alive)
   initialiser_keeps rest at kind (in_braces items) trees = inr (alive_written at.name at.path _ memory n alive)
 
   test_keeps : (place : Place) (truth : Truth) (following : Bool → Turned) → ((b : Bool) → Keeps (following b)) → Keeps (by_test place truth following)

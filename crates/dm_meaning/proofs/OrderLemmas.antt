@@ -17,11 +17,12 @@ use Rattle.dm_meaning.specs.Operations.{Result, Objects, object_named, whole, Tr
 use Rattle.dm_meaning.specs.Running.{Run, done, to_do, locks_in, Hole}
 use Rattle.dm_meaning.specs.Expressions.{Move, goes, calls, fails, exits, value_of, moves}
 use Rattle.dm_meaning.specs.States.{Use, drops, chooses, selects, repeats, continues, returns, initialises, Task, begins, declares, initials, evaluates, again, tests, ends, ends_switch, leaves, skips, hands_back, Caller, State}
-use Rattle.dm_meaning.specs.Statements.{Turned, onward, refused, type_declared, named_from, made_from, named_since, declared_in, as_list, on_one_tree, on_first_tree, on_option_tree, on_tree_if, returning, begin_form, begin_tree, unlabelled, begin_declarator, begin_initialiser, by_test, concluded, unfolded, ended, after_break, after_continue}
+use Rattle.dm_meaning.specs.Statements.{Turned, onward, refused, type_declared, named_from, made_from, named_since, declared_in, as_list, returning, begin_form, begin_tree, unlabelled, begin_declarator, begin_initialiser, by_test, concluded, unfolded, ended, after_break, after_continue}
 use Rattle.dm_meaning.specs.Steps.{given_from, opened_memory, opened, lacks_value, gone_back, handed_back, is_main, gives_nothing, body_place, no_place, closed, turned, moved, scene_of, expression_steps, task_steps, steps_from, next, Step}
 use Rattle.dm_meaning.specs.Units.{AreBytes, static_numbers, zeroed_from, static_value, initialised, all_initialised, statics_memory, argv_kind, arguments_for, start, main_of, machine_of}
 use Rattle.dm_meaning.specs.Choices.{chosen, in_order, stepped, after, after_start, run_by}
 use Rattle.dm_meaning.proofs.AmongLemmas.{among-map_from}
+use Rattle.dm_meaning.proofs.FormLemmas.{one_tree_has, first_tree_has, option_tree_has, if_tree_has}
 use Rattle.dm_meaning.proofs.ExtendLemmas.{look_changed}
 use Rattle.dm_meaning.proofs.GrowLemmas.{differ_is}
 use Rattle.dm_meaning.proofs.MoveLemmas.{HasOne}
@@ -160,55 +161,35 @@ module _ (program : Program) (names : ℕ → ℕ) (objects : Objects) (memory :
   TurnOrders (onward others tasks later) = InOrder later
   TurnOrders (refused cause place) = Unit {0}
 
-  one_tree_orders : (trees : List Tree) (following : Tree → Turned) (otherwise : Turned) → ((x : Tree) → TurnOrders (following x)) → TurnOrders otherwise → TurnOrders (on_one_tree trees following otherwise)
-  one_tree_orders [] following otherwise h k = k
-  one_tree_orders (x ∷ []) following otherwise h k = h x
-  one_tree_orders (x ∷ y ∷ rest) following otherwise h k = k
-
-  first_tree_orders : (trees : List Tree) (following : Tree → List Tree → Turned) (otherwise : Turned) → ((x : Tree) (xs : List Tree) → TurnOrders (following x xs)) → TurnOrders otherwise → TurnOrders (on_first_tree trees following otherwise)
-  first_tree_orders [] following otherwise h k = k
-  first_tree_orders (x ∷ rest) following otherwise h k = h x rest
-
-  option_tree_orders : (trees : List Tree) (following : Option Tree → Turned) (otherwise : Turned) → ((x : Option Tree) → TurnOrders (following x)) → TurnOrders otherwise → TurnOrders (on_option_tree trees following otherwise)
-  option_tree_orders [] following otherwise h k = h None
-  option_tree_orders (x ∷ []) following otherwise h k = h (Some x)
-  option_tree_orders (x ∷ y ∷ rest) following otherwise h k = k
-
-  if_tree_orders : (there : Bool) (trees : List Tree) (following : Option Tree → List Tree → Turned) (otherwise : Turned) → ((x : Option Tree) (xs : List Tree) → TurnOrders (following x xs)) → TurnOrders otherwise
-      → TurnOrders (on_tree_if there trees following otherwise)
-  if_tree_orders false trees following otherwise h k = h None trees
-  if_tree_orders true [] following otherwise h k = k
-  if_tree_orders true (x ∷ rest) following otherwise h k = h (Some x) rest
-
   returning_orders : (o : Option Tree) → TurnOrders (returning objects memory o)
   returning_orders None = new.0
   returning_orders (Some tree) = new.0
 
   form_begins : (rest : List Task) (label : Label) (trees : List Tree) → TurnOrders (begin_form program names objects rest memory label trees)
   form_begins rest block_form trees = next_made program names 0 (declared_in program trees) memory new
-  form_begins rest full trees = one_tree_orders trees _ _ (λ x. new.0) new.0
-  form_begins rest if_statement trees = first_tree_orders trees _ _ (λ x xs. first_tree_orders xs _ _ (λ y ys. option_tree_orders ys _ _ (λ z. new.0) new.0) new.0) new.0
-  form_begins rest switch trees = first_tree_orders trees _ _ (λ x xs. new.0) new.0
-  form_begins rest while_loop trees = first_tree_orders trees _ _ (λ x xs. one_tree_orders xs _ _ (λ y. new.0) new.0) new.0
-  form_begins rest do_loop trees = first_tree_orders trees _ _ (λ x xs. one_tree_orders xs _ _ (λ y. new.0) new.0) new.0
+  form_begins rest full trees = one_tree_has TurnOrders trees _ _ (λ x. new.0) new.0
+  form_begins rest if_statement trees = first_tree_has TurnOrders trees _ _ (λ x xs. first_tree_has TurnOrders xs _ _ (λ y ys. option_tree_has TurnOrders ys _ _ (λ z. new.0) new.0) new.0) new.0
+  form_begins rest switch trees = first_tree_has TurnOrders trees _ _ (λ x xs. new.0) new.0
+  form_begins rest while_loop trees = first_tree_has TurnOrders trees _ _ (λ x xs. one_tree_has TurnOrders xs _ _ (λ y. new.0) new.0) new.0
+  form_begins rest do_loop trees = first_tree_has TurnOrders trees _ _ (λ x xs. one_tree_has TurnOrders xs _ _ (λ y. new.0) new.0) new.0
   form_begins rest (for_loop first second third) trees =
-      if_tree_orders first trees _ _
-      (λ x xs. if_tree_orders second xs _ _
-      (λ y ys. if_tree_orders third ys _ _
-      (λ z zs. one_tree_orders zs _ _ (λ b. next_made program names 0 (declared_in program (as_list x)) memory new) new.0)
+      if_tree_has TurnOrders first trees _ _
+      (λ x xs. if_tree_has TurnOrders second xs _ _
+      (λ y ys. if_tree_has TurnOrders third ys _ _
+      (λ z zs. one_tree_has TurnOrders zs _ _ (λ b. next_made program names 0 (declared_in program (as_list x)) memory new) new.0)
       new.0)
       new.0)
       new.0
   form_begins rest break trees = new.0
   form_begins rest continue trees = new.0
-  form_begins rest return trees = option_tree_orders trees (returning objects memory) _ returning_orders new.0
+  form_begins rest return trees = option_tree_has TurnOrders trees (returning objects memory) _ returning_orders new.0
   form_begins rest label trees = new.0
 
   statement_orders : (rest : List Task) (tree : Tree) → TurnOrders (begin_tree program names objects rest memory tree)
   statement_orders rest (node label kind spans trees) = form_begins rest label (listed trees)
 
   initialiser_orders : (rest : List Task) (at : At) (kind : CType) (initialiser : Initialiser) (trees : List Tree) → TurnOrders (begin_initialiser program objects rest memory at kind initialiser trees)
-  initialiser_orders rest at kind one_expression trees = one_tree_orders trees _ _ (λ x. new.0) new.0
+  initialiser_orders rest at kind one_expression trees = one_tree_has TurnOrders trees _ _ (λ x. new.0) new.0
   initialiser_orders rest at kind (in_braces items) trees = order_stored at _ memory new.0
 
   test_orders : (place : Place) (truth : Truth) (following : Bool → Turned) → ((b : Bool) → TurnOrders (following b)) → TurnOrders (by_test place truth following)
