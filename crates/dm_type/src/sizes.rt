@@ -13,7 +13,7 @@ use dm_int::size;
 
 impl Types {
     /// The bytes of an object of the type. None where the type is incomplete, void, a function or an array of such a
-    /// type, or takes more than 1,073,741,824 bytes.
+    /// type, or takes more than `MOST_TYPE_BYTES`.
     pub fn size(&self, id: TypeId) -> Option<u64>
         requires { tables.IsId self.now id }
         ensures size { result ≡ layouts.size_of self.now (tables.type_of self.now id) }
