@@ -38,6 +38,7 @@ impl Types {
         ensures layout { result ≡ layouts.layout_of self.now (tables.type_of self.now id) }
         ensures within { IfSome result IsWithin }
     {
+        // With it the invariant of the table is known in the loop.
         let _ = &self.shapes;
         let mut count = 1u64;
         let mut element = id;
@@ -85,6 +86,7 @@ impl Types {
         ensures layout { result ≡ layouts.struct_layout self.now members.now }
         ensures within { IfSome result IsWithin }
     {
+        // With it the invariant of the table is known in the loop.
         let _ = &self.shapes;
         let mut all = Layout::empty();
         for member in members {

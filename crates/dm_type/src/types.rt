@@ -154,6 +154,7 @@ impl Types {
         ensures distinct { OnOk result (tables.AreDistinct self.new) }
         ensures kept { tables.Extends self.old self.new }
     {
+        // With it the invariant of the table is known in the loop.
         let _ = &self.shapes;
         let mut lengths = lengths;
         let mut id = element;

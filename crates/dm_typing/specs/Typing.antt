@@ -4,6 +4,7 @@
 --     typed_name setting known name      the type of a type name, with the trees of its lengths and enumerator values
 use Rattle.std.specs.Prelude.{ℕ, ◌+◌, ℤ, pos, Bool, true, false, ◌&&◌, ◌||◌, not, ◌==◌, nat_le, if◌then◌else◌, List, [], ◌∷◌, ◌++◌, length, Option, Some, None, is_some, option_and_then, unwrap_or, slice_get, codes, bytes_eq, int_le, ◌+ℤ◌, negsuc, unsigned_abs}
 use Rattle.std.specs.FinMap as map
+use Rattle.dm_spell.specs.Punctuators.{increment}
 use Rattle.dm_token.specs.declared.place.Span.{Span}
 use Rattle.dm_token.specs.declared.token.CToken.{CToken}
 use Rattle.dm_int.specs.declared.Kind.{Kind}
@@ -94,7 +95,7 @@ typed_arrow setting known extent name pointing =
 -- C13
 abbrev pub is_plus_plus : Option ℕ → Bool
 is_plus_plus None = false
-is_plus_plus (Some row) = row == 8
+is_plus_plus (Some row) = row == increment
 
 abbrev pub typed_count : Setting → Known → Extent → ℕ → Bool → Tree → Outcome Tree
 typed_count setting known extent operator before operand =
