@@ -391,11 +391,7 @@ pub fn typed_parameter(
 }
 
 /// Whether a parameter has no name, or one that isn't declared in its list so far.
-fn is_new_parameter(
-    typer: &Typer<'_>,
-    known: &Known,
-    name: Option<u32>,
-) -> Result<bool, Memory>
+fn is_new_parameter(typer: &Typer<'_>, known: &Known, name: Option<u32>) -> Result<bool, Memory>
     ensures { IfOk result (λ is_new. (later : List OneShape) → is_new ≡ typing.is_new_parameter (setting_of typer.now) (known_over later known.now) name) }
 {
     match name {

@@ -6,7 +6,7 @@ use Rattle.dm_type.specs.TableLaws.{injected}
 use Rattle.dm_scope.specs.Scopes.{Scopes}
 use Rattle.dm_syn.specs.Sources.{spelling_at}
 use Rattle.dm_tree.specs.Scenes.{is_function}
-use Rattle.dm_typing.specs.Known.{Known, Setting, Outcome, given, broken, after, declaring}
+use Rattle.dm_typing.specs.Known.{Known, Setting, Outcome, given, broken, after}
 use Rattle.dm_typing.specs.Conversions.{is_complete}
 use Rattle.dm_typing.specs.Specifiers.{Said, with_word, with_type, sets, Row, type_among, are_words, one_type, type_said, Where, are_allowed, with_said_const}
 use Rattle.dm_typing.specs.Typing.{number_if_struct, TypedParameter, Step, pointing, arraying, calling, kinds_of, length_fits, is_result, stepped, derived, pointers, adjusted, is_no_parameters, without_void, parameter_entry, is_new_parameter, parameter_declared, typed_parameter, entered, left, typed_said, name_ended}

@@ -21,7 +21,7 @@ use Rattle.dm_typing.specs.Operators.{row_at, operator_of_row, operator_of_assig
 use Rattle.dm_typing.specs.Conversions.{made, as_value, as_type, is_complete, complete_target, constant_of}
 use Rattle.dm_typing.specs.Rules.{named_by_sort, Pair, indexed, member_by_name, is_modifiable, may_be_counted, signed, may_be_cast, operated, rule_of, arms, is_assignable, called, updated}
 use Rattle.dm_typing.specs.Specifiers.{Said, type_said, Where, are_allowed, with_said_const}
-use Rattle.dm_typing.specs.Typing.{may_be_used, named, index_tree, typed_index, typed_member, typed_arrow, is_plus_plus, typed_count, typed_sign, typed_prefix, typed_sizeof, typed_sizeof_name, typed_cast, typed_operation, typed_logic, typed_binary, typed_choice, typed_update, typed_assignment, is_name, is_function_label, typed_call, comma_of, number_if_struct, struct_named, enum_named, TypedMember, is_named, name_of, typed_field, fields, struct_ended, is_int, is_file_scope, enumerator_entry, enumerator_declared, enumerator_valued, with_constant, Step, pointing, arraying, calling, kinds_of, length_fits, is_result, stepped, derived, natural, length_of, adjusted, parameter_entry, is_new_parameter, parameter_declared, typed_parameter, left, typed_said, name_ended, extent}
+use Rattle.dm_typing.specs.Typing.{may_be_used, named, index_tree, typed_index, typed_member, typed_arrow, is_plus_plus, typed_count, typed_sign, typed_prefix, typed_sizeof, typed_sizeof_name, typed_cast, typed_operation, typed_logic, typed_binary, typed_choice, typed_update, typed_assignment, is_name, is_function_label, typed_call, comma_of, number_if_struct, struct_named, enum_named, TypedMember, is_named, name_of, typed_field, fields, struct_ended, is_int, is_file_scope, enumerator_entry, enumerator_declared, enumerator_valued, with_constant, Step, pointing, arraying, calling, kinds_of, length_fits, is_result, stepped, derived, natural, length_of, adjusted, is_new_parameter, parameter_declared, typed_parameter, left, typed_said, name_ended, extent}
 use Rattle.dm_typing.specs.Sound.{BreaksWithin, step_at, StepsWithin}
 
 -- a rule is broken within these tokens, or what is given is such
