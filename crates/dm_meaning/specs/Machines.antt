@@ -2,6 +2,7 @@
 --     Standing      whether a state goes on, has ended, or is undefined
 --     Machine      states, how runs begin, and steps
 --     Goes machine n s t      n steps lead from s to t
+--     RunsTo, RunsWithin      a run on an input leads to a state in so many steps, or in at most so many
 --     Ends, IsWrong, IsUnfinished      what a run on an input may come to
 use Rattle.std.specs.Prelude.{◌≡◌, ℕ, zero, suc, ◌≤◌, List}
 use Rattle.dm_token.specs.declared.place.Place.{Place}
