@@ -35,7 +35,7 @@ use Rattle.dm_typing.specs.Operators.{row_at, operator_of_row, operator_of_assig
 use Rattle.dm_typing.specs.Known.{meaning_of, place_at, tag_key, tag_entry, Known, Setting, Outcome, given, broken, after, with_it, obeys, if_given, declaring}
 use Rattle.dm_typing.specs.Conversions.{as_value, made, is_complete, complete_target, constant_of}
 use Rattle.dm_typing.specs.Specifiers.{type_said, are_allowed, Said, Where, elsewhere, nothing_said}
-use Rattle.dm_typing.specs.Typing.{comma_of, comma_tree, constant_tree, index_tree, is_internal, is_name, is_function_label, number_if_struct, fields, is_file_scope, enumerator_entry, is_int, with_constant, length_fits, is_result, natural, parameter_entry, is_named, name_of, named, typed_index, typed_member, typed_arrow, typed_count, typed_sign, typed_prefix, typed_sizeof, typed_sizeof_name, typed_cast, typed_operation, typed_binary, typed_choice, typed_update, typed_assignment, typed_call, tag_declared, new_struct, tag_inside, tag_seen, struct_named, enum_named, struct_begun, with_new_struct, beginning, TypedMember, struct_ended, enumerator_declared, enumerator_valued, Step, pointing, arraying, calling, stepped, derived, direct_at, length_of, adjusted, is_new_parameter, parameter_declared, typed_parameter, parameter_at, entered, left, typed_field, typed_said, name_ended, extent, typed_within, typed_values, typed_name, typed_specifiers, words_said, word_said, fields_of, fields_declared, fields_with, enumerators_of, enumerator_of, steps_of, direct_steps, parameters_of, parameter_of, typed}
+use Rattle.dm_typing.specs.Typing.{comma_of, comma_tree, constant_tree, index_tree, is_internal, is_name, is_function_label, number_if_struct, fields, is_file_scope, enumerator_entry, is_int, with_constant, length_fits, is_result, natural, parameter_entry, is_named, named, typed_index, typed_member, typed_arrow, typed_count, typed_sign, typed_prefix, typed_sizeof, typed_sizeof_name, typed_cast, typed_operation, typed_binary, typed_choice, typed_update, typed_assignment, typed_call, tag_declared, new_struct, tag_inside, tag_seen, struct_named, enum_named, struct_begun, with_new_struct, beginning, TypedMember, struct_ended, enumerator_declared, enumerator_valued, Step, pointing, arraying, calling, stepped, derived, direct_at, length_of, adjusted, is_new_parameter, parameter_declared, typed_parameter, parameter_at, entered, left, typed_field, typed_said, name_ended, extent, typed_within, typed_values, typed_name, typed_specifiers, words_said, word_said, fields_of, fields_declared, fields_with, enumerators_of, enumerator_of, steps_of, direct_steps, parameters_of, parameter_of, typed}
 use Rattle.dm_edecl.specs.Units.{innermost}
 use Rattle.dm_eunit.specs.Naming.{key_of}
 
@@ -384,10 +384,6 @@ module _ (source : Source) (la lb : List ℕ → Bool) (alike : (at : ℕ) → l
     typed-parameter-both here type name =
         obeys-both known (is_new_parameter a known name) _ 2 (unwrap_or name here) _ _ (new-both name)
         (obeys-both known (not (is_function type)) _ 5 here _ _ refl (parameter-declared-both (adjusted type) name))
-
-    name-same : (name : Option ℕ) → name_of a name ≡ name_of b name
-    name-same None = refl
-    name-same (Some at) = refl
 
     field-both : (here : ℕ) (name : Option ℕ) (before : List TypedMember) (type : CType) → Both known (typed_field a known here name before type) (typed_field b known here name before type)
     field-both here None before type =
