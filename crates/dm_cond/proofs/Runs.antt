@@ -1,6 +1,7 @@
 -- Reading tokens one after another.
 use Rattle.std.proofs.Common.{◌≡◌, ℕ, ◌+◌, ◌<◌, ◌≤◌, suc, List, [], ◌∷◌, Option, Some, None, map, drop, length, get_or, refl, sym, ◌∙◌, ap, subst, arith, add-one, drop-cons}
 use Rattle.std.proofs.lemmas.Grind.{common_steps}
+use Rattle.dm_token.specs.Refusals as refusals
 use Rattle.dm_token.specs.declared.place.Place.{Place}
 use Rattle.dm_token.specs.declared.stop.Stop.{Stop}
 use Rattle.dm_token.specs.declared.stop.Stop.TheVariants.{Refused}
@@ -71,7 +72,7 @@ unfolding run
 at-end tokens i point h same = ap outcome (sym same ∙ ap (λ all. run (map symbol_of all) point) (none-left tokens i h))
 
 -- a refusal with its cause
-pub refused : (tokens : List Token) (at : Place) (stop : Stop) → number_of (outcome_of tokens) ≡ None → stop ≡ Refused (record { number = 13; detail = 0; place = at }) → Refuses tokens at stop
+pub refused : (tokens : List Token) (at : Place) (stop : Stop) → number_of (outcome_of tokens) ≡ None → stop ≡ Refused (record { number = refusals.condition; detail = 0; place = at }) → Refuses tokens at stop
 refused tokens at stop none e =
     let Is : Stop → Type 0 = λ s. Refuses tokens at s in
     subst Is (sym e) (no-truth tokens none, refl)

@@ -122,15 +122,6 @@ stay read n frames value stands free = record {
 along : (read : List Symbol) (n : ℕ) (p q : Point) → p ≡ q → Reduced read n q → Reduced read n p
 along read n p q e r = record { left_frames = r.left_frames; left_value = r.left_value; is = e ∙ r.is; stands = r.stands; free = r.free }
 
--- a tree that completes the innermost that is begun
-abbrev whole : Begun → Tree → Tree
-whole in_parentheses tree = tree
-whole (behind_sign sign) tree = unary sign tree
-whole (behind_left operator left) tree = binary operator left tree
-whole (at_second first) tree = tree
-whole (at_third first second) tree = choice first second tree
-whole (past_comma left) tree = comma left tree
-
 -- how an operator of level n completes what is begun
 completing : (n : ℕ) → n ≤ 11 → (read : List Symbol) (stack : List Begun) (tree : Tree) → IsStack stack → IsFormed tree → Accepts stack (level tree) → n ≤ level tree →
     read ≡ spelled stack ++ symbols tree → Reduced read n (reduced n (frames_of stack) (value_of tree))

@@ -2,6 +2,7 @@
 #![tactic(auto)]
 
 ghost use Rattle.std.specs.Prelude.{◌≡◌, Bool, List, IfOk, IfErr};
+ghost use Rattle.dm_token.specs.Refusals as refusals;
 ghost use Rattle.dm_token.specs.declared.token.Token.{Token};
 ghost use Rattle.dm_token.specs.declared.stop.Stop.TheVariants.{Refused};
 ghost use Rattle.dm_cond.specs.Readings.{HasTruth};
@@ -12,7 +13,7 @@ mod parser;
 mod symbol;
 mod value;
 
-use dm_token::{Place, Refusal, Stop, Token};
+use dm_token::{Place, Refusal, Stop, Token, refusals};
 use parser::Parser;
 use std::alloc::Global;
 use symbol::symbol_of;
@@ -45,10 +46,10 @@ pub fn condition(alloc: Global, tokens: &[Token], at: Place) -> Result<bool, Sto
 
 // The refusal of a condition without a value.
 fn no_value(at: Place) -> Stop
-    ensures { result ≡ Refused (record { number = 13; detail = 0; place = at }) }
+    ensures { result ≡ Refused (record { number = refusals.condition; detail = 0; place = at }) }
 {
     Stop::Refused(Refusal {
-        number: 13,
+        number: refusals::CONDITION,
         detail: 0,
         place: at,
     })

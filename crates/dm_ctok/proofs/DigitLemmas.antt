@@ -27,13 +27,6 @@ pub none-from : (base value most whole : ℕ) (digits : List ℕ) → 0 < base �
 none-from base value most whole digits some above is =
     let more = from-grows base value digits some in grind (arith, nat_tests)
 
--- the number that is reached at the end
-pub some-from : (base value most whole at : ℕ) (digits : List ℕ) → length digits ≤ at → value ≤ most → from base value (drop at digits) ≡ whole → Some value ≡ up_to most whole
-some-from base value most whole at digits end below is =
-    let all : from base value (drop at digits) ≡ value = at_drop_all (from base value) digits at end in
-    let same : value ≡ whole = sym all ∙ is in
-    grind (arith, nat_tests)
-
 -- what is no number up to the greatest is above it
 pub none-up_to : (most value : ℕ) → None ≡ up_to most value → most < value
 none-up_to most value none = grind (arith, nat_tests)

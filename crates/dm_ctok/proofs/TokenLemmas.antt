@@ -4,6 +4,7 @@ use Rattle.std.specs.Prelude.{IfOk, option_map, nat_lt}
 use Rattle.std.proofs.lemmas.Bool.{cond_both, cond-false}
 use Rattle.dm_int.specs.declared.Kind.{Kind}
 use Rattle.dm_int.specs.declared.Kind.TheVariants.{Int}
+use Rattle.dm_token.specs.Refusals as refusals
 use Rattle.dm_token.specs.declared.token.Class.TheVariants.{Keyword}
 use Rattle.dm_token.specs.declared.stop.Refusal.{Refusal}
 use Rattle.dm_token.specs.declared.stop.Stop.{Stop}
@@ -30,7 +31,7 @@ word-other : (token : Token) (row : Option ℕ) → Made false (word token row)
 unfolding word
 word-other token None = refl
 word-other token (Some row) =
-    cond_both (nat_lt row first_left_out) (Ok (plain token (Keyword row))) (Err (refused token 18)) (Made false) (λ _. refl) (λ _. tt)
+    cond_both (nat_lt row first_left_out) (Ok (plain token (Keyword row))) (Err (refused token refusals.out_of_subset)) (Made false) (λ _. refl) (λ _. tt)
 
 valued-other : (token : Token) (constant : Option (ℤ × Kind)) → Made false (valued token constant)
 unfolding valued
@@ -46,7 +47,7 @@ literal-literal : (token : Token) → Made true (literal token)
 unfolding literal
 literal-literal token =
     let values : Option (List ℕ) = elements (between_quotes token.pp.spelling) in
-    cond_both (is_prefixed token.pp.spelling) (Err (refused token 18)) (of_values token values) (Made true) (λ _. tt) (λ _. values-literal token values)
+    cond_both (is_prefixed token.pp.spelling) (Err (refused token refusals.out_of_subset)) (of_values token values) (Made true) (λ _. tt) (λ _. values-literal token values)
 
 kind-other : (token : Token) (kind : PpKind) → (kind ≡ Literal → ⊥) → Made false (of_kind token kind)
 unfolding of_kind number character
@@ -54,7 +55,7 @@ kind-other token Identifier other = word-other token _
 kind-other token Number other = valued-other token _
 kind-other token Character other =
     let constant : Option (ℤ × Kind) = option_map (λ value. (value, Int)) (character_of token.pp.spelling) in
-    cond_both (is_prefixed token.pp.spelling) (Err (refused token 18)) (valued token constant) (Made false) (λ _. tt) (λ _. valued-other token constant)
+    cond_both (is_prefixed token.pp.spelling) (Err (refused token refusals.out_of_subset)) (valued token constant) (Made false) (λ _. tt) (λ _. valued-other token constant)
 kind-other token Literal other = absurd (other refl)
 kind-other token (Punctuator row) other = refl
 kind-other token Header other = tt
@@ -79,7 +80,7 @@ unfolding token_of of_kind literal
 literal-values token values kind plain are =
     ap (of_kind token) kind ∙ (cond-false _ _ _ plain ∙ ap (of_values token) are)
 
-pub literal-bad : (token : Token) → token.pp.kind ≡ Literal → is_prefixed token.pp.spelling ≡ false → elements (between_quotes token.pp.spelling) ≡ None → token_of token ≡ Err (refused token 15)
+pub literal-bad : (token : Token) → token.pp.kind ≡ Literal → is_prefixed token.pp.spelling ≡ false → elements (between_quotes token.pp.spelling) ≡ None → token_of token ≡ Err (refused token refusals.constant)
 unfolding of_values
 literal-bad token kind plain none = literal-values token None kind plain none
 

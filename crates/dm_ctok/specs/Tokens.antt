@@ -8,7 +8,10 @@ use Rattle.dm_token.specs.declared.token.CToken.{CToken}
 use Rattle.dm_token.specs.declared.token.Class.{Class}
 use Rattle.dm_token.specs.declared.token.Class.TheVariants.{Keyword, Punctuator as CPunctuator, Identifier as CIdentifier, Integer, Literal as CLiteral}
 use Rattle.dm_token.specs.Bytes.{apostrophe, quotation_mark}
+use Rattle.dm_token.specs.Refusals as refusals
 use Rattle.dm_spell.specs.Tables.{keyword_rows}
+use Rattle.dm_spell.specs.Keywords.{auto_word}
+use Rattle.dm_spell.specs.Punctuators as rows
 use Rattle.dm_int.specs.declared.Kind.{Kind}
 use Rattle.dm_int.specs.declared.Kind.TheVariants.{Int}
 use Rattle.dm_int.specs.Kinds.{number_of}
@@ -31,22 +34,27 @@ refused token number = record { number = number; detail = 0; place = token.pp.pl
 
 -- the keywords of this row and of those behind it are left out of the language
 abbrev pub first_left_out : ℕ
-first_left_out = 27
+first_left_out = auto_word
 
 -- an identifier with its row in the table of keywords (6.4.1), if it is one
 unfoldable pub word : Token → Option ℕ → Result CToken Refusal
 word token None = Ok (plain token CIdentifier)
-word token (Some row) = if nat_lt row first_left_out then Ok (plain token (Keyword row)) else Err (refused token 18)
+word token (Some row) = if nat_lt row first_left_out then Ok (plain token (Keyword row)) else Err (refused token refusals.out_of_subset)
 
 -- the row of the punctuator as which one behaves (6.4.6p3): `<: :> <% %> %: %:%:` as `[ ] { } # ##`
 unfoldable pub behaving : ℕ → ℕ
 behaving row =
-    if row == 48 then 0 else if row == 49 then 1 else if row == 50 then 4 else if row == 51 then 5
-    else if row == 52 then 46 else if row == 53 then 47 else row
+    if row == rows.left_bracket_digraph then rows.left_bracket
+    else if row == rows.right_bracket_digraph then rows.right_bracket
+    else if row == rows.left_brace_digraph then rows.left_brace
+    else if row == rows.right_brace_digraph then rows.right_brace
+    else if row == rows.hash_digraph then rows.hash
+    else if row == rows.hash_hash_digraph then rows.hash_hash
+    else row
 
 -- a constant, spelled as before: it shall have a value that its type can represent (6.4.4p2)
 unfoldable pub valued : Token → Option (ℤ × Kind) → Result CToken Refusal
-valued token None = Err (refused token 15)
+valued token None = Err (refused token refusals.constant)
 valued token (Some constant) = Ok (placed token Integer token.pp.spelling constant.0 (number_of constant.1))
 
 -- a preprocessing number becomes an integer constant (6.4.8p4)
@@ -61,7 +69,7 @@ is_prefixed (byte ∷ bytes) = (byte == 76) || (byte == 117) || (byte == 85)
 -- a character constant has the type int (6.4.4.4p10)
 unfoldable pub character : Token → Result CToken Refusal
 character token =
-    if is_prefixed token.pp.spelling then Err (refused token 18)
+    if is_prefixed token.pp.spelling then Err (refused token refusals.out_of_subset)
     else valued token (option_map (λ value. (value, Int)) (character_of token.pp.spelling))
 
 -- the string literal of these bytes
@@ -70,12 +78,12 @@ literal_of token bytes = placed token CLiteral bytes (pos 0) 0
 
 -- a string literal, if its elements have values
 unfoldable pub of_values : Token → Option (List ℕ) → Result CToken Refusal
-of_values token None = Err (refused token 15)
+of_values token None = Err (refused token refusals.constant)
 of_values token (Some bytes) = Ok (literal_of token bytes)
 
 -- a string literal (6.4.5)
 unfoldable pub literal : Token → Result CToken Refusal
-literal token = if is_prefixed token.pp.spelling then Err (refused token 18) else of_values token (elements (between_quotes token.pp.spelling))
+literal token = if is_prefixed token.pp.spelling then Err (refused token refusals.out_of_subset) else of_values token (elements (between_quotes token.pp.spelling))
 
 -- one quote alone
 unfoldable pub is_quote : List ℕ → Bool
@@ -83,7 +91,7 @@ is_quote spelling = bytes_eq spelling (apostrophe ∷ []) || bytes_eq spelling (
 
 -- the number of the refusal of what is no token
 abbrev pub stray_number : List ℕ → ℕ
-stray_number spelling = if is_quote spelling then 3 else 1
+stray_number spelling = if is_quote spelling then refusals.literal else refusals.byte
 
 -- what a preprocessing token of a kind becomes, or its refusal
 unfoldable pub of_kind : Token → PpKind → Result CToken Refusal
@@ -92,7 +100,7 @@ of_kind token Number = number token
 of_kind token Character = character token
 of_kind token Literal = literal token
 of_kind token (Punctuator row) = Ok (plain token (CPunctuator (behaving row)))
-of_kind token Header = Err (refused token 1)
+of_kind token Header = Err (refused token refusals.byte)
 of_kind token Stray = Err (refused token (stray_number token.pp.spelling))
 
 -- what a preprocessing token becomes, or its refusal

@@ -11,7 +11,7 @@ ghost use Rattle.dm_ctok.specs.Tokens.{token_of, literal_of};
 use crate::escape::{Unread, append_elements, between_quotes};
 use crate::token::{ctoken, is_prefixed, refusal};
 use dm_spell::Spellings;
-use dm_token::{CToken, Class, List, Memory, Place, PpKind, Stop, Text, Token, Trail};
+use dm_token::{CToken, Class, List, Memory, Place, PpKind, Stop, Text, Token, Trail, refusals};
 use std::alloc::Global;
 
 /// A string literal that the next one joins.
@@ -88,12 +88,12 @@ fn append_literal(bytes: &mut Vec<u8>, token: &Token) -> Result<(), Stop>
 {
     let spelling = token.pp.spelling.bytes();
     if is_prefixed(spelling) {
-        return Err(refusal(token, 18));
+        return Err(refusal(token, refusals::OUT_OF_SUBSET));
     }
     match append_elements(bytes, between_quotes(spelling)) {
         Ok(()) => Ok(()),
         Err(Unread::Memory) => Err(Stop::Memory),
-        Err(Unread::Escape) => Err(refusal(token, 15)),
+        Err(Unread::Escape) => Err(refusal(token, refusals::CONSTANT)),
     }
 }
 

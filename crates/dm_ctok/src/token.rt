@@ -13,11 +13,11 @@ ghost use Rattle.dm_ctok.specs.Tokens as tokens;
 use crate::escape::character_constant;
 use crate::integer::{integer_constant, kind_of};
 use dm_int::Kind;
-use dm_spell::Spellings;
-use dm_token::{CToken, Class, Memory, PpKind, Refusal, Stop, Token};
+use dm_spell::{Spellings, punctuator};
+use dm_token::{CToken, Class, Memory, PpKind, Refusal, Stop, Token, refusals};
 
 /// The row of the first keyword that is left out of the language; those behind it are left out too.
-const FIRST_LEFT_OUT: u16 = 27;
+const FIRST_LEFT_OUT: u16 = dm_spell::keyword::AUTO;
 
 /// What a preprocessing token that is no string literal becomes.
 #[tactic(auto, unfolding(crate::specs::Tokens::token_of, crate::specs::Tokens::of_kind))]
@@ -32,7 +32,7 @@ pub fn ctoken(keywords: &Spellings<'static, 44>, token: &Token) -> Result<CToken
         PpKind::Character => character(token),
         PpKind::Literal => unreachable!(),
         PpKind::Punctuator(row) => Ok(plain(token, Class::Punctuator(behaving(row)))?),
-        PpKind::Header => Err(refusal(token, 1)),
+        PpKind::Header => Err(refusal(token, refusals::BYTE)),
         PpKind::Stray => Err(refusal(token, stray_number(token.pp.spelling.bytes()))),
     }
 }
@@ -46,7 +46,7 @@ fn word(keywords: &Spellings<'static, 44>, token: &Token) -> Result<CToken, Stop
     match keyword(keywords, token.pp.spelling.bytes()) {
         None => Ok(plain(token, Class::Identifier)?),
         Some(row) if row < FIRST_LEFT_OUT => Ok(plain(token, Class::Keyword(row))?),
-        Some(_) => Err(refusal(token, 18)),
+        Some(_) => Err(refusal(token, refusals::OUT_OF_SUBSET)),
     }
 }
 
@@ -64,7 +64,7 @@ fn number(token: &Token) -> Result<CToken, Stop>
     ensures { Gives (λ given. given) result (tokens.number token.now) }
 {
     match integer(token.pp.spelling.bytes()) {
-        None => Err(refusal(token, 15)),
+        None => Err(refusal(token, refusals::CONSTANT)),
         Some((value, kind)) => Ok(constant(token, i128::from(value), kind)?),
     }
 }
@@ -86,10 +86,10 @@ fn character(token: &Token) -> Result<CToken, Stop>
 {
     let spelling = token.pp.spelling.bytes();
     if is_prefixed(spelling) {
-        return Err(refusal(token, 18));
+        return Err(refusal(token, refusals::OUT_OF_SUBSET));
     }
     match character_constant(spelling) {
-        None => Err(refusal(token, 15)),
+        None => Err(refusal(token, refusals::CONSTANT)),
         Some(value) => Ok(constant(token, value, Kind::Int)?),
     }
 }
@@ -122,12 +122,12 @@ fn behaving(row: u16) -> u16
     ensures { result ≡ tokens.behaving row }
 {
     match row {
-        48 => 0,
-        49 => 1,
-        50 => 4,
-        51 => 5,
-        52 => 46,
-        53 => 47,
+        punctuator::LEFT_BRACKET_DIGRAPH => punctuator::LEFT_BRACKET,
+        punctuator::RIGHT_BRACKET_DIGRAPH => punctuator::RIGHT_BRACKET,
+        punctuator::LEFT_BRACE_DIGRAPH => punctuator::LEFT_BRACE,
+        punctuator::RIGHT_BRACE_DIGRAPH => punctuator::RIGHT_BRACE,
+        punctuator::HASH_DIGRAPH => punctuator::HASH,
+        punctuator::HASH_HASH_DIGRAPH => punctuator::HASH_HASH,
         _ => row,
     }
 }
@@ -138,8 +138,8 @@ fn stray_number(spelling: &[u8]) -> u8
     ensures { result ≡ tokens.stray_number spelling.now }
 {
     match spelling {
-        [b'\''] | [b'"'] => 3,
-        _ => 1,
+        [b'\''] | [b'"'] => refusals::LITERAL,
+        _ => refusals::BYTE,
     }
 }
 

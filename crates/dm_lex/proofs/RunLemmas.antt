@@ -232,9 +232,6 @@ pub beyond-at_zero : (more far : ℕ) → far ≡ 0 → beyond more far ≡ 0
 beyond-at_zero more far is = ap (beyond more) is ∙ beyond-none more
 
 -- quotes that stay open
-pub StaysOpen-behind : (quote : ℕ) (text : List ℕ) (from until : ℕ) → StaysOpen quote text from until → StaysOpen quote text (from + 1) until
-StaysOpen-behind quote text from until known k above below same = known k (omega arith) below same
-
 pub StaysOpen-before : (quote : ℕ) (text : List ℕ) (from until : ℕ) → (get_or text from 0 ≡ quote → ⊥) → StaysOpen quote text (from + 1) until → StaysOpen quote text from until
 StaysOpen-before quote text from until apart known k above below same =
     elim (cases_eq k from) [

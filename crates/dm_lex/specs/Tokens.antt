@@ -7,6 +7,7 @@ use Rattle.dm_token.specs.declared.stop.Refusal.{Refusal}
 use Rattle.dm_token.specs.declared.stop.Stop.{Stop}
 use Rattle.dm_token.specs.declared.stop.Stop.TheVariants.{Memory, Refused, Limit, ReadFault}
 use Rattle.dm_token.specs.Places.{place_of}
+use Rattle.dm_token.specs.Refusals as refusals
 use Rattle.dm_phase.specs.declared.Character.{Character}
 use Rattle.dm_lex.specs.declared.state.Line.{Line}
 use Rattle.dm_lex.specs.declared.state.Line.TheVariants.{Start, Hash, Include, Other}
@@ -53,7 +54,7 @@ tokens_of file bytes state (comment text ∷ pieces) = tokens_of file bytes (sta
 
 -- the refusal of a comment that begins here and doesn't end
 abbrev pub refusal_at : ℕ → List ℕ → List Character → Refusal
-refusal_at file bytes left = record { number = 2; detail = 0; place = place_of file bytes (start_of left) }
+refusal_at file bytes left = record { number = refusals.comment; detail = 0; place = place_of file bytes (start_of left) }
 
 -- These are the tokens of the one cut of a text.
 abbrev pub AreTokens : ℕ → List ℕ → List Character → List PpToken → Type 0

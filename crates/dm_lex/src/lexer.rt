@@ -19,7 +19,7 @@ use crate::state::{
 };
 use dm_phase::{Character, Cursor, Flat};
 use dm_spell::Spellings;
-use dm_token::{Place, PpToken, Refusal, Stop};
+use dm_token::{Place, PpToken, Refusal, Stop, refusals};
 use std::alloc::Global;
 
 /// A text and the file that it comes from.
@@ -151,7 +151,7 @@ fn open_comment(source: &Source, lexer: &Lexer, cursor: &mut Cursor) -> Stop
 {
     let at = character_at(source, cursor, lexer.at).at;
     Stop::Refused(Refusal {
-        number: 2,
+        number: refusals::COMMENT,
         detail: 0,
         place: moved(lexer.here, source.bytes, at),
     })

@@ -27,12 +27,16 @@ pub struct State {
     pub blank: bool,
 }
 
+const VERTICAL_TAB: u8 = 11;
+
+const FORM_FEED: u8 = 12;
+
 /// White space (6.4p3).
 #[tactic(auto, unfolding(crate::specs::Cuts::is_blank))]
 pub fn is_blank(byte: u8) -> bool
     ensures { result ≡ blank byte }
 {
-    byte == b' ' || byte == b'\t' || byte == 11 || byte == 12 || byte == b'\n'
+    byte == b' ' || byte == b'\t' || byte == VERTICAL_TAB || byte == FORM_FEED || byte == b'\n'
 }
 
 /// Whether a header name may stand next.

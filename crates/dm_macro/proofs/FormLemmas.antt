@@ -5,7 +5,8 @@ use Rattle.std.specs.Option.{option_map_or}
 use Rattle.std.proofs.lemmas.Bool.{false≢true}
 use Rattle.std.proofs.lemmas.Option.{slice_get-get_or}
 use Rattle.dm_token.specs.declared.token.PpToken.{PpToken}
-use Rattle.dm_macro.specs.Signs.{left_parenthesis, right_parenthesis, is_row, is_right_parenthesis, is_punctuator}
+use Rattle.dm_spell.specs.Punctuators.{left_parenthesis, right_parenthesis}
+use Rattle.dm_macro.specs.Signs.{is_row, is_right_parenthesis, is_punctuator}
 use Rattle.dm_macro.specs.Forms.{is_function_like}
 use Rattle.dm_macro.proofs.Listings.{row_is}
 

@@ -5,7 +5,6 @@ pub mod Listings
 pub mod MapLemmas
 pub mod NameSetLemmas
 pub mod NamedLemmas
-pub mod NumberSets
 pub mod RoleLemmas
 pub mod SameLemmas
 pub mod SplitLemmas

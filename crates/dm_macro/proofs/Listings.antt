@@ -8,7 +8,8 @@ use Rattle.dm_token.specs.declared.token.PpKind.TheVariants.{Identifier, Number,
 use Rattle.dm_token.specs.declared.token.PpToken.{PpToken}
 use Rattle.dm_macro.specs.declared.parameters.Expected.{Expected}
 use Rattle.dm_macro.specs.declared.parameters.Expected.TheVariants.{ItemOrEnd, Item, CommaOrEnd, End}
-use Rattle.dm_macro.specs.Signs.{comma, ellipsis, is_row, is_identifier_kind, is_identifier, is_ellipsis}
+use Rattle.dm_spell.specs.Punctuators.{comma, ellipsis}
+use Rattle.dm_macro.specs.Signs.{is_row, is_identifier_kind, is_identifier, is_ellipsis}
 use Rattle.dm_macro.specs.Forms.{separated, names_in, IsParameterList}
 use Rattle.dm_macro.specs.ParameterLists.{after, may_end, is_read_from}
 

@@ -1,5 +1,5 @@
 -- A hash map's entries as a finite map.
-use Rattle.std.proofs.Common.{◌≡◌, ℕ, cond, List, [], ◌∷◌, None, Some, refl, sym, ◌∙◌, bytes_eq}
+use Rattle.std.proofs.Common.{◌≡◌, ℕ, false, cond, List, [], ◌∷◌, Option, None, Some, refl, sym, ◌∙◌, bytes_eq, is_some}
 use Rattle.std.specs.Map.{lookup}
 use Rattle.std.specs.Cmp.Lexicographic.{slice_cmp, texts_ties}
 use Rattle.std.specs.Ordering.{nat_cmp, eq_by_cmp}
@@ -41,3 +41,8 @@ entries_without old new name updates = same _ _ (λ q.
     get_of_entries new q ∙ updates q
     ∙ (λ i. cond (tied name q i) None (sym (get_of_entries old q) i))
     ∙ sym (finite.get-remove nat_list_cmp_total (finite.from_entries old) name q))
+
+-- where nothing is found
+pub not_some : {A : Type 0} (found : Option A) → is_some found ≡ false → found ≡ None
+not_some None is = refl
+not_some (Some a) is = cc

@@ -69,13 +69,6 @@ set-counts counts parameter count other lt is =
     ∙ ap (λ b. get_or counts other 0 + cond b 1 0) (sym no.0))
     (eqb_tells parameter other)
 
--- a count of no place
-pub push-count : (counts : List ℕ) (other : ℕ) → get_or (counts ++ 0 ∷ []) other 0 ≡ get_or counts other 0
-push-count [] zero = refl
-push-count [] (suc other) = refl
-push-count (count ∷ counts) zero = refl
-push-count (count ∷ counts) (suc other) = push-count counts other
-
 -- THE TOKENS OF A REPLACEMENT LIST
 
 -- one more token

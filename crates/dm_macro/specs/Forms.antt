@@ -16,7 +16,8 @@ use Rattle.dm_token.specs.declared.stop.Stop.{Stop}
 use Rattle.dm_token.specs.declared.stop.Stop.TheVariants.{Refused}
 use Rattle.dm_token.specs.declared.expansion.Origin.{Origin}
 use Rattle.dm_token.specs.declared.expansion.Definition.{Definition}
-use Rattle.dm_macro.specs.Signs.{left_parenthesis, comma, ellipsis, is_punctuator, is_right_parenthesis, is_ellipsis, is_hash, is_hash_hash, is_identifier, is_word, is_macro_name, variable_arguments}
+use Rattle.dm_spell.specs.Punctuators.{left_parenthesis, comma, ellipsis}
+use Rattle.dm_macro.specs.Signs.{is_punctuator, is_right_parenthesis, is_ellipsis, is_hash, is_hash_hash, is_identifier, is_word, is_macro_name, variable_arguments}
 
 -- THE PARTS BEHIND THE NAME
 

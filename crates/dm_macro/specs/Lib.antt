@@ -7,4 +7,3 @@ pub mod Bodies
 pub mod Roles
 pub mod Tables
 pub mod Parts
-pub mod HideSets

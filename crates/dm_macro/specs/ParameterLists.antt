@@ -7,7 +7,8 @@ use Rattle.std.specs.Option.{option_map_or}
 use Rattle.dm_token.specs.declared.token.PpKind.{PpKind}
 use Rattle.dm_macro.specs.declared.parameters.Expected.{Expected}
 use Rattle.dm_macro.specs.declared.parameters.Expected.TheVariants.{ItemOrEnd, Item, CommaOrEnd, End}
-use Rattle.dm_macro.specs.Signs.{comma, ellipsis, is_row, is_identifier_kind}
+use Rattle.dm_spell.specs.Punctuators.{comma, ellipsis}
+use Rattle.dm_macro.specs.Signs.{is_row, is_identifier_kind}
 
 -- what may come behind an item of this kind
 abbrev pub after_item : PpKind → Option Expected

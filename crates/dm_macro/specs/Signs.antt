@@ -1,61 +1,15 @@
 -- The preprocessing tokens (6.4) that the form of a macro definition speaks of.
---     left_parenthesis .. hash_hash_digraph      rows of the table of punctuators
 --     is_punctuator row token      whether the token is the punctuator of this row;  so is_hash and the like
 --     is_identifier token      whether the token is an identifier
 --     is_word word token      whether the token is this identifier
 --     is_predefined name, is_fixed name      whether the name is predefined;  whether no directive defines or undefines it
 --     is_macro_name token      whether the token is a name that may be defined
-use Rattle.std.specs.Prelude.{◌≡◌, ℕ, Bool, true, false, ◌==◌, ◌&&◌, ◌||◌, not, List, [], ◌∷◌, codes, bytes_eq, slice_get, Some, refl}
+use Rattle.std.specs.Prelude.{ℕ, Bool, true, false, ◌==◌, ◌&&◌, ◌||◌, not, List, [], ◌∷◌, codes, bytes_eq}
 use Rattle.std.specs.List.{list_any}
 use Rattle.dm_token.specs.declared.token.PpKind.{PpKind}
 use Rattle.dm_token.specs.declared.token.PpKind.TheVariants.{Identifier, Number, Character, Literal, Punctuator, Header, Stray}
 use Rattle.dm_token.specs.declared.token.PpToken.{PpToken}
-use Rattle.dm_spell.specs.Tables.{punctuator_rows}
-
--- the row of `(`
-abbrev pub left_parenthesis : ℕ
-left_parenthesis = 2
-
--- the row of `)`
-abbrev pub right_parenthesis : ℕ
-right_parenthesis = 3
-
--- the row of `...`
-abbrev pub ellipsis : ℕ
-ellipsis = 33
-
--- the row of `,`
-abbrev pub comma : ℕ
-comma = 45
-
--- the row of `#`
-abbrev pub hash : ℕ
-hash = 46
-
--- the row of `##`
-abbrev pub hash_hash : ℕ
-hash_hash = 47
-
--- the row of `%:`, which behaves as `#` (6.4.6p3)
-abbrev pub hash_digraph : ℕ
-hash_digraph = 52
-
--- the row of `%:%:`, which behaves as `##` (6.4.6p3)
-abbrev pub hash_hash_digraph : ℕ
-hash_hash_digraph = 53
-
--- These rows of the table have these spellings.
-pub rows_are_spelled :
-    (slice_get punctuator_rows left_parenthesis ≡ Some (codes "("))
-    × (slice_get punctuator_rows right_parenthesis ≡ Some (codes ")"))
-    × (slice_get punctuator_rows ellipsis ≡ Some (codes "..."))
-    × (slice_get punctuator_rows comma ≡ Some (codes ","))
-    × (slice_get punctuator_rows hash ≡ Some (codes "#"))
-    × (slice_get punctuator_rows hash_hash ≡ Some (codes "##"))
-    × (slice_get punctuator_rows hash_digraph ≡ Some (codes "%:"))
-    × (slice_get punctuator_rows hash_hash_digraph ≡ Some (codes "%:%:"))
-unfolding punctuator_rows
-rows_are_spelled = (refl, refl, refl, refl, refl, refl, refl, refl)
+use Rattle.dm_spell.specs.Punctuators.{right_parenthesis, ellipsis, hash, hash_hash, hash_digraph, hash_hash_digraph}
 
 -- whether this is the kind of the punctuators of this row
 abbrev pub is_row : ℕ → PpKind → Bool
@@ -79,11 +33,11 @@ is_right_parenthesis token = is_punctuator right_parenthesis token
 abbrev pub is_ellipsis : PpToken → Bool
 is_ellipsis token = is_punctuator ellipsis token
 
--- whether a token is a `#`, by either spelling
+-- whether a token is a `#`, by either spelling (6.4.6p3)
 abbrev pub is_hash : PpToken → Bool
 is_hash token = is_punctuator hash token || is_punctuator hash_digraph token
 
--- whether a token is a `##`, by either spelling
+-- whether a token is a `##`, by either spelling (6.4.6p3)
 abbrev pub is_hash_hash : PpToken → Bool
 is_hash_hash token = is_punctuator hash_hash token || is_punctuator hash_hash_digraph token
 

@@ -8,6 +8,7 @@
 use Rattle.std.specs.Prelude.{refl, ◌<◌, ◌≡◌, ℕ, Bool, List, [], ◌∷◌, ◌++◌, length, slice_get, Some, ◌⊎◌, Option, None, Some, IfSome, IsSomeAnd, option_and_then}
 use Rattle.std.specs.Coded.{Coded, code_by, coded×, coded_ℕ, coded_list}
 use Rattle.std.specs.FinMap as map
+use Rattle.dm_token.specs.Refusals as refusals
 use Rattle.dm_token.specs.declared.stop.Stop.{Stop}
 use Rattle.dm_token.specs.declared.stop.Stop.TheVariants.{Memory}
 use Rattle.dm_token.specs.declared.token.PpToken.{PpToken}
@@ -74,19 +75,19 @@ Defines before line origin plain after =
 abbrev pub IsMisformed : List PpToken → Origin → Bool → Stop → Type 0
 IsMisformed line origin plain stop =
     ((definition : Definition) → ¬ Gives line origin plain definition)
-    × IsSomeAnd (slice_get line 0) (λ hash. stop ≡ refused 5 hash.place)
+    × IsSomeAnd (slice_get line 0) (λ hash. stop ≡ refused refusals.form hash.place)
 
 -- The line is allowed, and a `#` of its body lacks its parameter: refused as 11 at the first such `#`.
 abbrev pub HasBareHash : List PpToken → Origin → Bool → Stop → Type 0
 HasBareHash line origin plain stop =
     (definition : Definition) × Gives line origin plain definition
-    × IsSomeAnd (bare_hash definition) (λ operator. stop ≡ refused 11 operator.place)
+    × IsSomeAnd (bare_hash definition) (λ operator. stop ≡ refused refusals.hash_operand operator.place)
 
 -- The line is allowed, and its name is already defined as another macro: refused as 12 at the second name.
 abbrev pub Redefines : Table → List PpToken → Origin → Bool → Stop → Type 0
 Redefines before line origin plain stop =
     (definition : Definition) × Gives line origin plain definition × (bare_hash definition ≡ None)
-    × ChangesMeaning before definition × (stop ≡ refused 12 definition.place)
+    × ChangesMeaning before definition × (stop ≡ refused refusals.redefinition definition.place)
 
 -- This is why no definition can be read from a line. Only want of memory has no cause.
 abbrev pub RefusesForm : List PpToken → Origin → Bool → Stop → Type 0

@@ -12,7 +12,7 @@ use crate::sign::{
     VARIABLE_ARGUMENTS, is_ellipsis, is_hash_hash, is_left_parenthesis, is_macro_name,
     is_right_parenthesis, is_variable_arguments,
 };
-use dm_token::{Definition, List, Memory, Origin, Place, PpToken, Refusal, Stop, Text};
+use dm_token::{Definition, List, Memory, Origin, Place, PpToken, Refusal, Stop, Text, refusals};
 use std::alloc::Global;
 
 /// What stands behind a macro's name.
@@ -51,10 +51,10 @@ pub(crate) fn read_definition(
         [hash, _, name, ..] => {
             match definition(alloc, hash, name, &line[3..], origin, head_plain)? {
                 Some(definition) => Ok(definition),
-                None => Err(refused(5, hash.place)),
+                None => Err(refused(refusals::FORM, hash.place)),
             }
         }
-        _ => Err(refused(5, line[0].place)),
+        _ => Err(refused(refusals::FORM, line[0].place)),
     }
 }
 

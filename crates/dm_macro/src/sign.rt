@@ -1,25 +1,11 @@
 //! Tests of preprocessing tokens.
 
 ghost use Rattle.std.specs.Prelude.{◌≡◌};
+ghost use Rattle.dm_spell.specs.Punctuators as rows;
 ghost use Rattle.dm_macro.specs.Signs as sign;
 
+use dm_spell::punctuator;
 use dm_token::{PpKind, PpToken};
-
-const LEFT_PARENTHESIS: u16 = 2;
-
-const RIGHT_PARENTHESIS: u16 = 3;
-
-const ELLIPSIS: u16 = 33;
-
-const COMMA: u16 = 45;
-
-const HASH: u16 = 46;
-
-const HASH_HASH: u16 = 47;
-
-const HASH_DIGRAPH: u16 = 52;
-
-const HASH_HASH_DIGRAPH: u16 = 53;
 
 /// The name that stands for the variable arguments in a variadic macro's body (6.10.3p5).
 pub(crate) const VARIABLE_ARGUMENTS: &[u8; 11] = b"__VA_ARGS__";
@@ -33,46 +19,54 @@ fn is_punctuator(token: &PpToken, row: u16) -> bool
     }
 }
 
-pub(crate) fn is_left_parenthesis(token: &PpToken) -> bool
-    ensures { result ≡ sign.is_punctuator sign.left_parenthesis token.now }
+pub fn is_left_parenthesis(token: &PpToken) -> bool
+    ensures { result ≡ sign.is_punctuator rows.left_parenthesis token.now }
 {
-    is_punctuator(token, LEFT_PARENTHESIS)
+    is_punctuator(token, punctuator::LEFT_PARENTHESIS)
 }
 
-pub(crate) fn is_right_parenthesis(token: &PpToken) -> bool
+pub fn is_right_parenthesis(token: &PpToken) -> bool
     ensures { result ≡ sign.is_right_parenthesis token.now }
 {
-    is_punctuator(token, RIGHT_PARENTHESIS)
+    is_punctuator(token, punctuator::RIGHT_PARENTHESIS)
 }
 
 pub(crate) fn is_ellipsis(token: &PpToken) -> bool
     ensures { result ≡ sign.is_ellipsis token.now }
 {
-    is_punctuator(token, ELLIPSIS)
+    is_punctuator(token, punctuator::ELLIPSIS)
 }
 
-pub(crate) fn is_comma(token: &PpToken) -> bool
-    ensures { result ≡ sign.is_punctuator sign.comma token.now }
+pub fn is_comma(token: &PpToken) -> bool
+    ensures { result ≡ sign.is_punctuator rows.comma token.now }
 {
-    is_punctuator(token, COMMA)
+    is_punctuator(token, punctuator::COMMA)
 }
 
-pub(crate) fn is_hash(token: &PpToken) -> bool
+pub fn is_hash(token: &PpToken) -> bool
     ensures { result ≡ sign.is_hash token.now }
 {
-    is_punctuator(token, HASH) || is_punctuator(token, HASH_DIGRAPH)
+    is_punctuator(token, punctuator::HASH) || is_punctuator(token, punctuator::HASH_DIGRAPH)
 }
 
 pub(crate) fn is_hash_hash(token: &PpToken) -> bool
     ensures { result ≡ sign.is_hash_hash token.now }
 {
-    is_punctuator(token, HASH_HASH) || is_punctuator(token, HASH_HASH_DIGRAPH)
+    is_punctuator(token, punctuator::HASH_HASH)
+        || is_punctuator(token, punctuator::HASH_HASH_DIGRAPH)
 }
 
-pub(crate) fn is_identifier(token: &PpToken) -> bool
+pub fn is_identifier(token: &PpToken) -> bool
     ensures { result ≡ sign.is_identifier token.now }
 {
     matches!(token.kind, PpKind::Identifier)
+}
+
+/// Whether a token is this identifier.
+pub fn is_word(token: &PpToken, word: &[u8]) -> bool
+    ensures { result ≡ sign.is_word word.now token.now }
+{
+    is_identifier(token) && token.spelling.bytes() == word
 }
 
 pub(crate) fn is_variable_arguments(token: &PpToken) -> bool

@@ -10,7 +10,7 @@ use crate::hash::bare_hash;
 use crate::name_map::NameMap;
 use crate::role::{Roles, roles_of};
 use crate::same::are_same;
-use dm_token::{Definition, Memory, Origin, PpToken, Stop, Text};
+use dm_token::{Definition, Memory, Origin, PpToken, Stop, Text, refusals};
 use std::alloc::Global;
 use std::marker::Model;
 
@@ -70,10 +70,10 @@ impl MacroTable {
         let alloc = *self.read.allocator();
         let definition = read_definition(alloc, line, origin, head_plain)?;
         if let Some(place) = bare_hash(alloc, &definition)? {
-            return Err(refused(11, place));
+            return Err(refused(refusals::HASH_OPERAND, place));
         }
         if self.gives_another_meaning(&definition) {
-            return Err(refused(12, definition.place));
+            return Err(refused(refusals::REDEFINITION, definition.place));
         }
         let roles = roles_of(alloc, &definition)?;
         let number = self.record(definition, roles)?;

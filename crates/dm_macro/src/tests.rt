@@ -1,7 +1,7 @@
-//! Lines and sets that are made by hand. In a line the tokens stand behind a blank, or behind a backquote where no white
+//! Lines that are made by hand. In a line the tokens stand behind a blank, or behind a backquote where no white
 //! space stands before them, and the place of a token is its number.
 
-use crate::{HideSet, MacroTable};
+use crate::MacroTable;
 use dm_spell::punctuators;
 use dm_token::{Memory, Origin, Place, PpKind, PpToken, Refusal, Stop, Text};
 use std::alloc::Global;
@@ -178,27 +178,5 @@ fn a_name_keeps_its_first_definition(rt: HostRuntime) -> Result<(), Fail> {
         assert_eq!(rt; number_of(alloc, &table, "F")?, Some(0));
     }
     assert_eq!(rt; table.definitions().len(), 2);
-    Ok(())
-}
-
-#[test]
-fn hide_sets_are_sets(rt: HostRuntime) -> Result<(), Fail> {
-    let alloc = rt.alloc();
-    let mut one = HideSet::empty(alloc);
-    one.add(2)?;
-    one.add(1)?;
-    one.add(2)?;
-    let mut other = HideSet::empty(alloc);
-    other.add(2)?;
-    other.add(3)?;
-    let mut both = HideSet::meet(alloc, &one, &other)?;
-    both.add(5)?;
-    let copy = both.copy()?;
-    for number in 0..7 {
-        let wanted = number == 2 || number == 5;
-        assert_eq!(rt; both.holds(number), wanted, "{number}");
-        assert_eq!(rt; copy.holds(number), wanted, "{number}");
-    }
-    assert!(rt; one.holds(1) && one.holds(2) && !one.holds(3));
     Ok(())
 }

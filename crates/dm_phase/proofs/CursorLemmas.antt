@@ -75,12 +75,6 @@ pass-end (suc (suc count)) index at jumps (byte ∷ bytes) first end is some ins
 pub drop-in_order : (count end : ℕ) (text : List Character) → InOrder 0 end text → InOrder 0 end (drop count text)
 drop-in_order count end text order = InOrder-behind 0 end (take count text) (drop count text) (rw (take-append-drop count text) order)
 
--- fewer characters are clear too
-pub clear-fewer : (index fewer count : ℕ) (jumps : List Jump) → fewer ≤ count → IsClear index count jumps → IsClear index fewer jumps
-clear-fewer index fewer count [] h is = tt
-clear-fewer index fewer count (jump ∷ jumps) h (inl below) = inl below
-clear-fewer index fewer count (jump ∷ jumps) h (inr above) = inr (omega arith)
-
 -- passing characters in two parts
 pub drop-parts : (text : List Character) (m n total : ℕ) → m + n ≡ total → drop n (drop m text) ≡ drop total text
 drop-parts text m n total e = drop-drop n m text ∙ ap (λ k. drop k text) e

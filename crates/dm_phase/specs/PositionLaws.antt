@@ -230,7 +230,3 @@ flat_of-text file bytes flat e = text_unless_refused file bytes (flat_text bytes
 -- It stands in order.
 pub flat_of-in_order : (file : ℕ) (bytes : List ℕ) (flat : List Character) → flat_of file bytes ≡ Ok flat → InOrder 0 (length bytes) flat
 flat_of-in_order file bytes flat e = flat_text-in_order bytes flat (flat_of-text file bytes flat e)
-
--- It is empty or ends in a newline.
-pub flat_of-ends_in_newline : (file : ℕ) (bytes : List ℕ) (flat : List Character) → flat_of file bytes ≡ Ok flat → EndsInNewline flat
-flat_of-ends_in_newline file bytes flat e = flat_text-ends_in_newline bytes flat (flat_of-text file bytes flat e)

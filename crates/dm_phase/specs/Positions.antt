@@ -37,30 +37,10 @@ InOrder-at first end (c ∷ text) (suc i) d order h =
     let there : (c.at + max 1 c.width ≤ (get_or text i d).at) × ((get_or text i d).at + (get_or text i d).width ≤ end) = InOrder-at (c.at + max 1 c.width) end text i d order.2 (omega arith) in
     (omega arith, there.1)
 
--- Of two characters the later one begins behind the other, and not before its end.
-pub InOrder-pair : (first end : ℕ) (text : List Character) (i j : ℕ) (d : Character) → InOrder first end text → i < j → j < length text → ((get_or text i d).at < (get_or text j d).at) × ((get_or text i d).at + (get_or text i d).width ≤ (get_or text j d).at)
-InOrder-pair first end [] i j d order h k = absurd (omega arith)
-InOrder-pair first end (c ∷ text) i zero d order h k = absurd (omega arith)
-InOrder-pair first end (c ∷ text) zero (suc j) d order h k =
-    let there : (c.at + max 1 c.width ≤ (get_or text j d).at) × ((get_or text j d).at + (get_or text j d).width ≤ end) = InOrder-at (c.at + max 1 c.width) end text j d order.2 (omega arith) in
-    (omega arith, omega arith)
-InOrder-pair first end (c ∷ text) (suc i) (suc j) d order h k =
-    InOrder-pair (c.at + max 1 c.width) end text i j d order.2 (omega arith) (omega arith)
-
 -- So many characters fit.
 pub length-in_order : (first end : ℕ) (text : List Character) → InOrder first end text → length text + first ≤ max first (end + 1)
 length-in_order first end [] h = omega arith
 length-in_order first end (c ∷ text) h = omega (arith, length-in_order (c.at + max 1 c.width) end text h.2)
-
--- Without its first character a text ends as it did.
-pub EndsInNewline-tail : (c : Character) (text : List Character) → EndsInNewline (c ∷ text) → EndsInNewline text
-EndsInNewline-tail c [] h = tt
-EndsInNewline-tail c (d ∷ text) h = h
-
--- What is behind a front of a text ends as the text does.
-pub EndsInNewline-behind : (front text : List Character) → EndsInNewline (front ++ text) → EndsInNewline text
-EndsInNewline-behind [] text h = h
-EndsInNewline-behind (c ∷ front) text h = EndsInNewline-behind front text (EndsInNewline-tail c (front ++ text) h)
 
 -- The file may be longer than it has to be.
 pub InOrder-wider : (first end later : ℕ) (text : List Character) → end ≤ later → InOrder first end text → InOrder first later text

@@ -20,7 +20,7 @@ mod reader;
 mod writer;
 
 pub use cursor::Cursor;
-use dm_token::{Refusal, Stop, place_at};
+use dm_token::{Refusal, Stop, place_at, refusals};
 pub use flat::Flat;
 use reader::Reader;
 use std::alloc::{AllocError, Global};
@@ -106,7 +106,7 @@ fn refusal(file: u32, bytes: &[u8], backslash: Character) -> Stop
     ensures inside { StopsInside file bytes.now result }
 {
     Stop::Refused(Refusal {
-        number: 8,
+        number: refusals::SPLICE,
         detail: 0,
         place: place_at(file, bytes, backslash.at as usize),
     })

@@ -4,6 +4,7 @@ use Rattle.dm_token.specs.Answer.{IsInside, place_of-inside}
 use Rattle.dm_token.specs.declared.place.Place.{Place}
 use Rattle.dm_token.specs.declared.stop.Refusal.{Refusal}
 use Rattle.dm_token.specs.Places.{place_of}
+use Rattle.dm_token.specs.Refusals as refusals
 use Rattle.dm_lex.specs.Cuts.{bytes_of, IsOpen}
 use Rattle.dm_lex.specs.Tokens.{start_of}
 use Rattle.dm_lex.specs.Progress.{offset_of}
@@ -36,7 +37,7 @@ returns-clause-stop c =
       c.requires.progress.pieces.0,
       drop at text,
       (c.requires.progress.pieces.1.cut, subst (λ (t : List ℕ). IsOpen t) left c.requires.comment),
-      ap (λ (p : Place). let r : Refusal = record { number = 2; detail = 0; place = p } in r) place,
+      ap (λ (p : Place). let r : Refusal = record { number = refusals.comment; detail = 0; place = p } in r) place,
     )
 
 pub returns-clause-inside : goal.returns-clause-inside

@@ -3,13 +3,10 @@ use Rattle.std.specs.FinMap as map
 use Rattle.std.proofs.lemmas.List.{take_more, length-take-le}
 use Rattle.dm_macro.specs.Numbers.{Numbers}
 use Rattle.dm_macro.specs.Roles.{HavePositions}
+use Rattle.dm_macro.proofs.MapLemmas.{not_some}
 use Rattle.dm_macro.proofs.NamedLemmas.{positions-nothing, positions-old, positions-new}
 use Rattle.dm_macro.proofs.named.positions_of.Goals as goal
 use Rattle.dm_macro.proofs.named.positions_of.Goals.{then-is_none+in_ok-copy+in_ok-insert, else-is_none}
-
-not_some : (found : Option ℕ) → is_some found ≡ false → found ≡ None
-not_some None is = refl
-not_some (Some place) is = cc
 
 pub loop-position-init : goal.loop-position-init
 loop-position-init c = positions-nothing c.new-positions.result c.new-positions.ensures

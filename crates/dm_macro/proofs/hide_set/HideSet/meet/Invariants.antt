@@ -1,7 +1,0 @@
-use Rattle.std.proofs.Common.{◌≡◌, take}
-use Rattle.std.specs.List.{filter}
-use Rattle.std.specs.FinSet as set
-use Rattle.dm_macro.proofs.hide_set.HideSet.meet.Given as goal
-
-abbrev pub invariant-loop-number : goal.invariant-loop-number
-invariant-loop-number l = l.numbers.items ≡ filter (set.contains l.b) (take l.number-index l.number-items)
