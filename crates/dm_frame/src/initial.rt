@@ -17,7 +17,7 @@ ghost use Rattle.dm_frame.specs.Tasks.{initials_at, InitialFits, InitialsFit, Lo
 use crate::frame::Frame;
 use crate::objects::automatic;
 use crate::task::{Begun, Task, Use};
-use dm_first::listed_value;
+use dm_first_value::listed_value;
 use dm_layout::ObjectType;
 use dm_memory::Blocks;
 use dm_program::Program;

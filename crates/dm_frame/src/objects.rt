@@ -12,7 +12,7 @@ ghost use Rattle.dm_program.specs.Sources.{meant};
 ghost use Rattle.dm_frame.specs.Entering.{automatic_one, IsEntered};
 
 use crate::stack::Stack;
-use dm_first::{Scalars, first_value};
+use dm_first_value::{Scalars, first_value};
 use dm_layout::{Layout, is_const};
 use dm_memory::{Block, Blocks};
 use dm_program::Program;

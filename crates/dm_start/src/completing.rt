@@ -7,7 +7,7 @@ ghost use Rattle.dm_meaning.specs.Objects as objects;
 ghost use Rattle.dm_meaning.specs.Values as values;
 ghost use Rattle.dm_value.specs.Views.{view_of_value};
 
-use dm_first::listed_value;
+use dm_first_value::listed_value;
 use dm_layout::{Layout, ObjectType};
 use dm_token::{List, Memory};
 use dm_value::Value;
