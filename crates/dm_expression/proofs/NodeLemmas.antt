@@ -91,16 +91,6 @@ is_plain call = false
 is_plain sizeof_tree = false
 is_plain label = true
 
-pub form-plain : (scene : Scene) (world : World) (held : List At) (label : Label) (kind : CType) (place : Place) (parts : Runs) (all : List Evaluated) → is_plain label ≡ true
-    → form_step scene world held label kind place parts (map as_operand all) ≡ as_move kind place (locks_in_all parts) (operate scene world held label kind (map as_operand all))
-form-plain scene world held both kind place parts all is = absurd (cc)
-form-plain scene world held either kind place parts all is = absurd (cc)
-form-plain scene world held choose kind place parts all is = absurd (cc)
-form-plain scene world held comma kind place parts all is = absurd (cc)
-form-plain scene world held call kind place parts all is = absurd (cc)
-form-plain scene world held sizeof_tree kind place parts all is = absurd (cc)
-form-plain scene world held label kind place parts all is = refl
-
 -- ---- locks
 
 -- those of results, in order

@@ -23,10 +23,6 @@ one-operand count old middle new found one weight h in_front behind = record {
   as_many = ap suc h.as_many;
 }
 
--- one result fewer stands in front of the place
-pub one-fewer : {R N : Type 0} (before after : List (Item R N)) (one : R) (weight : ℕ) → before ≡ after ++ Done one weight ∷ [] → results_after 0 before ≡ suc (results_after 0 after)
-one-fewer before after one weight is = ap (results_after 0) is ∙ behind-result after one weight
-
 -- ---- weights
 
 pub weight-append : {R N : Type 0} (xs ys : List (Item R N)) → weight_in (xs ++ ys) ≡ weight_in xs + weight_in ys

@@ -1,6 +1,6 @@
 //! First values of objects (6.7.9p10).
 
-ghost use Rattle.std.specs.Prelude.{◌≡◌, replicate, map, IfOk};
+ghost use Rattle.std.specs.Prelude.{◌≡◌, replicate, IfOk};
 ghost use Rattle.dm_type.specs.CTypes as ctypes;
 ghost use Rattle.dm_type.specs.CTypes.{CType};
 ghost use Rattle.dm_type.specs.Tables.{Has, IsId, type_of};
@@ -12,11 +12,10 @@ ghost use Rattle.dm_first_value.specs.Firsts.{scalar_of};
 
 use dm_int::Kind;
 use dm_layout::{Element, Layout};
-use dm_token::{List, Memory};
+use dm_token::Memory;
 use dm_type::{Shape, TypeId};
 use dm_value::{Integer, Pointer, Value};
 use std::alloc::Global;
-use std::rc::Rc;
 
 /// The first value of the scalars of an object.
 #[derive(Clone, Copy)]
@@ -119,7 +118,7 @@ fn filled_struct(
         values.push(filled(alloc, layout, scalars, depth - 1, member)?)?;
         number = number.checked_add(1).ok_or(Memory)?;
     }
-    let value = of_parts(alloc, values)?;
+    let value = Value::of_parts(alloc, values)?;
     Ok(value)
 }
 
@@ -131,14 +130,6 @@ pub(crate) fn repeated(alloc: Global, value: Value, count: u64) -> Result<Value,
     for _ in 0..count {
         all.push(value.copy()?)?;
     }
-    let array = of_parts(alloc, all)?;
+    let array = Value::of_parts(alloc, all)?;
     Ok(array)
-}
-
-/// The value of these parts.
-pub(crate) fn of_parts(alloc: Global, parts: Vec<Value>) -> Result<Value, Memory>
-    ensures { IfOk result (λ value. view_of_value value ≡ values.parts (values.values (map view_of_value parts.items))) }
-{
-    let parts = Rc::new(alloc, List::from_vec(parts))?;
-    Ok(Value::Parts(parts))
 }

@@ -7,5 +7,5 @@ mod object;
 mod text;
 
 pub use filled::{Scalars, first_value};
-pub use listed::listed_value;
+pub use listed::{completed, listed_value};
 pub use text::text_array;

@@ -1,47 +1,71 @@
 //! First values of objects that have a list of initialisers in braces (6.7.9p16 to p21).
 
-ghost use Rattle.std.specs.Prelude.{◌≡◌, ◌++◌, IfOk, OnOk, map, take, drop};
+ghost use Rattle.std.specs.Prelude.{◌≡◌, ◌++◌, IfOk, OnOk, length, map, take, drop};
 ghost use Rattle.dm_layout.specs.Kinds.{type_of_object, IsKnownType};
 ghost use Rattle.dm_layout.specs.LaidOut.{laid_out};
+ghost use Rattle.dm_meaning.specs.Objects.{all_zero};
 ghost use Rattle.dm_meaning.specs.Statements as statements;
 ghost use Rattle.dm_meaning.specs.Values as values;
 ghost use Rattle.dm_value.specs.Views.{view_of_value};
 
-use crate::filled::{Scalars, of_parts};
+use crate::filled::Scalars;
 use crate::object::first_of;
 use dm_layout::{Layout, ObjectType};
 use dm_token::Memory;
 use dm_value::Value;
 use std::alloc::Global;
 
-/// The value of an object when a list in braces begins: its first parts, so many of them, are unset until their initialisers
-/// are evaluated, and the others are 0 (6.7.9p19, p21).
+/// The value of an object when a list in braces begins: so many of its first parts stay as they were before until their
+/// initialisers are evaluated, and the others are 0 (6.7.9p19, p21).
 pub fn listed_value(
     alloc: Global,
     layout: &Layout,
     kind: &ObjectType,
+    before: &Value,
     count: usize,
 ) -> Result<Value, Memory>
     requires { IsKnownType layout.now kind.now }
-    ensures { IfOk result (λ value. view_of_value value ≡ statements.value_listed (laid_out layout.now) (type_of_object layout.now kind.now) count) }
+    ensures { IfOk result (λ value. view_of_value value ≡ statements.value_listed (laid_out layout.now) (type_of_object layout.now kind.now) (view_of_value before.now) count) }
 {
-    let unset = first_of(alloc, layout, Scalars::Unset, kind)?;
-    let zero = first_of(alloc, layout, Scalars::Zero, kind)?;
-    let mut parts = Vec::new(alloc);
-    append(&mut parts, front(parts_of(&unset), count))?;
-    append(&mut parts, behind(parts_of(&zero), count))?;
-    let value = of_parts(alloc, parts)?;
+    let mut given = Vec::new(alloc);
+    append(&mut given, front(before.all_parts(), count))?;
+    let value = followed_by_zeros(alloc, layout, kind, given, count)?;
     Ok(value)
 }
 
-/// The parts of a value, none where it has none.
-fn parts_of(value: &Value) -> &[Value]
-    ensures { map view_of_value result.now ≡ values.parts_in (view_of_value value.now) }
+/// The value of an object whose first parts have these values, and the others are 0.
+pub fn completed(
+    alloc: Global,
+    layout: &Layout,
+    kind: &ObjectType,
+    given: Vec<Value>,
+) -> Result<Value, Memory>
+    requires { IsKnownType layout.now kind.now }
+    ensures { IfOk result (λ value. view_of_value value ≡ values.parts (values.values (map view_of_value given.items
+        ++ drop (length given.items) (values.parts_in (all_zero (laid_out layout.now) (type_of_object layout.now kind.now)))))) }
 {
-    match value {
-        Value::Parts(parts) => parts.as_ref().items(),
-        _ => &[],
-    }
+    let count = given.len();
+    let value = followed_by_zeros(alloc, layout, kind, given, count)?;
+    Ok(value)
+}
+
+/// The value of these parts and, behind them, those of 0 from a number on.
+fn followed_by_zeros(
+    alloc: Global,
+    layout: &Layout,
+    kind: &ObjectType,
+    given: Vec<Value>,
+    count: usize,
+) -> Result<Value, Memory>
+    requires { IsKnownType layout.now kind.now }
+    ensures { IfOk result (λ value. view_of_value value ≡ values.parts (values.values (map view_of_value given.items
+        ++ drop count (values.parts_in (all_zero (laid_out layout.now) (type_of_object layout.now kind.now)))))) }
+{
+    let zero = first_of(alloc, layout, Scalars::Zero, kind)?;
+    let mut parts = given;
+    append(&mut parts, behind(zero.all_parts(), count))?;
+    let value = Value::of_parts(alloc, parts)?;
+    Ok(value)
 }
 
 /// The first values, at most so many.

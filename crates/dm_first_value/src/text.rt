@@ -9,7 +9,6 @@ ghost use Rattle.dm_meaning.specs.Statements as statements;
 ghost use Rattle.dm_value.specs.Views.{view_of_value};
 ghost use Rattle.dm_first_value.specs.Texts.{characters_in, element_of, kind_of_integers};
 
-use crate::filled::of_parts;
 use dm_int::{Kind, convert};
 use dm_layout::{Layout, ObjectType, bare_kind};
 use dm_token::Memory;
@@ -69,7 +68,7 @@ fn elements(
     for number in 0..count {
         all.push(element(layout, kind, bytes, number))?;
     }
-    let array = of_parts(alloc, all)?;
+    let array = Value::of_parts(alloc, all)?;
     Ok(array)
 }
 

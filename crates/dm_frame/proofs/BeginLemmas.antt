@@ -45,13 +45,6 @@ module _ (table : Table) (before after : Frame) (same : after.objects ≡ before
       → tasks_of table after ≡ states.tests before.objects (view_of_loop table loop) ∷ tasks_of table before
   tests-led loop is = led (task.Tests (length before.objects) loop) is ∙ ap (λ objects. states.tests objects (view_of_loop table loop) ∷ tasks_of table before) (kept-whole before.objects)
 
-  pub again-led : (loop : Loop) → after.tasks ≡ task.Again (length before.objects) loop ∷ before.tasks
-      → tasks_of table after ≡ states.again before.objects (view_of_loop table loop) ∷ tasks_of table before
-  again-led loop is = led (task.Again (length before.objects) loop) is ∙ ap (λ objects. states.again objects (view_of_loop table loop) ∷ tasks_of table before) (kept-whole before.objects)
-
-  pub task-led : (first : Task) → after.tasks ≡ first ∷ before.tasks → tasks_of table after ≡ view_of_tasks table before.objects (first ∷ before.tasks)
-  task-led first is = led first is
-
 -- where a statement is to end
 pub ends-fit : (table : Table) (before after : Frame) → after.objects ≡ before.objects → after.tasks ≡ task.Ends (length before.objects) ∷ before.tasks → FrameFits table before → FrameFits table after
 ends-fit table before after same is fits =

@@ -40,12 +40,6 @@ kept-append (entry ∷ newer) objects n within =
     let l : length (newer ++ objects) ≡ length newer + length objects = length-append newer objects in
     kept-more n entry (newer ++ objects) (omega (arith, l, within)) ∙ kept-append newer objects n within
 
--- nothing ends where nothing is newer
-pub none-ends : (n : ℕ) (objects : Objects) → length objects ≤ n → named_since (kept n objects) objects ≡ []
-none-ends n objects past =
-    let e : length objects - length objects ≡ 0 = omega arith in
-    ap (λ saved. named_since saved objects) (kept-all n objects past) ∙ ap (λ k. map (λ (entry : ℕ × ℕ). entry.1) (take k objects)) e
-
 -- the newest ends first
 pub newest-ends : (n : ℕ) (entry : ℕ × ℕ) (objects : Objects) → n ≤ length objects
     → named_since (kept n (entry ∷ objects)) (entry ∷ objects) ≡ entry.1 ∷ named_since (kept n objects) objects

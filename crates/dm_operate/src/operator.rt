@@ -56,6 +56,7 @@ pub(crate) fn operator_of(types: &Types, form: &Form) -> Result<Operator, Memory
     ensures stands { IfOk result (λ operator. Stands types.now operator (opened_form types.now form.now).label) }
     ensures known { IfOk result (IsKnownOperator types.now) }
 {
+    // Only the contract speaks of the types.
     let _ = types;
     match form {
         Form::Number(value) => Ok(Operator::Leaf(Leaf::Number(*value))),

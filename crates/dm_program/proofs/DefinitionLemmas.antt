@@ -181,9 +181,6 @@ module _ (source : Source) where
     count = ap length is ∙ length-replicate (length source.unit.declared) None;
   }
 
-  pub all-behind : (all : List (Option Function)) → AreBehind source [] all → AreFunctions source all
-  all-behind all h = record { same = λ d. h.same d ∙ ap (λ them. definition_in (defined them) d) h.whole; fit = h.fit }
-
   -- the external declaration is sound
   pub sound-behind : (rest : List CoreExternal) (external : CoreExternal) (left : List CoreExternal) (all : List (Option Function)) → left ≡ rest ++ external ∷ []
       → IsTypedUnit source.table source.unit → AreBehind source left all → IsSoundExternal source external

@@ -25,24 +25,6 @@ reading_runs request reading input made program outcome few is makes runs =
     (few, subst (λ (one : Source). IsRun (meant one) request.order request.steps input outcome) same runs)
 
 module _ (request : RunRequest) (reading : Reading) (names : List (List ℕ)) (input : List ℕ) (before after : Option (List ℕ)) (faults_before faults_after : ℕ) (result : Result ℕ Memory) where
-  pub finished_full : exceeds reading.pp.read ≡ true → OnOk result (PutsText before after faults_before faults_after (limit_line 8 request.project)) → IfOk result (λ status. status ≡ 4)
-      → OnErr result (after ≡ before) → IsFinishedAs request reading names input before after faults_before faults_after result
-  finished_full many = at result
-    where
-      at : (given : Result ℕ Memory) → OnOk given (PutsText before after faults_before faults_after (limit_line 8 request.project)) → IfOk given (λ status. status ≡ 4)
-          → OnErr given (after ≡ before) → IsFinishedAs request reading names input before after faults_before faults_after given
-      at (Ok status) puts is unwritten = (too_many_definitions, is, (many, puts))
-      at (Err error) puts is unwritten = unwritten
-
-  pub finished_mainless : exceeds reading.pp.read ≡ false → main_of (program_of reading.types reading.core) ≡ None
-      → OnOk result (PutsText before after faults_before faults_after (refusal_line reading.unit.file without_main)) → IfOk result (λ status. status ≡ 3)
-      → OnErr result (after ≡ before) → IsFinishedAs request reading names input before after faults_before faults_after result
-  finished_mainless few none = at result
-    where
-      at : (given : Result ℕ Memory) → OnOk given (PutsText before after faults_before faults_after (refusal_line reading.unit.file without_main)) → IfOk given (λ status. status ≡ 3)
-          → OnErr given (after ≡ before) → IsFinishedAs request reading names input before after faults_before faults_after given
-      at (Ok status) puts is unwritten = (main_missing, is, (few, none, puts))
-      at (Err error) puts is unwritten = unwritten
 
   pub finished_run : (outcome : Outcome) → Runs request reading input outcome → (result ≡ Ok 0 → after ≡ appended before (run_text names outcome))
       → (result ≡ Ok 7 → Rose faults_before faults_after × MayHaveAppended before after (run_text names outcome)) → IfOk result (λ status. (status ≡ 0) ⊎ (status ≡ 7))

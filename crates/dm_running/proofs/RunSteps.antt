@@ -31,12 +31,6 @@ use Rattle.dm_running.specs.Endings.{RunEnding, finished, stopped, input_missing
 pub Rose-earlier : (before middle after : ℕ) → before ≤ middle → Rose middle after → Rose before after
 Rose-earlier before middle after order rose = omega arith
 
--- what a reading by a loader that knows nothing gives
-pub is_unit_reading : (told : Option Files) (unit : Source) (old new : Loaded) (result : Result Reading Stop) → old ≡ fresh
-    → ((files : Files) → told ≡ Some files → IsReading (setting_of old new files unit) unit old result new) → IsUnitReading told unit result new
-is_unit_reading None unit old new result is gives = tt
-is_unit_reading (Some files) unit old new result is gives = subst (λ (loaded : Loaded). IsReading (setting_of loaded new files unit) unit loaded result new) is (gives files refl)
-
 -- the defines of a lawful unit are no longer than a file
 short_defines : (defines : List (List ℕ)) → list_all is_definable defines ≡ true → All (λ (define : List ℕ). length define ≤ source_length_limit) defines
 unfolding is_define
@@ -88,10 +82,6 @@ module _ (request : RunRequest) (unit : Source) (input : List ℕ) (before middl
   ends_earlier (input_missing why) ends = absurd ends
   ends_earlier memory_wanted ends = (ends.0 ∙ same_files, ends.1 ∙ same_written)
 
-  pub ends_on : (result : Result ℕ Memory) → EndsWithInputAs request unit input middle after result → EndsRunAs request unit before after result
-  ends_on (Ok status) ends = (ends.0, ends.1, ends_earlier ends.0 ends.2)
-  ends_on (Err error) ends = ends_earlier memory_wanted ends
-
 -- there is no input
 pub ends_without : (request : RunRequest) (unit : Source) (name : List ℕ) (before after : Outside) (why : NoInput) (result : Result ℕ Memory) → request.input ≡ Some name
     → IsNoInputFile before.files name before.folder_faults after.folder_faults why → KeepsFiles before after → OnOk result (Puts before after (line_of_no_input name why))
@@ -106,10 +96,6 @@ ends_without request unit name before after why (Ok status) named none keeps put
   ),
 )
 ends_without request unit name before after why (Err error) named none keeps puts is unwritten = (keeps, unwritten)
-
--- the input of a file, and no input
-pub has_named : (told : Option Files) (given : Option (List ℕ)) (name bytes : List ℕ) → given ≡ Some name → HasInputFile told name bytes → HasInput told given bytes
-has_named told given name bytes named has = subst (λ one. HasInput told one bytes) (sym named) has
 
 -- what a run ends as from a later moment on, at which the files and the output are as before, it ends as from the earlier one
 lacks_earlier : (told : Option Files) (given : Option (List ℕ)) (before middle after : ℕ) (why : NoInput) → before ≤ middle → HasNoInput told given middle after why → HasNoInput told given before after why

@@ -79,10 +79,6 @@ module _ (scene : Scene) (kind : CType) where
   abbrev given : OpenedInitial → values.Value
   given one = static_value (program_in scene) scene.names.now (memory_in scene) kind one.initialiser one.expressions
 
-  -- one expression
-  pub value-Value : (one : Initial) (a : Core) → one ≡ initial.Value a → value_in scene kind one ≡ scalar_in scene (bare kind) a
-  value-Value one a is = ap given (ap (view_of_initial (types_in scene)) is ∙ initial-Value (types_in scene) a)
-
   -- a list in braces
   pub value-Parts : (one : Initial) (items : List Initial) → one ≡ initial.Parts items
       → value_in scene kind one ≡ values.parts (values.values (parts_from scene kind 0 items ++ drop (length items) (values.parts_in (all_zero (laid_out (types_in scene)) kind))))

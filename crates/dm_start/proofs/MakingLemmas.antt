@@ -32,17 +32,6 @@ more-made program d ds objects between named blocks more made first later =
       known = later.known;
     }
 
--- the object of a declaration
-pub one-made : (program : Program) (d kind : ℕ) (block : Block) (objects named : Objects) (blocks made : List Block) → type_declared program d ≡ type_of program.table kind
-    → view_of_block program.table block ≡ zero_block (laid_out program.table) (type_of program.table kind) → named ≡ (d, length blocks) ∷ objects → made ≡ blocks ++ block ∷ []
-    → AreKnown program.table made → IsMade program (d ∷ []) objects blocks named made
-one-made program d kind block objects named blocks made typed seen is makes known = record {
-  names = is;
-  memory = ap (view_of_blocks program.table) makes
-      ∙ (more-view program.table blocks block
-      ∙ ap (λ one. (length blocks, one) ∷ view_of_blocks program.table blocks) (seen ∙ ap (zero_block (layout program)) (sym typed)));
-  count = let l : length (blocks ++ block ∷ []) ≡ length blocks + 1 = length-append blocks (block ∷ []) in ap length makes ∙ omega (arith, l);
-  known = known;
 }
 
 -- ---- declarations

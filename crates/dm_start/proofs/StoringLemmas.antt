@@ -48,31 +48,6 @@ module _ (scene : Scene) where
 
   -- ---- the first value of an object
 
-  without-initialiser : (static : Static) (n : Option ℕ) → kept_by scene static n None ≡ []
-  without-initialiser static None = refl
-  without-initialiser static (Some n) = refl
-
-  pub kept-none : (one : fixed.Static) → one.initial ≡ None → kept_one scene (view_of_static (types_in scene) one) ≡ []
-  kept-none one is =
-      ap (λ (given : Option (Bor Initial)). kept_one scene (view_of_static (types_in scene) (record { declared = one.declared; initial = given }))) is
-      ∙ without-initialiser (record { declared = one.declared; initialiser = None; expressions = [] }) (object_named scene.names.now one.declared)
-
-  pub kept-unnamed : (one : fixed.Static) (initial : Bor Initial) → one.initial ≡ Some initial → object_named scene.names.now one.declared ≡ None
-      → kept_one scene (view_of_static (types_in scene) one) ≡ []
-  kept-unnamed one initial is named =
-      let seen = view_of_static (types_in scene) (record { declared = one.declared; initial = Some initial }) in
-      ap (λ (given : Option (Bor Initial)). kept_one scene (view_of_static (types_in scene) (record { declared = one.declared; initial = given }))) is
-      ∙ ap (λ found. kept_by scene seen found seen.initialiser) named
-
-  pub kept-some : (one : fixed.Static) (initial : Bor Initial) (n : ℕ) (kind : CType) → one.initial ≡ Some initial → object_named scene.names.now one.declared ≡ Some n
-      → type_declared (program_in scene) one.declared ≡ kind
-      → kept_one scene (view_of_static (types_in scene) one) ≡ (n, value_in scene kind initial.now) ∷ []
-  kept-some one initial n kind is named typed =
-      let seen = view_of_static (types_in scene) (record { declared = one.declared; initial = Some initial }) in
-      ap (λ (given : Option (Bor Initial)). kept_one scene (view_of_static (types_in scene) (record { declared = one.declared; initial = given }))) is
-      ∙ (ap (λ found. kept_by scene seen found seen.initialiser) named
-      ∙ ap (λ type. (n, value_in scene type initial.now) ∷ []) typed)
-
   -- one more first value, if there is one
   pub one-kept : (view : fixed.Static → Static) (all more : List Kept) (kept : Option Kept) (one : fixed.Static) (left rest : List fixed.Static) (whole : List (ℕ × values.Value))
       → left ≡ one ∷ rest → more ≡ all ++ option_to_list kept → option_to_list (option_map view_of_kept kept) ≡ kept_one scene (view one)
