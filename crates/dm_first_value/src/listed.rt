@@ -21,11 +21,11 @@ pub fn listed_value(
     alloc: Global,
     layout: &Layout,
     kind: &ObjectType,
-    before: &Value,
     count: usize,
+    before: &Value,
 ) -> Result<Value, Memory>
     requires { IsKnownType layout.now kind.now }
-    ensures { IfOk result (λ value. view_of_value value ≡ statements.value_listed (laid_out layout.now) (type_of_object layout.now kind.now) (view_of_value before.now) count) }
+    ensures { IfOk result (λ value. view_of_value value ≡ statements.value_listed (laid_out layout.now) (type_of_object layout.now kind.now) count (view_of_value before.now)) }
 {
     let mut given = Vec::new(alloc);
     append(&mut given, front(before.all_parts(), count))?;

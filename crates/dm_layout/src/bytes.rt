@@ -46,7 +46,13 @@ pub fn size(layout: &Layout, kind: &ObjectType) -> u64
     match kind {
         ObjectType::Known(kind) => layout.types().size(*kind).unwrap_or(0),
         ObjectType::Void => 0,
-        ObjectType::Text(length) => { if u128::from(*length) <= MOST_TYPE_BYTES { *length } else { 0 } }
+        ObjectType::Text(length) => {
+            if u128::from(*length) <= MOST_TYPE_BYTES {
+                *length
+            } else {
+                0
+            }
+        }
         ObjectType::Character => 1,
     }
 }

@@ -6,7 +6,7 @@ use Rattle.dm_meaning.specs.Causes.{earliest, when, is_other, absence_causes}
 use Rattle.dm_memory.specs.Blocks.{view_of_blocks}
 use Rattle.dm_value.specs.Places.{view_of_name}
 use Rattle.dm_value.specs.Sooner.{joined}
-use Rattle.dm_memory.proofs.access.to_member.Goals as goal
+use Rattle.dm_memory.proofs.access.to_enter.Goals as goal
 
 pub returns : goal.returns
 returns c =
