@@ -5,7 +5,7 @@
 use Rattle.std.specs.Prelude.{◌≡◌, ℕ, ◌+◌, ◌<◌, Bool}
 use Rattle.dm_type.specs.CTypes.{CType, void, integer, pointer, array, struct, function, const}
 use Rattle.dm_type.specs.Tables.{Table, IsId, type_of}
-use Rattle.dm_meaning.specs.Objects.{are_alike}
+use Rattle.dm_meaning.specs.Objects.{agree_without_const}
 use Rattle.dm_layout.specs.declared.alike.Likeness.{Likeness}
 use Rattle.dm_layout.specs.declared.alike.Likeness.TheVariants.{Known, Of}
 
@@ -20,7 +20,7 @@ IsPlain (const type) = ⊥
 
 abbrev pub Means : Table → Likeness → Bool → Type 0
 Means table (Known answer) truth = truth ≡ answer
-Means table (Of a b) truth = IsId table a × IsId table b × (truth ≡ are_alike (type_of table a) (type_of table b))
+Means table (Of a b) truth = IsId table a × IsId table b × (truth ≡ agree_without_const (type_of table a) (type_of table b))
 
 abbrev pub IsFewer : ℕ → Likeness → Type 0
 IsFewer limit (Known answer) = Unit {0}

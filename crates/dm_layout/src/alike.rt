@@ -24,7 +24,7 @@ enum Likeness {
 fn compared(types: &Types, a: TypeId, b: TypeId) -> Likeness
     requires left { IsId types.now a }
     requires right { IsId types.now b }
-    ensures means { Means types.now result (objects.are_alike (type_of types.now a) (type_of types.now b)) }
+    ensures means { Means types.now result (objects.agree_without_const (type_of types.now a) (type_of types.now b)) }
     ensures fewer { IsFewer (a + b) result }
 {
     match types.shape(a) {
@@ -46,7 +46,7 @@ fn array_compared(
     requires right { IsId types.now b }
     requires array { type_of types.now a ≡ ctypes.array (type_of types.now element) length }
     requires below { element < a }
-    ensures means { Means types.now result (objects.are_alike (type_of types.now a) (type_of types.now b)) }
+    ensures means { Means types.now result (objects.agree_without_const (type_of types.now a) (type_of types.now b)) }
     ensures fewer { IsFewer (a + b) result }
 {
     match types.shape(b) {
@@ -77,7 +77,7 @@ fn plain_compared(types: &Types, a: TypeId, b: TypeId) -> Likeness
     requires left { IsId types.now a }
     requires right { IsId types.now b }
     requires plain { IsPlain (type_of types.now a) }
-    ensures means { Means types.now result (objects.are_alike (type_of types.now a) (type_of types.now b)) }
+    ensures means { Means types.now result (objects.agree_without_const (type_of types.now a) (type_of types.now b)) }
     ensures fewer { IsFewer (a + b) result }
 {
     match types.shape(b) {
@@ -88,10 +88,10 @@ fn plain_compared(types: &Types, a: TypeId, b: TypeId) -> Likeness
 }
 
 /// Whether two types are compatible, const apart.
-pub fn are_alike(types: &Types, a: TypeId, b: TypeId) -> bool
+pub fn agree_without_const(types: &Types, a: TypeId, b: TypeId) -> bool
     requires left { IsId types.now a }
     requires right { IsId types.now b }
-    ensures { result ≡ objects.are_alike (type_of types.now a) (type_of types.now b) }
+    ensures { result ≡ objects.agree_without_const (type_of types.now a) (type_of types.now b) }
 {
     let mut left = a;
     let mut right = b;
@@ -109,7 +109,7 @@ pub fn are_alike(types: &Types, a: TypeId, b: TypeId) -> bool
 /// Whether a type is void, const apart.
 pub(crate) fn is_void(types: &Types, id: TypeId) -> bool
     requires { IsId types.now id }
-    ensures { result ≡ objects.are_alike ctypes.void (type_of types.now id) }
+    ensures { result ≡ objects.agree_without_const ctypes.void (type_of types.now id) }
 {
     match types.shape(id) {
         Shape::Void => true,
@@ -121,7 +121,7 @@ pub(crate) fn is_void(types: &Types, id: TypeId) -> bool
 /// Whether a type is that of the array of a string literal, const apart.
 pub fn is_text(types: &Types, id: TypeId, length: u64) -> bool
     requires { IsId types.now id }
-    ensures { result ≡ objects.are_alike (ctypes.array (ctypes.integer Char) (Some length)) (type_of types.now id) }
+    ensures { result ≡ objects.agree_without_const (ctypes.array (ctypes.integer Char) (Some length)) (type_of types.now id) }
 {
     match types.shape(id) {
         Shape::Array(inner, Some(count)) => length == *count && is_char(types, *inner),
@@ -134,7 +134,7 @@ pub fn is_text(types: &Types, id: TypeId, length: u64) -> bool
 /// Whether a type is char, const apart.
 pub fn is_char(types: &Types, id: TypeId) -> bool
     requires { IsId types.now id }
-    ensures { result ≡ objects.are_alike (ctypes.integer Char) (type_of types.now id) }
+    ensures { result ≡ objects.agree_without_const (ctypes.integer Char) (type_of types.now id) }
 {
     match types.shape(id) {
         Shape::Integer(Kind::Char) => true,

@@ -8,7 +8,7 @@ ghost use Rattle.dm_meaning.specs.Objects as objects;
 ghost use Rattle.dm_layout.specs.Kinds.{type_of_object, IsKnownType};
 ghost use Rattle.dm_layout.specs.LaidOut.{laid_out};
 
-use crate::alike::{are_alike, is_char, is_text, is_void};
+use crate::alike::{agree_without_const, is_char, is_text, is_void};
 use crate::layout::{Layout, bare};
 use dm_int::Kind;
 use dm_type::{Shape, TypeId, Types};
@@ -29,11 +29,11 @@ pub enum ObjectType {
 pub(crate) fn is_target(layout: &Layout, kind: &ObjectType, target: TypeId) -> bool
     requires kind { IsKnownType layout.now kind.now }
     requires target { IsId layout.now target }
-    ensures { result ≡ objects.are_alike (type_of_object layout.now kind.now) (type_of layout.now target) }
+    ensures { result ≡ objects.agree_without_const (type_of_object layout.now kind.now) (type_of layout.now target) }
 {
     let types = layout.types();
     match kind {
-        ObjectType::Known(kind) => are_alike(types, *kind, target),
+        ObjectType::Known(kind) => agree_without_const(types, *kind, target),
         ObjectType::Void => is_void(types, target),
         ObjectType::Text(length) => is_text(types, target, *length),
         ObjectType::Character => is_char(types, target),

@@ -10,7 +10,7 @@ mod kinds;
 mod layout;
 mod moves;
 
-pub use alike::{are_alike, is_char, is_text};
+pub use alike::{agree_without_const, is_char, is_text};
 pub use apart::distance;
 pub use bytes::{byte_of, size};
 pub use kinds::{ObjectType, bare_kind, inner};

@@ -12,7 +12,7 @@ ghost use Rattle.dm_value.specs.Places.{view_of_at, view_of_name};
 
 use crate::blocks::Blocks;
 use crate::literal;
-use dm_layout::{Layout, Reached, are_alike, is_char, is_text};
+use dm_layout::{Layout, Reached, agree_without_const, is_char, is_text};
 use dm_meaning::Cause;
 use dm_type::TypeId;
 use dm_value::{At, Name, sooner, when};
@@ -71,7 +71,7 @@ fn is_other(layout: &Layout, access: TypeId, reached: &Reached) -> bool
 {
     let types = layout.types();
     match reached {
-        Reached::Object(kind, _) => !are_alike(types, *kind, access),
+        Reached::Object(kind, _) => !agree_without_const(types, *kind, access),
         Reached::Text(length) => !is_text(types, access, *length),
         Reached::Character => !is_char(types, access),
         Reached::Foreign => true,
