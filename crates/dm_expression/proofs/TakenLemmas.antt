@@ -4,7 +4,6 @@ use Rattle.dm_row.specs.declared.item.Item.{Item}
 use Rattle.dm_row.specs.declared.item.Item.TheVariants.{Done, Waits}
 use Rattle.dm_row.specs.Counts.{ready_in, results_after, weight_by, weight_in}
 use Rattle.dm_row.specs.Sought.{IsSought}
-use Rattle.dm_row.proofs.SeekLemmas.{behind-result}
 use Rattle.dm_expression.specs.declared.waiting.Waiting.{Waiting}
 use Rattle.dm_expression.specs.declared.results.Taken.{Taken}
 use Rattle.dm_expression.specs.Taken.{dones, results_of, IsOperands, number_of, IsTaken}

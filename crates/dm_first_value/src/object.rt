@@ -2,7 +2,6 @@
 
 ghost use Rattle.std.specs.Prelude.{◌≡◌, IfOk};
 ghost use Rattle.dm_int.specs.declared.Kind.TheVariants.{Char};
-ghost use Rattle.dm_type.specs.CTypes as ctypes;
 ghost use Rattle.dm_layout.specs.Kinds.{type_of_object, IsKnownType};
 ghost use Rattle.dm_layout.specs.LaidOut.{laid_out};
 ghost use Rattle.dm_meaning.specs.Objects as objects;

@@ -1,5 +1,5 @@
 -- What is left of a frame where statements begin, form by form.
-use Rattle.std.proofs.Common.{◌≡◌, ℕ, List, [], ◌∷◌, ◌++◌, map, length, Option, Some, None, option_map, Bor, refl, ap, sym, subst, arith, ◌∙◌}
+use Rattle.std.proofs.Common.{◌≡◌, ℕ, List, [], ◌∷◌, ◌++◌, map, length, Option, Some, None, Bor, refl, ap, sym, subst, arith, ◌∙◌}
 use Rattle.dm_type.specs.CTypes.{CType}
 use Rattle.dm_type.specs.Tables.{Table, no_type, type_of}
 use Rattle.dm_tree.proofs.ViewLemmas.{view-core}
@@ -14,7 +14,7 @@ use Rattle.dm_meaning.specs.Memory.{Memory}
 use Rattle.dm_meaning.specs.Operations.{Objects}
 use Rattle.dm_meaning.specs.Programs.{Program}
 use Rattle.dm_meaning.specs.States as states
-use Rattle.dm_meaning.specs.Statements.{Turned, onward, begin_form, begin_statement, begin_tree, evaluation, item_tasks, returning, start_tasks, unlabelled}
+use Rattle.dm_meaning.specs.Statements.{onward, begin_form, evaluation, item_tasks, returning, start_tasks, unlabelled}
 use Rattle.dm_frame.specs.declared.frame.Frame.{Frame}
 use Rattle.dm_frame.specs.declared.task.Begun.{Begun}
 use Rattle.dm_frame.specs.declared.task.Loop.{Loop}
@@ -23,7 +23,7 @@ use Rattle.dm_frame.specs.declared.task.Task.TheVariants as task
 use Rattle.dm_frame.specs.declared.task.Use.{Use}
 use Rattle.dm_frame.specs.Forms.{IsBegunForm, IsPlain}
 use Rattle.dm_frame.specs.Frames.{tasks_of, FrameFits}
-use Rattle.dm_frame.specs.Tasks.{kept, declares_local, view_of_begun, view_of_loop, view_of_tasks, view_of_use, LoopFits, TasksFit}
+use Rattle.dm_frame.specs.Tasks.{declares_local, view_of_begun, view_of_loop, view_of_tasks, view_of_use, LoopFits, TasksFit}
 use Rattle.dm_program.proofs.FormLemmas.{opened-Block, opened-Break, opened-Case, opened-Continue, opened-Declare, opened-Default, opened-Do, opened-For, opened-Full, opened-If, opened-Return, opened-Switch, opened-While}
 use Rattle.dm_program.proofs.InitialLemmas.{item-Declare, listed-trees}
 use Rattle.dm_program.proofs.SortLemmas.{Sorted, is-Block, is-Declare, is-Full, is-If, is-Switch, is-Case, is-Default, is-While, is-Do, is-For, is-Break, is-Continue, is-Return, is-inert, sorted}

@@ -1,7 +1,6 @@
 //! The types of objects, those of string literals among them (6.4.5p6).
 
-ghost use Rattle.std.specs.Prelude.{◌≡◌, Some};
-ghost use Rattle.dm_int.specs.declared.Kind.TheVariants.{Char};
+ghost use Rattle.std.specs.Prelude.{◌≡◌};
 ghost use Rattle.dm_type.specs.CTypes as ctypes;
 ghost use Rattle.dm_type.specs.Tables.{IsId, type_of};
 ghost use Rattle.dm_meaning.specs.Objects as objects;

@@ -1,6 +1,6 @@
 //! Why an access to an object may be undefined (6.3.2.1p2, 6.5p2, 6.5p7, 6.2.4p2, 6.7.3p6).
 
-ghost use Rattle.std.specs.Prelude.{◌≡◌, ◌+◌, ◌||◌, ◌&&◌, ◌++◌, not, Some, All, map};
+ghost use Rattle.std.specs.Prelude.{◌≡◌, ◌+◌, ◌||◌, ◌&&◌, ◌++◌, not, Some, map};
 ghost use Rattle.dm_type.specs.Tables.{IsId, Table, type_of};
 ghost use Rattle.dm_meaning.specs.declared.cause.Cause.TheVariants.{Bounds, Conflict, Const, OtherType, Unset};
 ghost use Rattle.dm_meaning.specs.Causes as table;

@@ -11,7 +11,7 @@ use Rattle.dm_tree.specs.declared.tree.Core as q
 use Rattle.dm_tree.specs.declared.tree.Form.{Form}
 use Rattle.dm_tree.specs.declared.tree.Form.TheVariants as form
 use Rattle.dm_tree.specs.Trees as label
-use Rattle.dm_tree.specs.Trees.{Label, both, either, choose, comma, call, sizeof_tree, Tree, trees, is_statement, label_of}
+use Rattle.dm_tree.specs.Trees.{Label, both, either, choose, comma, call, sizeof_tree, trees, is_statement, label_of}
 use Rattle.dm_tree.specs.TypeNumbers.{are_known, are_known_in_form}
 use Rattle.dm_tree.specs.Views.{Opened, opened, opened_form, view, node_of}
 use Rattle.dm_tree.proofs.ViewLemmas.{view-core, are_known-core, opened-Both, are_known-Both, opened-Either, are_known-Either, opened-Choose, are_known-Choose, opened-Comma, are_known-Comma, opened-Convert, opened-SizeofTree}
@@ -20,7 +20,7 @@ use Rattle.dm_meaning.specs.Operations.{World, Scene, Objects, of_value, truth_i
 use Rattle.dm_meaning.specs.Operations as operations
 use Rattle.dm_meaning.specs.Programs.{or_zero}
 use Rattle.dm_meaning.specs.Running as running
-use Rattle.dm_meaning.specs.Running.{Run, done, gives_truth, gives_value, Runs, Hole, begun, all_begun, locks_in_all, open_of, only_first, nothing}
+use Rattle.dm_meaning.specs.Running.{Run, done, gives_truth, gives_value, Runs, Hole, begun, locks_in_all, open_of, only_first, nothing}
 use Rattle.dm_meaning.specs.Values.{At}
 use Rattle.dm_operate.specs.declared.evaluation.Operand.{Operand}
 use Rattle.dm_operate.specs.Evaluations.{asks_names, view_of_operand}

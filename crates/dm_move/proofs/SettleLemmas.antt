@@ -35,9 +35,9 @@ use Rattle.dm_expression.specs.declared.expression.Expression.{Expression}
 use Rattle.dm_expression.specs.declared.waiting.Doing.TheVariants.{GivesTruth, GivesValue}
 use Rattle.dm_expression.specs.declared.waiting.Waiting.{Waiting}
 use Rattle.dm_expression.specs.Given.{lock_list, with_lock, without}
-use Rattle.dm_expression.specs.Standing.{viewed, Lacks, Stands}
+use Rattle.dm_expression.specs.Standing.{Stands}
 use Rattle.dm_expression.specs.Waiting.{view_of_waiting, waiting_of, AreWaiting, AreWaitingExpressions, AreWaitingKnown, IsPut}
-use Rattle.dm_expression.proofs.LeaveLemmas.{locks-given, locks-released, own-size, first-size}
+use Rattle.dm_expression.proofs.LeaveLemmas.{locks-given, locks-released, own-size}
 use Rattle.dm_expression.proofs.StandLemmas.{given, picked, waiting-truth, waiting-value}
 use Rattle.dm_frame.specs.declared.task.Use.{Use}
 use Rattle.dm_frame.specs.Tasks.{view_of_use, ExpressionFits, UseFits}
@@ -45,7 +45,7 @@ use Rattle.dm_state.specs.declared.full.Ongoing.{Ongoing}
 use Rattle.dm_state.specs.declared.running.Running.{Running}
 use Rattle.dm_state.specs.Standing.{see, world_of, AreFit, Fits, IsUnder}
 use Rattle.dm_state.specs.Turns.{state_with}
-use Rattle.dm_state.specs.Views.{back_locks, front_locks, hole_in_one}
+use Rattle.dm_state.specs.Views.{front_locks, hole_in_one}
 use Rattle.dm_state.proofs.FitLemmas.{fit-both, fit-first, fit-second, run-under}
 use Rattle.dm_move.specs.Settling.{gap, own_locks, rest_locks, state_before, GoesOn, IsLacking}
 

@@ -16,7 +16,7 @@ ghost use Rattle.dm_value.specs.Views.{view_of_value};
 ghost use Rattle.dm_memory.specs.declared.blocks.Block.{Block};
 ghost use Rattle.dm_memory.specs.Blocks.{AreKnown};
 ghost use Rattle.dm_operate.specs.declared.operator.Operator.TheVariants as variant;
-ghost use Rattle.dm_operate.specs.Evaluations.{asks_names, view_of_did, view_of_evaluation, view_of_operand, view_of_operands, AreKnownOperands, Does};
+ghost use Rattle.dm_operate.specs.Evaluations.{asks_names, view_of_did, view_of_evaluation, view_of_operands, AreKnownOperands, Does};
 ghost use Rattle.dm_operate.specs.Operators.{IsKnownLeaf, IsKnownOperator, Stands, StandsLeaf, StandsOnPlace, StandsOnValue};
 
 use crate::conversions::convert;

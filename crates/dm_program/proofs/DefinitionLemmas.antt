@@ -24,7 +24,7 @@ use Rattle.dm_meaning.specs.Wholes.{IsWhole}
 use Rattle.dm_meaning.proofs.AnywhereLemmas.{whole-anywhere}
 use Rattle.dm_meaning.proofs.WholeLemmas.{typed-whole}
 use Rattle.dm_program.specs.declared.function.Function.{Function}
-use Rattle.dm_program.specs.Functions.{view_of_function, FunctionFits, AreFunctions, IsItems, AreBehind, IsBefore, at_number, in_place}
+use Rattle.dm_program.specs.Functions.{view_of_function, FunctionFits, IsItems, AreBehind, IsBefore, at_number, in_place}
 use Rattle.dm_program.specs.Sources.{Source, meant, IsSoundExternal}
 
 -- ---- external declarations are sound

@@ -17,7 +17,7 @@ use Rattle.dm_tree.specs.declared.tree.Initial.{Initial}
 use Rattle.dm_tree.specs.declared.tree.Local.{Local, out-Local}
 use Rattle.dm_tree.specs.declared.unit.Declared.{Declared}
 use Rattle.dm_tree.specs.Trees as label
-use Rattle.dm_tree.specs.Trees.{Tree, listed, trees, is_statement, expressions_in}
+use Rattle.dm_tree.specs.Trees.{Tree, trees}
 use Rattle.dm_tree.specs.TypeNumbers.{all_pass, are_known, are_known_in_form, are_known_in_local, form_known, initial_known, core_known, local_known, passes_if_there}
 use Rattle.dm_tree.specs.Units.{Declaration}
 use Rattle.dm_tree.specs.Views.{Opened, OpenedInitial, OpenedLocal, opened, opened_form, view, view_of_local, view_of_declared, entries_of, if_there, declarators_of, expressions_of_locals, form_layer, initial_layer, core_layer, local_layer, local_of}

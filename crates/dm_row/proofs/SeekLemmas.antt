@@ -1,6 +1,5 @@
 -- Moving the place in a row.
-use Rattle.std.proofs.Common.{◌≡◌, ℕ, suc, ◌+◌, ◌<◌, ◌≤◌, Bool, true, false, ◌&&◌, nat_le, nat_eq, List, [], ◌∷◌, ◌++◌, length, refl, sym, ap, ◌∙◌, arith, append_assoc, append-nil, leb-true, eqb-true, eq-eqb}
-use Rattle.std.proofs.lemmas.List.{length-append}
+use Rattle.std.proofs.Common.{◌≡◌, ℕ, ◌+◌, ◌≤◌, Bool, true, false, ◌&&◌, nat_le, nat_eq, List, [], ◌∷◌, ◌++◌, refl, sym, ap, ◌∙◌, arith, append_assoc, leb-true, eqb-true, eq-eqb}
 use Rattle.dm_row.specs.declared.item.Item.{Item}
 use Rattle.dm_row.specs.declared.item.Item.TheVariants.{Done, Waits}
 use Rattle.dm_row.specs.Counts.{one_if, ready_in, results_after, is_next_ready}
@@ -70,6 +69,3 @@ sought {R} {N} before after number same is =
 -- behind a node stands no result
 pub behind-node : {R N : Type 0} (xs : List (Item R N)) (node : N) (operands : ℕ) → results_after 0 (xs ++ Waits node operands ∷ []) ≡ 0
 behind-node xs node operands = results-append 0 xs (Waits node operands ∷ [])
-
-pub behind-result : {R N : Type 0} (xs : List (Item R N)) (result : R) (weight : ℕ) → results_after 0 (xs ++ Done result weight ∷ []) ≡ suc (results_after 0 xs)
-behind-result xs result weight = results-append 0 xs (Done result weight ∷ [])

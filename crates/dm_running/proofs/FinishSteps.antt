@@ -1,10 +1,8 @@
 -- From what comes behind a reading to its finish.
-use Rattle.std.proofs.Common.{◌≡◌, ◌⊎◌, inl, inr, ℕ, true, false, List, Option, Some, None, MatchOption, Result, Ok, Err, IfOk, OnOk, OnErr, ap, subst}
+use Rattle.std.proofs.Common.{◌≡◌, ◌⊎◌, inl, inr, ℕ, false, List, Option, Some, None, MatchOption, Result, Ok, Err, IfOk, OnErr, ap, subst}
 use Rattle.dm_token.specs.declared.stop.Memory.{Memory}
 use Rattle.dm_io.specs.Output.{appended, MayHaveAppended}
 use Rattle.dm_io.specs.Faults.{Rose}
-use Rattle.dm_lines.specs.Lines.{limit_line, refusal_line}
-use Rattle.dm_lines.specs.Puts.{PutsText}
 use Rattle.dm_meaning.specs.Units.{main_of}
 use Rattle.dm_exec.specs.declared.outcome.Outcome.{Outcome}
 use Rattle.dm_exec.specs.Outcomes.{IsRun}
@@ -13,7 +11,7 @@ use Rattle.dm_read.specs.declared.unit.Reading.{Reading}
 use Rattle.dm_run.specs.Texts.{run_text}
 use Rattle.dm_words.specs.Requests.{RunRequest}
 use Rattle.dm_running.specs.Readings.{exceeds, program_of}
-use Rattle.dm_running.specs.Finishes.{ran, unput, too_many_definitions, main_missing, without_main, Runs, IsFinishedAs}
+use Rattle.dm_running.specs.Finishes.{ran, unput, Runs, IsFinishedAs}
 
 -- the run of the program that is made of a reading
 pub reading_runs : (request : RunRequest) (reading : Reading) (input : List ℕ) (made : Option Source) (program : Source) (outcome : Outcome) → exceeds reading.pp.read ≡ false → made ≡ Some program

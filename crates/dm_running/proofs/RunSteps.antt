@@ -10,19 +10,16 @@ use Rattle.dm_token.specs.declared.unit.Unit.{Unit as Source}
 use Rattle.dm_io.specs.Files.{Files}
 use Rattle.dm_io.specs.Faults.{Rose}
 use Rattle.dm_search.specs.Loaded.{Loaded}
-use Rattle.dm_search.specs.Fresh.{fresh}
-use Rattle.dm_unit.specs.Units.{setting_of}
 use Rattle.dm_manifest.specs.Defines.{is_define}
 use Rattle.dm_manifest.specs.Units.{IsLawful, is_definable}
 use Rattle.dm_lines.specs.Outside.{Outside, KeepsFiles, Puts}
 use Rattle.dm_lines.specs.Puts.{PutsText}
 use Rattle.dm_lines.specs.Stops.{line_of_stop, status_of_stop}
 use Rattle.dm_read.specs.declared.unit.Reading.{Reading}
-use Rattle.dm_read.specs.Reading.{IsReading}
 use Rattle.dm_words.specs.Requests.{RunRequest}
 use Rattle.dm_running.specs.declared.input.NoInput.{NoInput}
 use Rattle.dm_running.specs.declared.input.NoInput.TheVariants.{Missing, TooLong, ReadFault}
-use Rattle.dm_running.specs.Inputs.{HasInput, HasInputFile, HasNoInput, IsNoInputFile, line_of_no_input, line_without_input, status_of_no_input}
+use Rattle.dm_running.specs.Inputs.{HasInput, HasNoInput, IsNoInputFile, line_of_no_input, line_without_input, status_of_no_input}
 use Rattle.dm_running.specs.Readings.{IsUnitReading}
 use Rattle.dm_running.specs.Finishes.{IsFinishedAs}
 use Rattle.dm_running.specs.Endings.{RunEnding, finished, stopped, input_missing, memory_wanted, HasCause, EndsWithInput, EndsWithInputAs, EndsRun, EndsRunAs}

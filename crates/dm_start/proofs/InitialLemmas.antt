@@ -21,7 +21,7 @@ use Rattle.dm_program.specs.Initials.{are_known_in_initial, view_of_initial}
 use Rattle.dm_value.specs.declared.value.Value.{Value}
 use Rattle.dm_value.specs.Views.{view_of_value}
 use Rattle.dm_start.specs.declared.scene.Scene.{Scene}
-use Rattle.dm_start.specs.Scenes.{memory_in, parts_from, program_in, scalar_in, types_in, value_in}
+use Rattle.dm_start.specs.Scenes.{memory_in, parts_from, program_in, types_in, value_in}
 
 -- the first of them, and the others
 pub parts-first : (scene : Scene) (kind : CType) (n : ℕ) (first : Initial) (rest : List Initial)

@@ -1,20 +1,16 @@
 -- First values that are found before they are stored are those that the definition stores one after the other.
-use Rattle.std.proofs.Common.{◌≡◌, ℕ, suc, length, List, [], ◌∷◌, ◌++◌, map, append_assoc, Option, Some, None, option_map, option_to_list, Bor, refl, ap, sym, ◌∙◌}
+use Rattle.std.proofs.Common.{◌≡◌, ℕ, suc, length, List, [], ◌∷◌, ◌++◌, map, append_assoc, Option, Some, None, option_map, option_to_list, refl, ap, sym, ◌∙◌}
 use Rattle.std.proofs.lemmas.List.{map-append}
-use Rattle.dm_type.specs.CTypes.{CType}
-use Rattle.dm_tree.specs.declared.tree.Initial.{Initial}
 use Rattle.dm_tree.specs.Trees.{Initialiser}
 use Rattle.dm_meaning.specs.Memory.{Block, Memory, changed_block, written}
 use Rattle.dm_meaning.specs.Operations.{object_named, whole}
 use Rattle.dm_meaning.specs.Programs.{Static}
-use Rattle.dm_meaning.specs.Statements.{type_declared}
 use Rattle.dm_meaning.specs.Units.{all_initialised, initialised}
 use Rattle.dm_meaning.specs.Values as values
 use Rattle.dm_program.specs.declared.fixed.Static as fixed
-use Rattle.dm_program.specs.Statics.{view_of_static}
 use Rattle.dm_start.specs.declared.scene.Scene.{Scene}
 use Rattle.dm_start.specs.declared.storing.Kept.{Kept}
-use Rattle.dm_start.specs.Scenes.{memory_in, program_in, types_in, value_in}
+use Rattle.dm_start.specs.Scenes.{memory_in, program_in}
 use Rattle.dm_start.specs.Storing.{kept_all, kept_by, kept_one, view_of_kept, with_values}
 
 listed-map : (kept : Option Kept) → map view_of_kept (option_to_list kept) ≡ option_to_list (option_map view_of_kept kept)

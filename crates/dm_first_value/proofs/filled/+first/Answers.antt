@@ -1,6 +1,5 @@
 -- One member after the other.
-use Rattle.std.proofs.Common.{◌≡◌, ℕ, suc, ◌-◌, ◌∷◌, [], map, rules, arith, ap, sym, ◌∙◌}
-use Rattle.dm_type.specs.CTypes.{struct}
+use Rattle.std.proofs.Common.{◌≡◌, suc, ◌-◌, map, rules, arith, ap, sym, ◌∙◌}
 use Rattle.dm_type.specs.Tables.{members_of}
 use Rattle.dm_layout.specs.LaidOut.{laid_out}
 use Rattle.dm_meaning.specs.Objects.{Field, element, filled, filled_struct}

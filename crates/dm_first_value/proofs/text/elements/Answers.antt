@@ -1,5 +1,4 @@
 -- One element after the other.
-use Rattle.std.proofs.Common.{map, ap, ◌∙◌, replicate}
 use Rattle.dm_layout.specs.Kinds.{type_of_object}
 use Rattle.dm_first_value.specs.Texts.{characters_in}
 use Rattle.dm_first_value.proofs.TextLemmas.{one-element}

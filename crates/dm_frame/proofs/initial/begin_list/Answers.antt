@@ -1,5 +1,5 @@
 -- Each initialiser is left to do, and the object has its value.
-use Rattle.std.proofs.Common.{◌≡◌, List, ◌∷◌, ◌++◌, length, ap, sym, subst, ◌∙◌}
+use Rattle.std.proofs.Common.{List, ◌++◌, length, ap, sym, subst, ◌∙◌}
 use Rattle.dm_type.specs.Tables.{Table}
 use Rattle.dm_tree.specs.Views.{items_of, expressions_of_items}
 use Rattle.dm_layout.specs.Kinds.{type_of_object}
