@@ -1,5 +1,7 @@
 -- Runs of several steps.
-use Rattle.std.proofs.Common.{◌≡◌, ℕ, zero, suc, ◌+◌, ◌-◌, ◌<◌, List, length, Option, Some, None, option_map, Result, Ok, IsErr, refl, ap, sym, subst, ◌∙◌, arith}
+use Rattle.std.proofs.Common.{◌≡◌, ℕ, zero, suc, ◌+◌, ◌-◌, ◌<◌, List, [], ◌∷◌, length, get_or, Option, Some, None, option_map, Result, Ok, IsErr, refl, ap, sym, subst, ◌∙◌, arith}
+use mir.Syntax.{w8}
+use mir.Val.{Fits}
 use Rattle.dm_token.specs.declared.stop.Memory.{Memory}
 use Rattle.dm_meaning.specs.Choices.{after, after_start, run_by}
 use Rattle.dm_meaning.specs.Machines.{RunsWithin}
@@ -68,6 +70,15 @@ last-step program order number n choice (Some before) after turn taken ended =
     ap (left_after program order number n) taken.0 ∙ (ended-stays program order number n turn (stepped_seen program choice before) taken.1 ended ∙ sym taken.0)
 
 -- ---- whole runs
+
+-- the input of the code is a list of bytes
+byte-below : (byte : ℕ) → Fits w8 byte → byte < 256
+byte-below byte fits = omega (arith, fits)
+
+pub all-bytes : (input : List ℕ) → ((k : ℕ) → Fits w8 (get_or input k 0)) → AreBytes input
+all-bytes [] fits k other within = absurd (omega (arith, within))
+all-bytes (byte ∷ bytes) fits zero other within = byte-below byte (fits 0)
+all-bytes (byte ∷ bytes) fits (suc k) other within = all-bytes bytes (λ j. fits (suc j)) k other (omega (arith, within))
 
 -- there are as many choices as steps
 choices-counted : (order number n : ℕ) → length (choices_behind order number n) ≡ n
