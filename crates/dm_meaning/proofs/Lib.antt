@@ -1,14 +1,14 @@
-mod AmongLemmas
-mod MoveLemmas
-mod StepLemmas
-mod OptionLemmas
+pub mod AmongLemmas
+pub mod MoveLemmas
+pub mod StepLemmas
+pub mod OptionLemmas
 mod QuietLemmas
 mod ConstantLemmas
 mod RunLemmas
 mod StatementLemmas
 mod StateLemmas
 mod StartLemmas
-mod ExtendLemmas
+pub mod ExtendLemmas
 mod FormLemmas
 mod StoreLemmas
 mod LifeLemmas
@@ -19,7 +19,7 @@ mod YieldLemmas
 mod StaticLemmas
 mod CallExample
 mod EnumeratorExample
-mod GrowLemmas
+pub mod GrowLemmas
 mod ChangeLemmas
 mod SpareRunLemmas
 mod SpareStateLemmas
@@ -34,7 +34,7 @@ mod OrderLemmas
 mod PassUnitLemmas
 mod LikenessLemmas
 mod StandLemmas
-mod ShrinkLemmas
+pub mod ShrinkLemmas
 mod MatchLemmas
 mod EntryLemmas
 mod CallInstanceLemmas
