@@ -2,41 +2,41 @@ pub mod AmongLemmas
 pub mod MoveLemmas
 pub mod StepLemmas
 pub mod OptionLemmas
-mod QuietLemmas
-mod ConstantLemmas
-mod RunLemmas
-mod StatementLemmas
-mod StateLemmas
-mod StartLemmas
+pub mod QuietLemmas
+pub mod ConstantLemmas
+pub mod RunLemmas
+pub mod StatementLemmas
+pub mod StateLemmas
+pub mod StartLemmas
 pub mod ExtendLemmas
-mod FormLemmas
-mod StoreLemmas
-mod LifeLemmas
-mod UnitLemmas
-mod PrimLemmas
-mod FewerLemmas
-mod YieldLemmas
-mod StaticLemmas
+pub mod FormLemmas
+pub mod StoreLemmas
+pub mod LifeLemmas
+pub mod UnitLemmas
+pub mod PrimLemmas
+pub mod FewerLemmas
+pub mod YieldLemmas
+pub mod StaticLemmas
 mod CallExample
 mod EnumeratorExample
 pub mod GrowLemmas
-mod ChangeLemmas
-mod SpareRunLemmas
-mod SpareStateLemmas
-mod SetLemmas
-mod PassRunLemmas
-mod PassStatementLemmas
-mod PassStateLemmas
-mod PassRefineLemmas
-mod FrameLemmas
-mod KnownLemmas
-mod OrderLemmas
-mod PassUnitLemmas
-mod LikenessLemmas
-mod StandLemmas
+pub mod ChangeLemmas
+pub mod SpareRunLemmas
+pub mod SpareStateLemmas
+pub mod SetLemmas
+pub mod PassRunLemmas
+pub mod PassStatementLemmas
+pub mod PassStateLemmas
+pub mod PassRefineLemmas
+pub mod FrameLemmas
+pub mod KnownLemmas
+pub mod OrderLemmas
+pub mod PassUnitLemmas
+pub mod LikenessLemmas
+pub mod StandLemmas
 pub mod ShrinkLemmas
-mod MatchLemmas
-mod EntryLemmas
-mod CallInstanceLemmas
+pub mod MatchLemmas
+pub mod EntryLemmas
+pub mod CallInstanceLemmas
 pub mod WholeLemmas
 pub mod AnywhereLemmas

@@ -99,7 +99,7 @@ HolesYield [] filler holes = ⊥
 HolesYield (kind ∷ kinds) filler (in_first hole rest) = HoleYields kind filler hole × (is_void (bare kind) ≡ false) × AllYield kinds rest
 HolesYield (kind ∷ kinds) filler (in_others first holes) = Yields kind first × (is_void (bare kind) ≡ false) × HolesYield kinds filler holes
 
-all_filled_yield : (kinds : List CType) (filler : CType) (holes : Holes) (run : Run) → HolesYield kinds filler holes → Yields filler run → AllYield kinds (all_filled_in holes run)
+pub all_filled_yield : (kinds : List CType) (filler : CType) (holes : Holes) (run : Run) → HolesYield kinds filler holes → Yields filler run → AllYield kinds (all_filled_in holes run)
 all_filled_yield [] filler holes run h y = absurd h
 all_filled_yield (kind ∷ kinds) filler (in_first hole rest) run h y = (filled_yields kind filler hole run h.0 y, h.1, h.2)
 all_filled_yield (kind ∷ kinds) filler (in_others first holes) run h y = (h.0, h.1, all_filled_yield kinds filler holes run h.2 y)

@@ -168,7 +168,7 @@ module _ (change : Called) (d : ℕ) (own : (c : ℕ) → change.rename c ≡ d 
   renamed_elsewhere (object c) = ap (λ b. if b then 1 else 0) (differ_is (change.rename c) d (own c))
   renamed_elsewhere label = refl
 
-  doing_elsewhere : (label : Label) (doing : Doing) → evaluates label ≡ redone change.rename doing → times_here d label ≡ 0
+  pub doing_elsewhere : (label : Label) (doing : Doing) → evaluates label ≡ redone change.rename doing → times_here d label ≡ 0
   doing_elsewhere label (evaluates other) e = ap (times_here d) (ap label_in e) ∙ renamed_elsewhere other
   doing_elsewhere label gives_truth e = absurd (cc)
   doing_elsewhere label gives_value e = absurd (cc)
