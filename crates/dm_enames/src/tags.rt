@@ -1,6 +1,6 @@
 //! Tags of structs and enums (6.7.2.3), and enumerators (6.7.2.2).
 
-ghost use Rattle.std.specs.Prelude.{◌≡◌, ◌≢◌, ℕ, ◌<◌, false, ◌&&◌, All, List, [], ◌∷◌, ◌++◌, drop, length, reverse, IsOk, IfOk, OnOk, IfSome, IfNone, option_map, option_and_then, Option, Some, None, pos, ◌+ℤ◌, bytes_eq, codes};
+ghost use Rattle.std.specs.Prelude.{◌≡◌, ◌≢◌, ℕ, ℤ, ◌<◌, false, ◌&&◌, All, List, [], ◌∷◌, ◌++◌, drop, length, reverse, IsOk, IfOk, OnOk, IfSome, IfNone, option_map, option_and_then, Option, Some, None, pos, ◌+ℤ◌, bytes_eq, codes};
 ghost use Rattle.std.specs.Option.{option_copied};
 ghost use Rattle.dm_type.specs.declared.shape.Shape.{Shape as OneShape};
 ghost use Rattle.dm_type.specs.declared.shape.Shape.TheVariants.{Struct as StructShape};
