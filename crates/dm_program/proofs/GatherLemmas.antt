@@ -161,8 +161,6 @@ placed-append places statics number one is inside none h = record {
         ap (λ (s : Static). place_of (set places number (Some (length statics))) s.declared) (sym h2.1) ∙ ap (place_of (set places number (Some (length statics)))) is
         ∙ ap place_in (set-here places number (Some (length statics)) inside) ∙ ap (λ k. Some k) (sym h2.0)
 
-}
-
 -- a number more
 snoc : {A : Type 0} (n : ℕ) (none : A) → replicate n none ++ none ∷ [] ≡ replicate (suc n) none
 snoc zero none = refl

@@ -154,8 +154,6 @@ local-gathers a b local initial is defines inside fixed added = record {
       (inside, known-there n initial (ap (λ one. passes_if_there (option_map (are_known_in_initial n) one)) is ∙ sym (local-known n local) ∙ h)) all;
 }
 
-}
-
 -- an object of static storage duration is defined, and declared
 pub static-facts : (declared : List Declared) (local : Local) → is_static (entries_of no_type declared) (as_local (view_of_local no_type local)) ≡ true
     → ((out-Local local).defines ≡ true) × ((out-Local local).declared < length declared)

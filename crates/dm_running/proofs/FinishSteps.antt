@@ -23,7 +23,6 @@ reading_runs request reading input made program outcome few is makes runs =
     (few, subst (λ (one : Source). IsRun (meant one) request.order request.steps input outcome) same runs)
 
 module _ (request : RunRequest) (reading : Reading) (names : List (List ℕ)) (input : List ℕ) (before after : Option (List ℕ)) (faults_before faults_after : ℕ) (result : Result ℕ Memory) where
-
   pub finished_run : (outcome : Outcome) → Runs request reading input outcome → (result ≡ Ok 0 → after ≡ appended before (run_text names outcome))
       → (result ≡ Ok 7 → Rose faults_before faults_after × MayHaveAppended before after (run_text names outcome)) → IfOk result (λ status. (status ≡ 0) ⊎ (status ≡ 7))
       → OnErr result (after ≡ before) → IsFinishedAs request reading names input before after faults_before faults_after result

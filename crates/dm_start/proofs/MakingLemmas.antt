@@ -30,8 +30,6 @@ more-made program d ds objects between named blocks more made first later =
       known = later.known;
     }
 
-}
-
 -- ---- declarations
 
 declared-by : (table : Table) (one : Static) (initial : Option (Bor Initial)) → one.initial ≡ initial → (view_of_static table one).declared ≡ one.declared
