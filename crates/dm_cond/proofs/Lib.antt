@@ -1,5 +1,4 @@
 pub mod Results
-pub mod Stacks
 pub mod Reductions
 pub mod Levels
 pub mod Completeness

@@ -1,5 +1,6 @@
 -- What the whole expansion of a group of tokens gives, of the expansion of their list.
 use Rattle.std.proofs.Common.{◌≡◌, ℕ, suc, ◌+◌, ◌≤◌, List, [], ◌∷◌, map, length, Result, Ok, Err, refl, sym, ap, ◌∙◌, arith}
+use Rattle.dm_token.specs.Limits.{most_work}
 use Rattle.dm_token.specs.declared.token.PpToken.{PpToken}
 use Rattle.dm_token.specs.declared.token.Token.{Token}
 use Rattle.dm_token.specs.declared.stop.Stop.{Stop}
@@ -57,10 +58,10 @@ answer-counted instance spent p follows =
     let is = numbered-length instance p.expansions p.instance (follows.numbered instance refl) in
     omega (arith, follows.counted, is)
 
-pub answer-within : (instance spent : ℕ) (p : Progress) → Follows (at_start instance spent) p → p.spent ≤ 8000000
+pub answer-within : (instance spent : ℕ) (p : Progress) → Follows (at_start instance spent) p → p.spent ≤ most_work
 unfolding greatest_work
 answer-within instance spent p follows = follows.within
 
-pub start-within : (instance spent : ℕ) → instance ≤ spent → spent ≤ 8000000 → IsWithin (at_start instance spent)
+pub start-within : (instance spent : ℕ) → instance ≤ spent → spent ≤ most_work → IsWithin (at_start instance spent)
 unfolding at_start greatest_work
 start-within instance spent numbered counted = record { spent = counted; instance = numbered }

@@ -23,10 +23,6 @@ unfolding inside_too
 all_inside-more items item None = refl
 all_inside-more items item (Some enclosed) = ap (λ (inside : List Item). Some (record enclosed { inside = inside })) (sym (append_assoc items (item ∷ []) enclosed.inside))
 
-pub all_inside-nothing : (found : Option Enclosed) → all_inside [] found ≡ found
-all_inside-nothing None = refl
-all_inside-nothing (Some enclosed) = refl
-
 -- one token more, which doesn't close the invocation
 pub inside-goes_on : (all : Option Enclosed) (inside : List Item) (depth : ℕ) (item : Item) (others : List Item)
     → all ≡ all_inside inside (enclosed_in depth (item ∷ others)) → (closes item && eqb depth 0) ≡ false

@@ -1,5 +1,5 @@
 -- Pieces of a replacement list.
-use Rattle.std.proofs.Common.{◌≡◌, ℕ, ◌<◌, ◌≤◌, Bool, List, [], ◌∷◌, ◌++◌, length, map, refl, sym, ap, ◌∙◌, arith, append_assoc, set as set_at, get_or, Result, Ok, Err}
+use Rattle.std.proofs.Common.{◌≡◌, ℕ, ◌<◌, ◌≤◌, Bool, List, [], ◌∷◌, ◌++◌, length, map, refl, sym, ap, ◌∙◌, arith, append_assoc, set as set_at, get_or, Ok}
 use Rattle.dm_token.specs.declared.expansion.Mark.{Mark}
 use Rattle.dm_token.specs.declared.expansion.Mark.TheVariants.{Argument}
 use Rattle.dm_macro.specs.declared.role.Role.{Role}
@@ -14,12 +14,12 @@ use Rattle.dm_expand.specs.Pastes.{Site, token, placemarker, operator, made}
 use Rattle.std.specs.FinSet as set
 use Rattle.dm_token.specs.declared.token.PpToken.{PpToken}
 use Rattle.dm_token.specs.declared.token.PpKind.TheVariants.{Literal}
-use Rattle.dm_token.specs.declared.stop.Stop.{Stop}
-use Rattle.dm_expand.specs.Steps.{Progress, Output, ◌>>=◌, take_argument}
-use Rattle.dm_macro.specs.Bodies.{plain, hash, beside, whole, paste}
+use Rattle.dm_expand.specs.Steps.{Progress, ◌>>=◌, take_argument}
+use Rattle.dm_macro.specs.Bodies.{plain, hash, beside, paste}
 use Rattle.dm_expand.specs.Strings.{quoted}
-use Rattle.dm_expand.specs.Substitution.{Expander, Filled, operands, filled, body_item, argument_for, argument_item, placed}
+use Rattle.dm_expand.specs.Substitution.{Expander, operands, filled, body_item, argument_for, argument_item, placed}
 use Rattle.dm_expand.specs.ListViews.{fills}
+use Rattle.dm_expand.proofs.ListLemmas.{map-same}
 
 pub operands-nothing : (blank : Bool) (items : List Item) → length items ≡ 0 → operands blank items ≡ placemarker blank ∷ []
 unfolding operands
@@ -40,10 +40,6 @@ pub first-some : (blank : Bool) (items : List Item) (first changed : Item) → 1
 unfolding first_with_blank
 first-some blank [] first changed some is with = absurd (omega arith)
 first-some blank (item ∷ items) first changed some is with = ap (λ (x : Item). x ∷ items) (with ∙ ap (with_blank blank) is)
-
-map-same : {A B : Type 0} (f g : A → B) (xs : List A) → ((x : A) → f x ≡ g x) → map f xs ≡ map g xs
-map-same f g [] are = refl
-map-same f g (x ∷ xs) are = ap (λ y. y ∷ map f xs) (are x) ∙ ap (λ ys. g x ∷ ys) (map-same f g xs are)
 
 -- the way of an argument to one of its parameter's places
 abbrev argument_way : Site → ℕ → ℕ → Way
@@ -91,16 +87,3 @@ pub filled-beside : (expander : Expander) (site : Site) (pp : PpToken) (paramete
     → filled expander site (beside pp parameter occurrence) p ≡ Ok (fills (operands pp.blank_before (placed site pp parameter occurrence (argument_for site parameter))) (take_argument (argument_for site parameter) p))
 unfolding filled
 filled-beside expander site pp parameter occurrence p = refl
-
-abbrev after_expansion : Site → PpToken → ℕ → ℕ → Output → Result Filled Stop
-after_expansion site pp parameter occurrence output = Ok (fills (map token (placed site pp parameter occurrence output.tokens)) output.progress)
-
-pub filled-whole : (expander : Expander) (site : Site) (pp : PpToken) (parameter occurrence : ℕ) (p : Progress) (output : Output)
-    → expander (argument_for site parameter) p ≡ Ok output → filled expander site (whole pp parameter occurrence) p ≡ Ok (fills (map token (placed site pp parameter occurrence output.tokens)) output.progress)
-unfolding filled
-filled-whole expander site pp parameter occurrence p output is = ap (λ r. r >>= after_expansion site pp parameter occurrence) is
-
-pub filled-whole-stops : (expander : Expander) (site : Site) (pp : PpToken) (parameter occurrence : ℕ) (p : Progress) (stop : Stop)
-    → expander (argument_for site parameter) p ≡ Err stop → filled expander site (whole pp parameter occurrence) p ≡ Err stop
-unfolding filled
-filled-whole-stops expander site pp parameter occurrence p stop is = ap (λ r. r >>= after_expansion site pp parameter occurrence) is

@@ -10,7 +10,7 @@ use Rattle.dm_token.specs.declared.token.PpKind.{PpKind}
 use Rattle.dm_token.specs.declared.token.PpKind.TheVariants.{Literal}
 use Rattle.dm_token.specs.declared.token.PpToken.{PpToken}
 use Rattle.dm_token.specs.declared.expansion.Definition.{Definition}
-use Rattle.dm_macro.specs.HideSets.{HiddenNumbers}
+use Rattle.dm_expand.specs.HideSets.{HiddenNumbers}
 use Rattle.dm_macro.specs.Signs.{is_hash, is_hash_hash}
 use Rattle.dm_expand.specs.declared.machine.Level as code_level
 use Rattle.dm_expand.specs.declared.machine.Waiting as code_waiting
@@ -25,6 +25,7 @@ use Rattle.dm_expand.specs.Views.{pieces_in}
 use Rattle.dm_expand.specs.ListViews.{gives, fills, pieces_before, tokens_before, counted_if}
 use Rattle.dm_expand.specs.Works.{parts_from, argument_pieces, put_together, goes_on, completed, filled_behind, taken_up}
 use Rattle.dm_expand.specs.Needs.{with_others, IsServed, AreServed}
+use Rattle.dm_expand.proofs.ListLemmas.{map-same}
 
 -- WITHOUT AN ARGUMENT THAT NO TOKEN NAMES
 
@@ -116,10 +117,6 @@ all-served site (paste pp ∷ parts) = (tt, all-served site parts)
 then-same : {A B : Type 0} (one other : A → Result B Stop) (r : Result A Stop) → ((answer : A) → one answer ≡ other answer) → (r >>= one) ≡ (r >>= other)
 then-same one other (Ok answer) same = same answer
 then-same one other (Err stop) same = refl
-
-map-same : (f g : Item → Item) (items : List Item) → ((item : Item) → f item ≡ g item) → map f items ≡ map g items
-map-same f g [] same = refl
-map-same f g (item ∷ items) same = ap (λ (x : Item). x ∷ map f items) (same item) ∙ ap (λ (xs : List Item). g item ∷ xs) (map-same f g items same)
 
 argument_item-same : (site : Site) (others : List (List Item)) (parameter occurrence : ℕ) (item : Item) → argument_item (with_others site others) parameter occurrence item ≡ argument_item site parameter occurrence item
 unfolding argument_item

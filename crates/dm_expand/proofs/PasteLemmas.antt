@@ -15,10 +15,6 @@ stops_through first whole (Refused refusal) through stops = through (Refused ref
 stops_through first whole (Limit limit) through stops = through (Limit limit) stops
 stops_through first whole (ReadFault file) through stops = through (ReadFault file) stops
 
--- what a piece leaves
-pub left_of : Piece → List Item
-left_of piece = tokens_of (piece ∷ [])
-
 tokens_of-before : (piece : Piece) (pieces : List Piece) → tokens_of (piece ∷ pieces) ≡ tokens_of (piece ∷ []) ++ tokens_of pieces
 unfolding tokens_of
 tokens_of-before (token item) pieces = refl

@@ -7,7 +7,7 @@ use Rattle.dm_token.specs.declared.stop.Stop.{Stop}
 use Rattle.dm_token.specs.declared.place.Place.{Place}
 use Rattle.dm_token.specs.declared.expansion.Expansion.{Expansion}
 use Rattle.dm_lex.specs.Classes.{class_of}
-use Rattle.dm_macro.specs.HideSets.{HiddenNumbers}
+use Rattle.dm_expand.specs.HideSets.{HiddenNumbers}
 use Rattle.dm_expand.specs.Items.{Item}
 use Rattle.dm_expand.specs.Steps.{Progress, Output, ◌>>=◌, greatest_work, too_much, spend, begin, take_argument, taken_by}
 use Rattle.dm_macro.specs.Bodies.{Part, plain, hash, beside, whole, paste, parts_of}

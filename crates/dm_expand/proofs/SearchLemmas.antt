@@ -1,15 +1,10 @@
 -- Loops that look through a list for an item that passes a test.
-use Rattle.std.proofs.Common.{◌≡◌, ℕ, ◌+◌, ◌<◌, ◌≤◌, Bool, true, false, not, ◌&&◌, ◌||◌, List, [], ◌∷◌, ◌++◌, length, get_or, drop, refl, sym, ap, ◌∙◌, eqb}
-use Rattle.std.specs.List.{list_any}
+use Rattle.std.proofs.Common.{◌≡◌, ℕ, ◌+◌, ◌<◌, ◌≤◌, Bool, true, false, not, ◌&&◌, ◌||◌, List, [], ◌∷◌, ◌++◌, length, get_or, drop, refl, sym, ap, ◌∙◌}
 use Rattle.std.proofs.lemmas.List.{at_drop_all}
-use Rattle.std.proofs.lemmas.Bool.{cond-true, cond-false}
-use Rattle.dm_token.specs.declared.place.Place.{Place}
-use Rattle.dm_token.specs.declared.expansion.Expansion.{Expansion}
 use Rattle.dm_token.specs.declared.expansion.Mark.{Mark}
 use Rattle.dm_macro.proofs.BodyLemmas.{next_is}
 use Rattle.dm_expand.specs.Items.{Item}
-use Rattle.dm_expand.specs.Trails.{carry, come_otherwise, marks_instance, begins_with}
-use Rattle.dm_expand.specs.Predefined.{name_of}
+use Rattle.dm_expand.specs.Trails.{come_otherwise, begins_with}
 
 pub found_at : {A : Type 0} (whole : List A → Bool) (test : A → Bool) (items : List A) (i : ℕ) (item : A) → ((others : List A) → whole (item ∷ others) ≡ (test item || whole others))
     → i < length items → item ≡ get_or items i item → whole (drop i items) ≡ whole items → true ≡ test item → true ≡ whole items
@@ -24,14 +19,6 @@ passed_at whole test items i item step lt is before fails =
 pub passed_all : {A : Type 0} (whole : List A → Bool) (items : List A) (i : ℕ) → whole [] ≡ false → length items ≤ i → whole (drop i items) ≡ whole items → false ≡ whole items
 passed_all whole items i nothing past before = sym (at_drop_all whole items i past ∙ nothing) ∙ before
 
-pub carry-step : (instance : ℕ) (item : Item) (others : List Item) → carry instance (item ∷ others) ≡ (list_any (marks_instance instance) item.trail || carry instance others)
-unfolding carry
-carry-step instance item others = refl
-
-pub carry-nothing : (instance : ℕ) → carry instance [] ≡ false
-unfolding carry
-carry-nothing instance = refl
-
 not_both : (a b : Bool) → not (a && b) ≡ (not a || not b)
 not_both true b = refl
 not_both false b = refl
@@ -43,18 +30,6 @@ otherwise-step name item others = not_both (begins_with name item.trail) _
 pub otherwise-nothing : (name : List Mark) → come_otherwise name [] ≡ false
 unfolding come_otherwise
 otherwise-nothing name = refl
-
-pub name_of-found : (instance : ℕ) (made : Expansion) (others : List Expansion) (other : Place) → eqb made.instance instance ≡ true → name_of instance (made ∷ others) other ≡ made.name
-unfolding name_of
-name_of-found instance made others other is = cond-true _ _ _ is
-
-pub name_of-passed : (instance : ℕ) (made : Expansion) (others : List Expansion) (other : Place) → eqb made.instance instance ≡ false → name_of instance (made ∷ others) other ≡ name_of instance others other
-unfolding name_of
-name_of-passed instance made others other is = cond-false _ _ _ is
-
-pub name_of-nothing : (instance : ℕ) (other : Place) → name_of instance [] other ≡ other
-unfolding name_of
-name_of-nothing instance other = refl
 
 -- INVOCATIONS
 

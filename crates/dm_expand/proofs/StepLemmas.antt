@@ -1,6 +1,7 @@
 -- Work that is counted, expansions that begin, and what is known of them.
 use Rattle.std.proofs.Common.{◌≡◌, ℕ, suc, ◌+◌, ◌<◌, ◌≤◌, Bool, false, List, [], ◌∷◌, ◌++◌, refl, sym, ap, ◌∙◌, subst, arith, Result, Ok, Err}
 use Rattle.std.proofs.lemmas.Bool.{cond-true, cond-false, le-leb, lt-leb}
+use Rattle.dm_token.specs.Limits.{most_work}
 use Rattle.dm_token.specs.declared.place.Place.{Place}
 use Rattle.dm_token.specs.declared.stop.Stop.{Stop}
 use Rattle.dm_token.specs.declared.stop.Stop.TheVariants.{Memory, Refused, Limit, ReadFault}
@@ -12,15 +13,15 @@ use Rattle.std.specs.Result.{IsErrAnd, IfErr}
 use Rattle.dm_expand.specs.Views.{StopsAs}
 use Rattle.dm_expand.proofs.PasteLemmas.{stops_through}
 
-pub greatest_work-is : greatest_work ≡ 8000000
+pub greatest_work-is : greatest_work ≡ most_work
 unfolding greatest_work
 greatest_work-is = refl
 
-pub spend-fits : (place : Place) (work : ℕ) (p : Progress) → p.spent + work ≤ 8000000 → spend place work p ≡ Ok (record p { spent = p.spent + work })
+pub spend-fits : (place : Place) (work : ℕ) (p : Progress) → p.spent + work ≤ most_work → spend place work p ≡ Ok (record p { spent = p.spent + work })
 unfolding spend greatest_work
 spend-fits place work p fits = cond-true _ _ _ (le-leb _ _ fits)
 
-pub spend-over : (place : Place) (work : ℕ) (p : Progress) → 8000000 < p.spent + work → spend place work p ≡ Err (too_much place)
+pub spend-over : (place : Place) (work : ℕ) (p : Progress) → most_work < p.spent + work → spend place work p ≡ Err (too_much place)
 unfolding spend greatest_work
 spend-over place work p over = cond-false _ _ _ (lt-leb _ _ over)
 

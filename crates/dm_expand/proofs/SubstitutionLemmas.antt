@@ -4,22 +4,20 @@ use Rattle.std.specs.List.{list_any}
 use Rattle.std.proofs.lemmas.List.{at_drop_more, take_more}
 use Rattle.std.proofs.lemmas.List.Folds.{list_any-append}
 use Rattle.dm_token.specs.declared.stop.Stop.{Stop}
-use Rattle.dm_token.specs.declared.place.Place.{Place}
 use Rattle.dm_token.specs.declared.token.PpToken.{PpToken}
 use Rattle.dm_token.specs.declared.expansion.Definition.{Definition}
-use Rattle.dm_macro.specs.HideSets.{HiddenNumbers}
+use Rattle.dm_expand.specs.HideSets.{HiddenNumbers}
 use Rattle.dm_macro.specs.Signs.{is_hash, is_hash_hash}
 use Rattle.dm_expand.specs.Items.{Item}
 use Rattle.dm_expand.specs.Steps.{Progress, Output, ◌>>=◌}
 use Rattle.dm_macro.specs.Bodies.{Part, plain, hash, beside, whole, paste, part_of, other_part, parameter_part, token_part, parts_behind, parts_of, parameters_of, places_of, parameter_of, is_last, is_first, first_parameter}
 use Rattle.dm_expand.specs.Pastes.{Site, Piece, joined, pasted, tokens_of}
 use Rattle.dm_expand.specs.Substitution.{Expander, Filled, filled, filled_all, is_operator, finished}
-use Rattle.dm_expand.specs.Expansion.{Macros, expanded, token_before}
+use Rattle.dm_expand.specs.Expansion.{token_before}
 use Rattle.dm_expand.specs.Laws.{Follows, Each}
 use Rattle.dm_expand.specs.Views.{IsWithin, tokens_left}
 use Rattle.dm_expand.specs.ListViews.{gives, fills, pieces_before, tokens_before, counted_if}
 use Rattle.dm_expand.specs.Works.{put_together}
-use Rattle.dm_expand.proofs.ProgressLemmas.{IsSafe, counts-follows, expanded-follows}
 
 -- PROGRESS
 
@@ -28,12 +26,6 @@ within_on p q within follows = record { spent = follows.within; instance = omega
 
 pub each-ok : {A : Type 0} (P : A → Type 0) (r : Result A Stop) (answer : A) → r ≡ Ok answer → Each P r → P answer
 each-ok P r answer is each = subst (Each P) is each
-
-expanded-safe : (macros : Macros) → IsSafe 0 (expanded macros)
-expanded-safe macros tokens p above within = expanded-follows macros tokens p within
-
-pub counted-ok : (counts : Bool) (place : Place) (work : ℕ) (p q : Progress) → IsWithin p → counted_if counts place work p ≡ Ok q → Follows p q
-counted-ok counts place work p q within is = each-ok (Follows p) _ q is (counts-follows counts place work p within.spent)
 
 -- PARTS
 
@@ -114,11 +106,6 @@ filled_all-part expander site counts part parts p first q is counted =
     ∙ ap (λ r. r >>= after_count expander site counts parts first) counted
     ∙ joined_to-is first (filled_all expander site counts parts q)
 
-pub filled_all-part-stops : (expander : Expander) (site : Site) (counts : Bool) (part : Part) (parts : List Part) (p : Progress) (stop : Stop)
-    → filled expander site part p ≡ Err stop → filled_all expander site counts (part ∷ parts) p ≡ Err stop
-unfolding filled_all
-filled_all-part-stops expander site counts part parts p stop is = ap (λ r. r >>= after_first expander site counts parts) is
-
 pub filled_all-count-stops : (expander : Expander) (site : Site) (counts : Bool) (part : Part) (parts : List Part) (p : Progress) (first : Filled) (stop : Stop)
     → filled expander site part p ≡ Ok first → counted_if counts site.name.pp.place (length first.pieces) first.progress ≡ Err stop
     → filled_all expander site counts (part ∷ parts) p ≡ Err stop
@@ -129,10 +116,6 @@ filled_all-count-stops expander site counts part parts p first stop is counted =
 pub parts-end : (names : List (List ℕ)) (before : List PpToken) → parts_behind names before [] ≡ []
 unfolding parts_behind
 parts-end names before = refl
-
-pub filled_all-end : (expander : Expander) (site : Site) (counts : Bool) (names : List (List ℕ)) (before : List PpToken) (p : Progress) → filled_all expander site counts (parts_behind names before []) p ≡ Ok (fills [] p)
-unfolding filled_all parts_behind
-filled_all-end expander site counts names before p = refl
 
 pub filled_all-nothing : (expander : Expander) (site : Site) (counts : Bool) (p : Progress) → filled_all expander site counts [] p ≡ Ok (fills [] p)
 unfolding filled_all

@@ -1,6 +1,6 @@
 -- Trails: what they have in common, and walks from their innermost marks.
-use Rattle.std.proofs.Common.{inl, inr, ◌≡◌, ℕ, ◌+◌, ◌-◌, ◌<◌, ◌≤◌, Bool, true, false, cond, List, [], ◌∷◌, ◌++◌, length, take, drop, refl, sym, ap, ◌∙◌, subst, arith, IsTrue, append_assoc, length-append, reverse, eqb, ◌↔◌}
-use Rattle.std.proofs.lemmas.List.{reverse-append, take_at, drop_at}
+use Rattle.std.proofs.Common.{inl, inr, ◌≡◌, ◌+◌, ◌-◌, ◌<◌, ◌≤◌, Bool, true, false, cond, List, [], ◌∷◌, ◌++◌, length, take, drop, refl, sym, ap, ◌∙◌, subst, arith, IsTrue, append_assoc, length-append, eqb, ◌↔◌}
+use Rattle.std.proofs.lemmas.List.{take_at, drop_at}
 use Rattle.std.proofs.lemmas.Bool.{cases_Bool, and_parts, and_from, eqb-true, eq-eqb, cond-true, cond-false, false≢true}
 use Rattle.dm_token.specs.declared.expansion.Mark.{Mark}
 use Rattle.dm_token.specs.declared.expansion.Mark.TheVariants.{Expansion, Argument}
@@ -57,9 +57,6 @@ past-common name trail common is =
     ∙ sym (drop_at common is.1.0 (length common) refl)
     ∙ ap (λ x. drop (length common) x) (sym theirs)
 
-pub common-length : (name trail common : List Mark) → IsLongestCommonPrefix name trail common → length common ≤ length trail
-common-length name trail common is = omega (arith, ap length is.1.1, length-append common is.1.0)
-
 begins-prefix : (name trail : List Mark) → begins_with name trail ≡ true → IsPrefix name trail
 unfolding begins_with
 begins-prefix [] trail is = (trail, refl)
@@ -101,16 +98,6 @@ begins-is name trail b means =
 -- A walk from the innermost mark on: some marks are passed, and these are left.
 abbrev pub IsWalk : List Mark → List Mark → List Mark → Type 0
 IsWalk whole left passed = whole ≡ left ++ passed
-
-pub walk_on : (whole left outer passed : List Mark) (mark : Mark) → IsWalk whole left passed → left ≡ outer ++ mark ∷ [] → IsWalk whole outer (mark ∷ passed)
-walk_on whole left outer passed mark walk is = walk ∙ ap (λ x. x ++ passed) is ∙ append_assoc outer (mark ∷ []) passed
-
--- the last of two lists with one more at their ends
-pub last-is : (xs ys : List Mark) (x y : Mark) → xs ++ x ∷ [] ≡ ys ++ y ∷ [] → x ≡ y
-last-is xs ys x y same = heads (reverse xs) (reverse ys) x y (sym (reverse-append xs (x ∷ [])) ∙ ap reverse same ∙ reverse-append ys (y ∷ []))
-  where
-    heads : (us vs : List Mark) (a b : Mark) → a ∷ us ≡ b ∷ vs → a ≡ b
-    heads us vs a b e = cc
 
 -- WAYS
 
@@ -159,20 +146,8 @@ led_front name base last became trail known is alike longer =
     ∙ append_assoc base kept theirs
     ∙ ap (λ x. base ++ x) (sym shares.2 ∙ ap (past name) (sym alike.1.1))
 
--- the other trail is no shorter than what both begin with
-pub common-left : (last trail known : List Mark) → IsLongestCommonPrefix last trail known → length known ≤ length last
-common-left last trail known is = omega (arith, ap length is.0.1, length-append known is.0.0)
-
--- what became of a trail is no shorter than the base
-pub base-shorter : (name base last became : List Mark) → became ≡ base ++ past name last → length base ≤ length became
-base-shorter name base last became is = omega (arith, ap length is, length-append base (past name last))
-
 -- nothing is left of no marks
 pub past-nothing : (name : List Mark) → past name [] ≡ []
 unfolding past
 past-nothing [] = refl
 past-nothing (mark ∷ name) = refl
-
--- the front of a walk
-pub front-is : (whole left passed : List Mark) (count : ℕ) → IsWalk whole left passed → count ≤ length left → length left ≤ count → left ≡ take count whole
-front-is whole left passed count walk most least = sym (ap (take count) walk ∙ take_at left passed count (omega (arith, most, least)))

@@ -8,7 +8,7 @@ use Rattle.dm_token.specs.declared.stop.Stop.{Stop}
 use Rattle.dm_token.specs.declared.token.PpToken.{PpToken}
 use Rattle.dm_token.specs.declared.token.Token.{Token}
 use Rattle.dm_token.specs.declared.expansion.Definition.{Definition}
-use Rattle.dm_macro.specs.HideSets.{HiddenNumbers}
+use Rattle.dm_expand.specs.HideSets.{HiddenNumbers}
 use Rattle.dm_macro.specs.Signs.{is_hash_hash}
 use Rattle.dm_expand.specs.declared.head.Invocation as code_invocation
 use Rattle.dm_expand.specs.declared.machine.Level as code_level
@@ -52,10 +52,6 @@ filled_all-whole macros site counts pp parameter occurrence parts p = by_result 
     by_result (Err stop) = refl
 
 -- LISTS
-
-pub not_some : {A : Type 0} (o : Option A) → is_some o ≡ false → o ≡ None
-not_some None is = refl
-not_some (Some a) is = cc
 
 pub outward-nothing : (macros : Macros) (inner : Result Output Stop) → outward macros [] inner ≡ inner
 unfolding outward
@@ -189,9 +185,14 @@ passed-put macros level after (Some invocation) p more out rest =
     ∙ ap (λ (xs : List Item). tokens_before more (tokens_before after.out.items (made xs))) (sym rest)
 
 -- tokens that are put out after others
+pub put_behind : (before mid after : List Token) (more behind : List Item) → mid ≡ before ++ map token_of more → after ≡ mid ++ map token_of behind → after ≡ before ++ map token_of (more ++ behind)
+put_behind before mid after more behind first second =
+    second ∙ ap (λ (xs : List Token). xs ++ map token_of behind) first ∙ append_assoc before (map token_of more) (map token_of behind) ∙ ap (λ (xs : List Token). before ++ xs) (sym (map-append token_of more behind))
+
+-- the same, where of an inner list none are put out
 pub put-more : (outermost : Bool) (before mid after : List Token) (more behind : List Item) → ArePut outermost before more mid → ArePut outermost mid behind after → ArePut outermost before (more ++ behind) after
 put-more outermost before mid after more behind first second = (
-  second.0 ∙ ap (λ (xs : List Token). xs ++ map token_of behind) first.0 ∙ append_assoc before (map token_of more) (map token_of behind) ∙ ap (λ (xs : List Token). before ++ xs) (sym (map-append token_of more behind)),
+  put_behind before mid after more behind first.0 second.0,
   λ inner. ap (λ (xs : List Item). xs ++ behind) (first.1 inner) ∙ second.1 inner,
 )
 

@@ -1,7 +1,8 @@
 -- The arguments of an invocation of a function-like macro (6.10.3p4, p10 to p12).
 use Rattle.std.specs.Prelude.{ℕ, zero, suc, Bool, ◌-◌, ◌&&◌, ◌==◌, nat_lt, List, [], ◌∷◌, ◌++◌, length, Option, Some, None, if◌then◌else◌}
 use Rattle.dm_token.specs.declared.expansion.Definition.{Definition}
-use Rattle.dm_macro.specs.Signs.{is_punctuator, left_parenthesis, right_parenthesis, comma}
+use Rattle.dm_spell.specs.Punctuators.{left_parenthesis, right_parenthesis, comma}
+use Rattle.dm_macro.specs.Signs.{is_punctuator}
 use Rattle.dm_macro.specs.Bodies.{named_parameters}
 use Rattle.dm_expand.specs.Items.{Item}
 

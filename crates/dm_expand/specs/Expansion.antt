@@ -1,5 +1,6 @@
 -- The expansion of a list of tokens (6.10.3.4).
 use Rattle.std.specs.Prelude.{ℕ, zero, suc, Bool, false, ◌-◌, List, [], ◌∷◌, ◌++◌, map, Option, Some, None, Result, Ok, Err, slice_get, option_and_then, if◌then◌else◌}
+use Rattle.dm_token.specs.Refusals as refusals
 use Rattle.dm_token.specs.declared.place.Place.{Place}
 use Rattle.dm_token.specs.declared.token.PpToken.{PpToken}
 use Rattle.dm_token.specs.declared.token.Token.{Token}
@@ -9,7 +10,7 @@ use Rattle.dm_token.specs.declared.expansion.Definition.{Definition}
 use Rattle.dm_token.specs.declared.expansion.Expansion as made_of
 use Rattle.dm_token.specs.declared.expansion.Mark.TheVariants.{Expansion}
 use Rattle.std.specs.FinSet as set
-use Rattle.dm_macro.specs.HideSets.{HiddenNumbers}
+use Rattle.dm_expand.specs.HideSets.{HiddenNumbers}
 use Rattle.dm_macro.specs.Signs.{is_identifier}
 use Rattle.dm_macro.specs.Forms.{refused}
 use Rattle.dm_macro.specs.Tables.{Table, number_of}
@@ -126,7 +127,7 @@ replaced expander invocation progress = do
 
 -- the refusal of an invocation whose arguments don't fit, at its name
 unfoldable pub no_arguments : Place → Stop
-no_arguments place = refused 9 place
+no_arguments place = refused refusals.arguments place
 
 -- what the case at the head gives, where `others` is the expansion of what follows a token that is put out
 unfoldable pub by_case : Expander → Item → Progress → Result Output Stop → Head → Result Output Stop

@@ -1,6 +1,6 @@
 -- What the code's values at the head of a list mean.
 use Rattle.std.specs.Prelude.{◌≡◌, Bool, List}
-use Rattle.dm_macro.specs.HideSets.{HiddenNumbers}
+use Rattle.dm_expand.specs.HideSets.{HiddenNumbers}
 use Rattle.dm_expand.specs.declared.head.Macros as code_macros
 use Rattle.dm_expand.specs.declared.head.Macro as code_macro
 use Rattle.dm_expand.specs.declared.head.Head as code_head

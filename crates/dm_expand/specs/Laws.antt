@@ -1,5 +1,7 @@
 -- What holds of every expansion: how far its progress comes, and which stops it has.
 use Rattle.std.specs.Prelude.{◌≡◌, ℕ, suc, false, ◌+◌, ◌≤◌, ◌⊎◌, List, [], ◌∷◌, None, Result, Ok, Err}
+use Rattle.dm_token.specs.LimitNumbers as limits
+use Rattle.dm_token.specs.Refusals as refusals
 use Rattle.dm_token.specs.declared.stop.Stop.{Stop}
 use Rattle.dm_token.specs.declared.stop.Stop.TheVariants.{Memory, Refused, Limit, ReadFault}
 use Rattle.dm_token.specs.declared.expansion.Expansion.{Expansion}
@@ -24,8 +26,8 @@ pub record Follows (before after : Progress) : Type 0 where
 -- a stop of an expansion: refusal 9 or 10, or limit 3
 abbrev pub IsStop : Stop → Type 0
 IsStop Memory = ⊥
-IsStop (Refused refusal) = (refusal.number ≡ 9) ⊎ (refusal.number ≡ 10)
-IsStop (Limit limit) = limit.number ≡ 3
+IsStop (Refused refusal) = (refusal.number ≡ refusals.arguments) ⊎ (refusal.number ≡ refusals.paste)
+IsStop (Limit limit) = limit.number ≡ limits.work
 IsStop (ReadFault file) = ⊥
 
 -- what is answered has a property, or it is such a stop

@@ -1,3 +1,4 @@
+pub mod HideSets
 pub mod Hides
 pub mod Items
 pub mod Trails

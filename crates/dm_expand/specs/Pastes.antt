@@ -1,11 +1,12 @@
 -- The operator `##` (6.10.3.3), on what the other rules have left in a replacement list.
 use Rattle.std.specs.Prelude.{ℕ, Bool, false, List, [], ◌∷◌, ◌++◌, Option, Some, None, Result, Ok, Err}
 use Rattle.dm_lex.specs.Classes.{class_of}
+use Rattle.dm_token.specs.Refusals as refusals
 use Rattle.dm_token.specs.declared.token.PpKind.{PpKind}
 use Rattle.dm_token.specs.declared.stop.Stop.{Stop}
 use Rattle.dm_token.specs.declared.expansion.Mark.{Mark}
 use Rattle.std.specs.FinSet as set
-use Rattle.dm_macro.specs.HideSets.{HiddenNumbers}
+use Rattle.dm_expand.specs.HideSets.{HiddenNumbers}
 use Rattle.dm_macro.specs.Forms.{refused}
 use Rattle.dm_expand.specs.Items.{Item}
 use Rattle.dm_expand.specs.Trails.{body_trail}
@@ -35,7 +36,7 @@ made site kind spelling blank hidden =
 
 -- the refusal of two tokens that don't make one, at the name of the expansion
 unfoldable pub no_token : Site → Stop
-no_token site = refused 10 site.name.pp.place
+no_token site = refused refusals.paste site.name.pp.place
 
 -- two tokens joined to one of some kind: hidden for it is what is hidden for both
 unfoldable pub joined_as : Site → Item → Item → Option PpKind → Result Piece Stop

@@ -1,5 +1,7 @@
 -- What an expansion of a list has done so far, and its stops.
 use Rattle.std.specs.Prelude.{ℕ, suc, Bool, false, ◌+◌, ◌||◌, nat_le, List, [], ◌∷◌, ◌++◌, map, Result, Ok, Err, if◌then◌else◌}
+use Rattle.dm_token.specs.LimitNumbers as limits
+use Rattle.dm_token.specs.Limits.{most_work}
 use Rattle.dm_token.specs.declared.place.Place.{Place}
 use Rattle.dm_token.specs.declared.stop.Stop.{Stop}
 use Rattle.dm_token.specs.declared.stop.Stop.TheVariants.{Limit}
@@ -30,11 +32,11 @@ Err stop >>= next = Err stop
 
 -- the most work that a unit may take
 unfoldable pub greatest_work : ℕ
-greatest_work = 8000000
+greatest_work = most_work
 
 -- the limit of the work, passed for a name at this place
 unfoldable pub too_much : Place → Stop
-too_much place = Limit (record { number = 3; file = place.file })
+too_much place = Limit (record { number = limits.work; file = place.file })
 
 -- So much more work for a name at this place. As soon as it is more than the greatest, it stops.
 unfoldable pub spend : Place → ℕ → Progress → Result Progress Stop

@@ -6,7 +6,7 @@ use Rattle.dm_token.specs.declared.token.PpToken.{PpToken}
 use Rattle.dm_token.specs.declared.stop.Stop.{Stop}
 use Rattle.dm_token.specs.declared.expansion.Mark.TheVariants.{Argument}
 use Rattle.std.specs.FinSet as set
-use Rattle.dm_macro.specs.HideSets.{HiddenNumbers}
+use Rattle.dm_expand.specs.HideSets.{HiddenNumbers}
 use Rattle.dm_expand.specs.Items.{Item, first_with_blank}
 use Rattle.dm_expand.specs.Trails.{body_trail, argument_trail}
 use Rattle.dm_expand.specs.Steps.{Progress, Output, ◌>>=◌, spend, take_argument}

@@ -5,7 +5,7 @@ use Rattle.dm_token.specs.declared.token.PpToken.{PpToken}
 use Rattle.dm_token.specs.declared.token.Token.{Token}
 use Rattle.dm_token.specs.declared.stop.Stop.{Stop}
 use Rattle.dm_token.specs.declared.expansion.Definition.{Definition}
-use Rattle.dm_macro.specs.HideSets.{HiddenNumbers}
+use Rattle.dm_expand.specs.HideSets.{HiddenNumbers}
 use Rattle.dm_macro.specs.Signs.{is_hash_hash}
 use Rattle.dm_macro.specs.declared.role.Role.{Role}
 use Rattle.dm_macro.specs.declared.role.Role.TheVariants.{Whole as marked_whole}

@@ -1,11 +1,9 @@
 ghost use Rattle.std.specs.Prelude.{◌≡◌, false, ◌==◌, ◌&&◌, nat_lt, ◌≤◌, ◌<◌, ◌+◌, ◌^◌, [], ◌∷◌, length, IfOk, MatchOption, option_map};
-ghost use Rattle.dm_macro.specs.Bodies.{named_parameters};
-ghost use Rattle.dm_macro.specs.Signs as sign;
 ghost use Rattle.dm_expand.specs.Arguments as arguments;
 ghost use Rattle.dm_expand.specs.Views.{enclosed_value, is_one_empty};
 
 use crate::item::Item;
-use crate::sign::{is_comma, is_left_parenthesis, is_right_parenthesis};
+use dm_macro::{is_comma, is_left_parenthesis, is_right_parenthesis, named_count};
 use dm_token::{Definition, List, Memory};
 use std::alloc::Global;
 use std::collections::VecDeque;
@@ -132,17 +130,6 @@ fn separated(alloc: Global, commas: usize, inside: List<Item>) -> Result<List<Li
     }
     given.push(List::from_vec(current))?;
     Ok(given)
-}
-
-/// How many parameters have names of their own.
-#[tactic(auto, unfolding(dm_macro::specs::Bodies::named_parameters))]
-pub fn named_count(definition: &Definition) -> usize
-    ensures { result ≡ length (named_parameters definition.now.parameters) }
-{
-    match &definition.parameters {
-        None => 0,
-        Some(names) => names.len(),
-    }
 }
 
 /// The arguments that an invocation gives, or `None` where their number is wrong (6.10.3p4).

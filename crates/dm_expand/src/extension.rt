@@ -27,7 +27,7 @@ impl Model for Extension {
     ghost use Rattle.std.specs.Prelude.{◌≡◌};
     ghost use Rattle.std.specs.Coded.{coded_ℕ};
     ghost use Rattle.std.specs.FinSet as set;
-    ghost use Rattle.dm_macro.specs.HideSets.{HiddenNumbers};
+    ghost use Rattle.dm_expand.specs.HideSets.{HiddenNumbers};
 
     ghost Value = { HiddenNumbers };
 

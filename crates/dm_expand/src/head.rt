@@ -1,6 +1,5 @@
 ghost use Rattle.std.specs.Prelude.{◌≡◌, ◌≤◌, [], ◌∷◌, ◌++◌, List, None, IfOk, OnOk, IsTrue, length, option_map};
 ghost use Rattle.std.specs.FinSet as set;
-ghost use Rattle.dm_macro.specs.Signs as sign;
 ghost use Rattle.dm_expand.specs.Items.{Item as Token};
 ghost use Rattle.dm_expand.specs.Arguments as arguments;
 ghost use Rattle.dm_expand.specs.Expansion as expansion;
@@ -14,9 +13,8 @@ use crate::hidden::Hidden;
 use crate::item::Item;
 use crate::predefined::{may_be_predefined, replaced};
 use crate::progress::Progress;
-use crate::sign::{is_identifier, is_left_parenthesis};
 use crate::trails::{begins_with, come_otherwise};
-use dm_macro::{Body, MacroTable};
+use dm_macro::{Body, MacroTable, is_identifier, is_left_parenthesis};
 use dm_token::{List, Memory, PpToken, Text};
 use std::alloc::Global;
 use std::collections::VecDeque;

@@ -19,7 +19,7 @@ pub struct Hidden {
 impl Model for Hidden {
     ghost use Rattle.std.specs.Coded.{coded_ℕ};
     ghost use Rattle.std.specs.FinSet as set;
-    ghost use Rattle.dm_macro.specs.HideSets.{HiddenNumbers};
+    ghost use Rattle.dm_expand.specs.HideSets.{HiddenNumbers};
     ghost use Rattle.dm_expand.specs.Hides.{numbers_of};
 
     ghost Value = { HiddenNumbers };
@@ -172,7 +172,7 @@ impl Model for Hiding {
     ghost use Rattle.std.specs.Prelude.{◌≡◌};
     ghost use Rattle.std.specs.Coded.{coded_ℕ};
     ghost use Rattle.std.specs.FinSet as set;
-    ghost use Rattle.dm_macro.specs.HideSets.{HiddenNumbers};
+    ghost use Rattle.dm_expand.specs.HideSets.{HiddenNumbers};
 
     ghost Value = { HiddenNumbers };
 

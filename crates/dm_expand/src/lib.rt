@@ -3,6 +3,7 @@
 #![tactic(auto)]
 
 ghost use Rattle.std.specs.Prelude.{◌≡◌, ◌≤◌, ◌+◌, Ok, IfOk, IfErr, length, map};
+ghost use Rattle.dm_token.specs.Limits.{most_work};
 ghost use Rattle.dm_expand.specs.Items.{of_source};
 ghost use Rattle.dm_expand.specs.Expansion.{expansion_of};
 ghost use Rattle.dm_expand.specs.Views.{StopsAs};
@@ -20,7 +21,6 @@ mod needs;
 mod paste;
 mod predefined;
 mod progress;
-mod sign;
 mod string;
 mod substitute;
 mod trails;
@@ -63,11 +63,11 @@ pub fn expand(
     work: &mut Work,
 ) -> Result<Expanded, Stop>
     requires numbered { first_instance ≤ work.old.spent }
-    requires counted { work.old.spent ≤ 8000000 }
+    requires counted { work.old.spent ≤ most_work }
     ensures expanded { IfOk result (λ expanded.
         expansion_of (looked_up table.now names.now) group.now first_instance work.old.spent ≡ Ok (answer expanded.tokens expanded.expansions work.new.spent)) }
     ensures counted { IfOk result (λ expanded. length expanded.expansions + work.old.spent ≤ work.new.spent) }
-    ensures within { IfOk result (λ expanded. work.new.spent ≤ 8000000) }
+    ensures within { IfOk result (λ expanded. work.new.spent ≤ most_work) }
     ensures numbered { IfOk result (λ expanded. AreNumberedFrom first_instance expanded.expansions) }
     ensures stop { IfErr result (λ stop. StopsAs (expansion_of (looked_up table.now names.now) group.now first_instance work.old.spent) stop) }
 {

@@ -26,7 +26,7 @@ use crate::progress::Progress;
 use crate::substitute::{Whole, complete, fill_from, fill_whole};
 use crate::trails::grown;
 use dm_macro::Body;
-use dm_token::{List, Mark, Memory, Place, Refusal, Stop, Token};
+use dm_token::{List, Mark, Memory, Place, Refusal, Stop, Token, refusals};
 use std::alloc::Global;
 use std::collections::VecDeque;
 use std::mem;
@@ -108,7 +108,7 @@ fn no_arguments(place: Place) -> Stop
     ensures { result ≡ expansion.no_arguments place }
 {
     Stop::Refused(Refusal {
-        number: 9,
+        number: refusals::ARGUMENTS,
         detail: 0,
         place,
     })

@@ -6,7 +6,7 @@ use crate::arguments::next_of;
 use crate::hidden::Hidden;
 use crate::item::Item;
 use dm_lex::one_token;
-use dm_token::{List, Mark, Memory, PpKind, PpToken, Refusal, Stop, Text, Trail};
+use dm_token::{List, Mark, Memory, PpKind, PpToken, Refusal, Stop, Text, Trail, refusals};
 use std::alloc::Global;
 use std::collections::VecDeque;
 use std::marker::Model;
@@ -162,7 +162,7 @@ fn no_token(site: &Site) -> Stop
 {
     let name = &site.name;
     Stop::Refused(Refusal {
-        number: 10,
+        number: refusals::PASTE,
         detail: 0,
         place: name.pp.place,
     })

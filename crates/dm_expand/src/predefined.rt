@@ -4,8 +4,8 @@ ghost use Rattle.dm_expand.specs.Predefined as predefined;
 
 use crate::item::Item;
 use crate::progress::Progress;
-use crate::sign::is_word;
 use crate::trails::first_mark;
+use dm_macro::is_word;
 use dm_token::{Mark, Memory, Place, PpKind, PpToken, Text};
 use std::alloc::Global;
 

@@ -1,16 +1,14 @@
 ghost use Rattle.std.specs.Prelude.{◌≡◌, [], ◌∷◌, ◌≤◌, ◌<◌, Ok, Err, map, OnOk, IfErr};
+ghost use Rattle.dm_token.specs.Limits.{most_work};
 ghost use Rattle.dm_expand.specs.Steps as steps;
 ghost use Rattle.dm_expand.specs.Predefined.{name_of as place_of_name};
 ghost use Rattle.dm_expand.specs.Views.{StopsAs, IsWithin, AreNumberedSo, taken_along};
 
 use crate::item::Item;
 use crate::trails::innermost;
-use dm_token::{Expansion, Limit, Mark, Place, Stop, Trail};
+use dm_token::{Expansion, Limit, MOST_WORK, Mark, Place, Stop, Trail, limit_numbers};
 use std::alloc::Global;
 use std::marker::Model;
-
-/// The most work that a unit may take: its expansions and the tokens that they put out, with what was counted before.
-pub const GREATEST_WORK: u32 = 8_000_000;
 
 /// What an expansion of a list has done so far. Contracts see the next expansion's number, the count of work, and the
 /// expansions in the order in which they were made.
@@ -60,11 +58,11 @@ impl Progress {
 
     /// Counts work for a name at this place. As soon as it is more than the greatest, it stops.
     pub fn spend(&mut self, place: Place, work: usize) -> Result<(), Stop>
-        requires { self.old.spent ≤ GREATEST_WORK }
+        requires { self.old.spent ≤ most_work }
         ensures ok { OnOk result (steps.spend place work self.old ≡ Ok self.new) }
         ensures stop { IfErr result (λ stop. steps.spend place work self.old ≡ Err stop) }
     {
-        let left = GREATEST_WORK - self.spent;
+        let left = MOST_WORK - self.spent;
         if work > left as usize {
             return Err(too_much(place));
         }
@@ -123,7 +121,7 @@ fn too_much(place: Place) -> Stop
     ensures { result ≡ steps.too_much place }
 {
     Stop::Limit(Limit {
-        number: 3,
+        number: limit_numbers::WORK,
         file: place.file,
     })
 }

@@ -1,6 +1,5 @@
 -- What is kept of replacement lists.
-use Rattle.std.proofs.Common.{◌≡◌, ℕ, zero, suc, ◌+◌, ◌-◌, ◌<◌, Bool, true, false, cond, List, [], ◌∷◌, ◌++◌, length, length-append, take, drop, get_or, set, eqb, Option, Some, None, refl, sym, ap, ◌∙◌, subst, arith, ⊎_elim}
-use Rattle.std.proofs.lemmas.Bool.{eqb-false, eqb-true}
+use Rattle.std.proofs.Common.{◌≡◌, ℕ, zero, suc, ◌+◌, ◌-◌, ◌<◌, cond, List, [], ◌∷◌, ◌++◌, length, length-append, take, get_or, set, Option, Some, None, refl, sym, ap, ◌∙◌, subst, arith, ⊎_elim}
 use Rattle.std.proofs.lemmas.Bool.Decides.{eqb_tells}
 use Rattle.std.proofs.lemmas.List.{get_or-set_same, get_or-set_other, get_or-append-add, get_or_append_left, take_more}
 use Rattle.std.proofs.lemmas.List.Sums.{sum_by-append, sum_by-cons}
@@ -9,7 +8,7 @@ use Rattle.dm_token.specs.declared.expansion.Definition.{Definition}
 use Rattle.dm_macro.specs.declared.role.Role.{Role}
 use Rattle.dm_macro.specs.declared.role.Roles as code_roles
 use Rattle.dm_macro.specs.Bodies.{is_at, parameter_of, places_of}
-use Rattle.dm_macro.specs.Roles.{IsRoleAt, AreRolesOf, AreRoles, AreAllRoles, AreCounts}
+use Rattle.dm_macro.specs.Roles.{IsRoleAt, AreRolesOf, AreRoles, AreAllRoles}
 
 -- PLACES OF A PARAMETER
 

@@ -1,5 +1,5 @@
 -- Where the characters of a text stand in the file.
-use Rattle.std.proofs.Common.{◌≡◌, ℕ, zero, suc, ◌+◌, ◌<◌, ◌≤◌, max, List, [], ◌∷◌, ◌++◌, length, get_or, arith}
+use Rattle.std.proofs.Common.{◌≡◌, ℕ, ◌+◌, ◌≤◌, max, List, [], ◌∷◌, ◌++◌, length, arith}
 use Rattle.dm_token.specs.Places.{newline}
 use Rattle.dm_phase.specs.declared.Character.{Character}
 
@@ -28,14 +28,6 @@ pub InOrder-behind : (first end : ℕ) (front text : List Character) → InOrder
 InOrder-behind first end [] text order = order
 InOrder-behind first end (c ∷ front) text order =
     InOrder-weaker first (c.at + max 1 c.width) end text (omega arith) (InOrder-behind (c.at + max 1 c.width) end front text order.2)
-
--- Each character begins at the first offset or behind it, and ends by the end.
-pub InOrder-at : (first end : ℕ) (text : List Character) (i : ℕ) (d : Character) → InOrder first end text → i < length text → (first ≤ (get_or text i d).at) × ((get_or text i d).at + (get_or text i d).width ≤ end)
-InOrder-at first end [] i d order h = absurd (omega arith)
-InOrder-at first end (c ∷ text) zero d order h = (order.0, order.1)
-InOrder-at first end (c ∷ text) (suc i) d order h =
-    let there : (c.at + max 1 c.width ≤ (get_or text i d).at) × ((get_or text i d).at + (get_or text i d).width ≤ end) = InOrder-at (c.at + max 1 c.width) end text i d order.2 (omega arith) in
-    (omega arith, there.1)
 
 -- So many characters fit.
 pub length-in_order : (first end : ℕ) (text : List Character) → InOrder first end text → length text + first ≤ max first (end + 1)

@@ -1,4 +1,5 @@
 use Rattle.std.proofs.Common.{◌+◌, ◌≤◌, ap, ◌∙◌, sym, subst, List, Ok, length}
+use Rattle.dm_token.specs.Limits.{most_work}
 use Rattle.dm_token.specs.declared.expansion.Expansion.{Expansion}
 use Rattle.dm_token.specs.declared.token.Token.{Token}
 use Rattle.dm_expand.specs.Steps.{Progress}
@@ -43,7 +44,7 @@ returns-clause-counted c =
 
 pub returns-clause-within : goal.returns-clause-within
 returns-clause-within c =
-    subst (λ (q : Progress). q.spent ≤ 8000000) (sym c.progress.view_is)
+    subst (λ (q : Progress). q.spent ≤ most_work) (sym c.progress.view_is)
     (answer-within c.args.first_instance c.args.work.now.spent c.expand_list.new.progress
     (subst (λ (p : Progress). Follows p c.expand_list.new.progress) c.new-progress.ensures c.in_ok-tokens.ensures.follows))
 

@@ -1,26 +1,21 @@
-use Rattle.std.proofs.Common.{◌≡◌, ◌++◌, ◌==◌, ◌∷◌, [], ℕ, Bool, false, List, Option, None, Result, Ok, ap, ◌∙◌, sym, map, length, vec_len, arith, rules, append_assoc}
-use Rattle.std.proofs.lemmas.List.{append-nil, map-append}
+use Rattle.std.proofs.Common.{◌≡◌, ◌++◌, ◌==◌, ◌∷◌, [], ℕ, Bool, false, List, Option, None, Result, Ok, ap, ◌∙◌, sym, length, vec_len, arith, rules}
+use Rattle.std.proofs.lemmas.List.{append-nil}
 use Rattle.dm_token.specs.declared.stop.Stop.{Stop}
-use Rattle.dm_token.specs.declared.token.Token.{Token}
 use Rattle.dm_expand.specs.declared.head.Invocation as code_invocation
 use Rattle.dm_expand.specs.declared.machine.Level as code_level
 use Rattle.dm_expand.specs.declared.machine.Waiting as code_waiting
 use Rattle.dm_expand.specs.Items.{Item}
 use Rattle.dm_expand.specs.Steps.{Progress, Output}
-use Rattle.dm_expand.specs.Expansion.{Macros, token_of}
+use Rattle.dm_expand.specs.Expansion.{Macros}
 use Rattle.dm_expand.specs.HeadViews.{macros_of}
 use Rattle.dm_expand.specs.ListViews.{gives, tokens_before}
 use Rattle.dm_expand.specs.Works.{outward, load, scanned_on, found_on, taken_up}
+use Rattle.dm_macro.proofs.MapLemmas.{not_some}
 use Rattle.dm_expand.proofs.ProgressLemmas.{follows_on}
 use Rattle.dm_expand.proofs.StepLemmas.{stops_handed_as}
 use Rattle.dm_expand.proofs.SubstitutionLemmas.{tokens_before-append, within_on}
-use Rattle.dm_expand.proofs.WorkLemmas.{not_some, outward-push, outward-put, outward-stops, load-push}
+use Rattle.dm_expand.proofs.WorkLemmas.{put_behind, outward-push, outward-put, outward-stops, load-push}
 use Rattle.dm_expand.proofs.machine.advance.Goals as goal
-
--- tokens that are put out after others
-put_behind : (before mid after : List Token) (more behind : List Item) → mid ≡ before ++ map token_of more → after ≡ mid ++ map token_of behind → after ≡ before ++ map token_of (more ++ behind)
-put_behind before mid after more behind first second =
-    second ∙ ap (λ (xs : List Token). xs ++ map token_of behind) first ∙ append_assoc before (map token_of more) (map token_of behind) ∙ ap (λ (xs : List Token). before ++ xs) (sym (map-append token_of more behind))
 
 -- what was put out of a list up to the next macro
 scanned_to : (macros : Macros) (waiting : List code_waiting.Waiting) (level after : code_level.Level) (found : Option code_invocation.Invocation) (p : Progress) (whole : Result Output Stop) (before more : List Item)

@@ -1,4 +1,4 @@
-use Rattle.std.proofs.Common.{◌≡◌, ◌+◌, ◌++◌, [], ◌∷◌, ℕ, List, take, length, sym, ap, ◌∙◌, subst, is_some, Option, Some, None, false, refl, arith}
+use Rattle.std.proofs.Common.{◌≡◌, ◌+◌, ◌++◌, [], ◌∷◌, ℕ, List, take, length, sym, ap, ◌∙◌, subst, is_some, arith}
 use Rattle.std.specs.FinMap as map
 use Rattle.std.proofs.lemmas.List.{take_more, length-take-le}
 use Rattle.dm_macro.specs.Numbers.{Numbers}
