@@ -1,0 +1,11 @@
+mod PlainLemmas
+mod ComputedLemmas
+mod SettleLemmas
+mod KeptLemmas
+mod ComputedKeptLemmas
+mod AsideLemmas
+mod EffectLemmas
+mod ClosedLemmas
+mod ClosedRunLemmas
+mod ShrinkEffectLemmas
+mod CountExample

@@ -1,0 +1,61 @@
+//! Small programs in the midst of an expression, which meet the premises of the laws; each is proved by computing.
+
+ghost use Rattle.std.specs.Prelude.{◌≡◌, List, [], ◌∷◌, replicate, Some, IsSomeAnd};
+ghost use Rattle.dm_meaning.specs.Among.{IsAmong};
+ghost use Rattle.dm_meaning.specs.Choices.{run_by};
+ghost use Rattle.dm_meaning.specs.Examples.{at, counted_sum};
+ghost use Rattle.dm_meaning.specs.Expressions.{Move, goes, moves};
+ghost use Rattle.dm_meaning.specs.Running.{Run, Hole, filled_in};
+ghost use Rattle.dm_meaning.specs.Simulation.{GoesWrong};
+ghost use Rattle.dm_meaning.specs.States.{returns};
+ghost use Rattle.dm_meaning.specs.Steps.{scene_of};
+ghost use Rattle.dm_meaning.specs.Units.{machine_of};
+ghost use Rattle.dm_meaning.specs.Values.{At};
+ghost use Rattle.dm_rewrite.specs.Aside.{Claims, IsForeseen};
+ghost use Rattle.dm_rewrite.specs.Closed.{MemoryAvoids, IsClosedIn, StaysClosed};
+ghost use Rattle.dm_rewrite.specs.Computed.{computed, IsPure};
+ghost use Rattle.dm_rewrite.specs.Effects.{on_object, effects_of, ChangesOnly, LeavesNoMore};
+ghost use Rattle.dm_rewrite.specs.Examples as examples;
+ghost use Rattle.dm_rewrite.specs.KeptMemory.{KeepsPlaces};
+ghost use Rattle.dm_rewrite.specs.PureSteps.{IsAt, Evaluated};
+
+/// In `i++ + i` the second operand is evaluated at once, and reads i; where i was counted before, the program can go wrong.
+pub fn an_operand_is_evaluated_at_once()
+    ensures at { IsSomeAnd (run_by counted_sum (replicate 5 0) []) (λ state. IsAt (at 0) (examples.beside examples.first) returns [] state examples.second) }
+    ensures pure { IsPure examples.second }
+    ensures computed { IsSomeAnd (run_by counted_sum (replicate 5 0) [])
+        (λ state. computed (scene_of counted_sum state) state.world examples.second ≡ Some (examples.read_as 0)) }
+    ensures evaluated { IsSomeAnd (run_by counted_sum (replicate 5 0) [])
+        (λ state. Evaluated counted_sum (at 0) (examples.beside examples.first) returns [] state examples.second) }
+    ensures at_counted { IsSomeAnd (run_by counted_sum (replicate 7 0) [])
+        (λ state. IsAt (at 0) (examples.beside examples.first_done) returns [] state examples.second) }
+    ensures wrong { IsSomeAnd (run_by counted_sum (replicate 7 0) []) (λ state. GoesWrong (machine_of counted_sum) state) }
+{}
+
+/// A step of `y++` changes y alone, so what x comes to is the same before and behind it.
+pub fn a_count_leaves_other_objects()
+    ensures effects { effects_of examples.stage examples.counting_y ≡ on_object 2 ∷ [] }
+    ensures step { IsAmong (goes (examples.world 6) examples.y_counted) (moves examples.stage.scene (examples.world 5) [] examples.counting_y) }
+    ensures changes { ChangesOnly examples.stage (on_object 2 ∷ []) (examples.world 5) (examples.world 6) }
+    ensures places { KeepsPlaces (examples.world 5).memory (examples.world 6).memory examples.x_read.reads }
+    ensures before { computed examples.stage.scene (examples.world 5) examples.reading_x ≡ Some examples.x_read }
+    ensures behind { computed examples.stage.scene (examples.world 6) examples.reading_x ≡ Some examples.x_read }
+{}
+
+/// The value of x can be computed on the side: x is designated before `y++` and read behind it.
+pub fn a_value_is_computed_aside()
+    ensures first { Claims examples.stage.scene (examples.world 5) examples.reading_x (filled_in examples.x_left_out examples.x_designated) }
+    ensures kept { Claims examples.stage.scene (examples.world 6) examples.reading_x (filled_in examples.x_left_out examples.x_designated) }
+    ensures foreseen { IsForeseen examples.stage.scene (examples.world 5) examples.reading_x examples.x_left_out examples.x_designated }
+{}
+
+/// In `x && y++` x is only read, so no step of it makes a pointer to x, and it may write y alone. In `&x` it is more than read.
+pub fn an_object_stays_closed()
+    ensures memory { MemoryAvoids 1 (examples.world 5).memory }
+    ensures closed { IsClosedIn 1 examples.objects examples.both_read }
+    ensures steps { (locks : List At) (move : Move Run Hole) → IsAmong move (moves examples.stage.scene (examples.world 5) locks examples.both_read)
+        → StaysClosed 1 examples.objects move }
+    ensures no_more { (locks : List At) (move : Move Run Hole) → IsAmong move (moves examples.stage.scene (examples.world 5) locks examples.both_read)
+        → LeavesNoMore examples.stage (on_object 2 ∷ []) move }
+    ensures not_closed { IsClosedIn 1 examples.objects examples.address_of_x → ⊥ }
+{}

@@ -1,0 +1,95 @@
+ghost use Rattle.std.specs.Prelude.{◌≡◌, ◌⊎◌, ℕ, true, false, List, Some, None};
+ghost use Rattle.dm_token.specs.declared.place.Place.{Place};
+ghost use Rattle.dm_type.specs.CTypes.{CType};
+ghost use Rattle.dm_tree.specs.Trees.{Label};
+ghost use Rattle.dm_meaning.specs.Among.{IsAmong};
+ghost use Rattle.dm_meaning.specs.Programs.{Program};
+ghost use Rattle.dm_meaning.specs.Simulation.{GoesWrong};
+ghost use Rattle.dm_meaning.specs.States.{Use, Task, State};
+ghost use Rattle.dm_meaning.specs.Steps.{scene_of};
+ghost use Rattle.dm_meaning.specs.Units.{machine_of};
+ghost use Rattle.dm_meaning.specs.Values.{At, overlaps_any};
+ghost use Rattle.dm_meaning.specs.Operations.{World, Scene, Operand, operate};
+ghost use Rattle.dm_meaning.specs.Running.{Run, Hole, IsOpen, filled_in, locks_in};
+ghost use Rattle.dm_meaning.specs.Expressions.{Move, goes, moves, kind_of_run};
+ghost use Rattle.dm_rewrite.specs.Computed.{Computed, computed, IsPure, is_pure_label};
+ghost use Rattle.dm_rewrite.specs.Aside.{Claims, Follows, AsideFits, IsForeseen};
+ghost use Rattle.dm_rewrite.specs.Closed.{MemoryAvoids, IsClosedIn, StaysClosed};
+ghost use Rattle.dm_rewrite.specs.Effects.{Stage, effects_of, Writes, ChangesOnly, LeavesNoMore};
+ghost use Rattle.dm_rewrite.specs.KeptMemory.{HasSameObjects, KeepsPlaces};
+ghost use Rattle.dm_rewrite.specs.PureSteps.{DidPlain, StepKeeps, Meets, IsAt, Evaluated};
+
+/// The step of a node that neither stores nor calls leaves the world as it is, and locks nothing.
+pub fn plain_steps()
+    ensures { (scene : Scene) (world : World) (locks : List At) (label : Label) (kind : CType) (operands : List Operand)
+        → is_pure_label label ≡ true → DidPlain world (operate scene world locks label kind operands) }
+{}
+
+/// A tree that neither stores nor calls is evaluated in any order to one result.
+pub fn pure_steps()
+    // Each of its steps, beside any locks, leaves such a tree in the same world, which comes to the same result and reads no more. It is
+    // undefined only where the tree comes to nothing, or reads a place that is locked.
+    ensures each { (scene : Scene) (world : World) (locks : List At) (run : Run) → IsPure run
+        → (move : Move Run Hole) → IsAmong move (moves scene world locks run)
+        → StepKeeps scene world locks (kind_of_run run) (computed scene world run) move }
+    // Anywhere in the full expression that a program is at, it is evaluated in one go, while everything else of the state stands still, or the
+    // program can go wrong:
+    ensures at_once { (program : Program) (place : Place) (hole : Hole) (use_of : Use) (rest : List Task) (state : State) (run : Run)
+        → IsAt place hole use_of rest state run → IsPure run
+        → GoesWrong (machine_of program) state ⊎ Evaluated program place hole use_of rest state run }
+    // the one where it comes to something and reads nothing that is locked there, the other where it doesn't.
+    ensures defined { (program : Program) (place : Place) (hole : Hole) (use_of : Use) (rest : List Task) (state : State) (run : Run)
+        → IsAt place hole use_of rest state run → IsPure run
+        → (found : Computed) → computed (scene_of program state) state.world run ≡ Some found
+        → ((at : At) → IsAmong at found.reads → overlaps_any at (locks_in (filled_in hole run)) ≡ false)
+        → Evaluated program place hole use_of rest state run }
+    ensures wrong { (program : Program) (place : Place) (hole : Hole) (use_of : Use) (rest : List Task) (state : State) (run : Run)
+        → IsAt place hole use_of rest state run → IsPure run
+        → Meets (locks_in (filled_in hole run)) (computed (scene_of program state) state.world run)
+        → GoesWrong (machine_of program) state }
+{}
+
+/// What a tree that neither stores nor calls comes to, it comes to in any later memory in which the objects that can be used are still there, and
+/// the places that it reads hold what they held.
+pub fn kept_computations()
+    ensures { (scene : Scene) (world later : World) → HasSameObjects world.memory later.memory → (run : Run) → IsPure run
+        → (found : Computed) → computed scene world run ≡ Some found → KeepsPlaces world.memory later.memory found.reads
+        → computed scene later run ≡ Some found }
+{}
+
+/// The evaluation of a tree that neither stores nor calls, which the program hasn't begun, can be followed on the side: it comes to what the tree
+/// comes to.
+pub fn evaluations_aside()
+    // Each step of it, beside any locks, still follows the tree, unless the tree comes to nothing now or reads what is locked.
+    ensures each { (scene : Scene) (world : World) (locks : List At) (tree aside : Run) → IsPure tree → IsPure aside
+        → kind_of_run aside ≡ kind_of_run tree → Follows scene world tree aside
+        → (move : Move Run Hole) → IsAmong move (moves scene world locks aside) → AsideFits scene world locks tree move }
+    // What a part of it comes to is known beforehand, unless the tree comes to nothing.
+    ensures part { (scene : Scene) (world : World) (tree : Run) (hole : Hole) (run : Run) → IsOpen hole → IsPure (filled_in hole run)
+        → Follows scene world tree (filled_in hole run) → IsForeseen scene world tree hole run ⊎ (computed scene world tree ≡ None) }
+    // It follows the tree in any later memory in which the places that the tree reads hold what they held.
+    ensures kept { (scene : Scene) (world later : World) → HasSameObjects world.memory later.memory → (tree aside : Run) → IsPure tree → IsPure aside
+        → (claims : Claims scene world tree aside) → KeepsPlaces world.memory later.memory claims.found.reads → Claims scene later tree aside }
+{}
+
+/// A step of a tree changes memory only in what the tree may write, by the names in it.
+pub fn effects_of_steps()
+    ensures writes { (stage : Stage) (world : World) (locks : List At) (run later : Run) (after : World)
+        → IsAmong (goes after later) (moves stage.scene world locks run) → Writes world after (effects_of stage run) }
+    ensures others_stay { (stage : Stage) (world : World) (locks : List At) (run later : Run) (after : World)
+        → IsAmong (goes after later) (moves stage.scene world locks run) → ChangesOnly stage (effects_of stage run) world after }
+{}
+
+/// A tree that names an object only where it is read or written makes no pointer to it: each step leaves such a tree, and memory without such
+/// pointers, and gives none to a call.
+pub fn closed_objects()
+    ensures { (n : ℕ) (scene : Scene) (world : World) → MemoryAvoids n world.memory → (locks : List At) (run : Run) → IsClosedIn n scene.objects run
+        → (move : Move Run Hole) → IsAmong move (moves scene world locks run) → StaysClosed n scene.objects move }
+{}
+
+/// Where closed objects are only named so, a tree may write no more after a step than before, and no more behind a call.
+pub fn effects_shrink()
+    ensures { (stage : Stage) (world : World) (locks : List At) → ((n : ℕ) → IsAmong n stage.closed → MemoryAvoids n world.memory)
+        → (run : Run) → ((n : ℕ) → IsAmong n stage.closed → IsClosedIn n stage.scene.objects run)
+        → (move : Move Run Hole) → IsAmong move (moves stage.scene world locks run) → LeavesNoMore stage (effects_of stage run) move }
+{}

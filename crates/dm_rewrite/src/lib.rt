@@ -1,0 +1,14 @@
+//! The law that a unit whose macros became declarations refines the old one. Today its first part: what the steps of an expression keep.
+#![tactic(auto)]
+
+mod examples;
+mod laws;
+
+pub use examples::{
+    a_count_leaves_other_objects, a_value_is_computed_aside, an_object_stays_closed,
+    an_operand_is_evaluated_at_once,
+};
+pub use laws::{
+    closed_objects, effects_of_steps, effects_shrink, evaluations_aside, kept_computations,
+    plain_steps, pure_steps,
+};
