@@ -8,4 +8,5 @@ mod EffectLemmas
 mod ClosedLemmas
 mod ClosedRunLemmas
 mod ShrinkEffectLemmas
+mod ClosedStateLemmas
 mod CountExample

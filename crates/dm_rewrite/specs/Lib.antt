@@ -4,4 +4,5 @@ pub mod KeptMemory
 pub mod Aside
 pub mod Effects
 pub mod Closed
+pub mod ClosedStates
 pub mod Examples

@@ -3,17 +3,18 @@
 ghost use Rattle.std.specs.Prelude.{◌≡◌, List, [], ◌∷◌, replicate, Some, IsSomeAnd};
 ghost use Rattle.dm_meaning.specs.Among.{IsAmong};
 ghost use Rattle.dm_meaning.specs.Choices.{run_by};
-ghost use Rattle.dm_meaning.specs.Examples.{at, counted_sum};
+ghost use Rattle.dm_meaning.specs.Examples.{at, and_count, counted_sum};
 ghost use Rattle.dm_meaning.specs.Expressions.{Move, goes, moves};
 ghost use Rattle.dm_meaning.specs.Running.{Run, Hole, filled_in};
 ghost use Rattle.dm_meaning.specs.Simulation.{GoesWrong};
-ghost use Rattle.dm_meaning.specs.States.{returns};
-ghost use Rattle.dm_meaning.specs.Steps.{scene_of};
+ghost use Rattle.dm_meaning.specs.States.{returns, State};
+ghost use Rattle.dm_meaning.specs.Steps.{scene_of, Step};
 ghost use Rattle.dm_meaning.specs.Units.{machine_of};
 ghost use Rattle.dm_meaning.specs.Values.{At};
 ghost use Rattle.dm_rewrite.specs.Aside.{Claims, IsForeseen};
 ghost use Rattle.dm_rewrite.specs.Closed.{MemoryAvoids, IsClosedIn, StaysClosed};
 ghost use Rattle.dm_rewrite.specs.Computed.{computed, IsPure};
+ghost use Rattle.dm_rewrite.specs.ClosedStates.{ProgramNamesOnly, IsClosedState};
 ghost use Rattle.dm_rewrite.specs.Effects.{on_object, effects_of, ChangesOnly, LeavesNoMore};
 ghost use Rattle.dm_rewrite.specs.Examples as examples;
 ghost use Rattle.dm_rewrite.specs.KeptMemory.{KeepsPlaces};
@@ -58,4 +59,12 @@ pub fn an_object_stays_closed()
     ensures no_more { (locks : List At) (move : Move Run Hole) → IsAmong move (moves examples.stage.scene (examples.world 5) locks examples.both_read)
         → LeavesNoMore examples.stage (on_object 2 ∷ []) move }
     ensures not_closed { IsClosedIn 1 examples.objects examples.address_of_x → ⊥ }
+{}
+
+/// So x is closed all along a run of `int x = 2; int y = 5; x && y++; return y;`.
+pub fn an_object_stays_closed_in_a_run()
+    ensures program { ProgramNamesOnly 1 (and_count 2) }
+    ensures state { IsSomeAnd (run_by (and_count 2) (replicate 8 0) []) (IsClosedState 1 1) }
+    ensures steps { IsSomeAnd (run_by (and_count 2) (replicate 8 0) [])
+        (λ state. (other : State) → Step (and_count 2) state other → IsClosedState 1 1 other) }
 {}

@@ -6,7 +6,7 @@ ghost use Rattle.dm_meaning.specs.Among.{IsAmong};
 ghost use Rattle.dm_meaning.specs.Programs.{Program};
 ghost use Rattle.dm_meaning.specs.Simulation.{GoesWrong};
 ghost use Rattle.dm_meaning.specs.States.{Use, Task, State};
-ghost use Rattle.dm_meaning.specs.Steps.{scene_of};
+ghost use Rattle.dm_meaning.specs.Steps.{scene_of, Step};
 ghost use Rattle.dm_meaning.specs.Units.{machine_of};
 ghost use Rattle.dm_meaning.specs.Values.{At, overlaps_any};
 ghost use Rattle.dm_meaning.specs.Operations.{World, Scene, Operand, operate};
@@ -15,6 +15,7 @@ ghost use Rattle.dm_meaning.specs.Expressions.{Move, goes, moves, kind_of_run};
 ghost use Rattle.dm_rewrite.specs.Computed.{Computed, computed, IsPure, is_pure_label};
 ghost use Rattle.dm_rewrite.specs.Aside.{Claims, Follows, AsideFits, IsForeseen};
 ghost use Rattle.dm_rewrite.specs.Closed.{MemoryAvoids, IsClosedIn, StaysClosed};
+ghost use Rattle.dm_rewrite.specs.ClosedStates.{ProgramNamesOnly, IsClosedState};
 ghost use Rattle.dm_rewrite.specs.Effects.{Stage, effects_of, Writes, ChangesOnly, LeavesNoMore};
 ghost use Rattle.dm_rewrite.specs.KeptMemory.{HasSameObjects, KeepsPlaces};
 ghost use Rattle.dm_rewrite.specs.PureSteps.{DidPlain, StepKeeps, Meets, IsAt, Evaluated};
@@ -92,4 +93,11 @@ pub fn effects_shrink()
     ensures { (stage : Stage) (world : World) (locks : List At) → ((n : ℕ) → IsAmong n stage.closed → MemoryAvoids n world.memory)
         → (run : Run) → ((n : ℕ) → IsAmong n stage.closed → IsClosedIn n stage.scene.objects run)
         → (move : Move Run Hole) → IsAmong move (moves stage.scene world locks run) → LeavesNoMore stage (effects_of stage run) move }
+{}
+
+/// Where all trees of a program name what a declaration declares only where it is read or written, each step leaves an object of that declaration
+/// as closed as it was: no pointer to it is in memory, nor among results, arguments and values handed back, in any frame.
+pub fn closed_states()
+    ensures { (n d : ℕ) (program : Program) → ProgramNamesOnly d program → (state other : State) → IsClosedState n d state → Step program state other
+        → IsClosedState n d other }
 {}

@@ -6,9 +6,9 @@ mod laws;
 
 pub use examples::{
     a_count_leaves_other_objects, a_value_is_computed_aside, an_object_stays_closed,
-    an_operand_is_evaluated_at_once,
+    an_object_stays_closed_in_a_run, an_operand_is_evaluated_at_once,
 };
 pub use laws::{
-    closed_objects, effects_of_steps, effects_shrink, evaluations_aside, kept_computations,
-    plain_steps, pure_steps,
+    closed_objects, closed_states, effects_of_steps, effects_shrink, evaluations_aside,
+    kept_computations, plain_steps, pure_steps,
 };
