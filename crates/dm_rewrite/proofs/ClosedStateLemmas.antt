@@ -718,12 +718,15 @@ module _ (n d : ℕ) where
     brace_closed = by_main (is_main (declaration_of program state.frame.function))
       where
         by_nothing : (b : Bool)
-            → IsClosedState n d (if b then record state { frame = record state.frame { tasks = hands_back unset ∷ [] } } else record state { standing = undefined NoValue (body_place (definition_of program state.frame.function) no_place) })
+            → IsClosedState n d (if b then record state { frame = record state.frame { tasks = hands_back unset ∷ [] } }
+            else record state { standing = undefined NoValue (body_place (definition_of program state.frame.function) no_place) })
         by_nothing true = gives_back unset tt
         by_nothing false = stays (undefined NoValue (body_place (definition_of program state.frame.function) no_place))
 
         by_main : (b : Bool)
-            → IsClosedState n d (if b then record state { frame = record state.frame { tasks = hands_back (integer_value Int (pos 0)) ∷ [] } } else (if gives_nothing (type_declared program state.frame.function) then record state { frame = record state.frame { tasks = hands_back unset ∷ [] } } else record state { standing = undefined NoValue (body_place (definition_of program state.frame.function) no_place) }))
+            → IsClosedState n d (if b then record state { frame = record state.frame { tasks = hands_back (integer_value Int (pos 0)) ∷ [] } }
+            else (if gives_nothing (type_declared program state.frame.function) then record state { frame = record state.frame { tasks = hands_back unset ∷ [] } }
+            else record state { standing = undefined NoValue (body_place (definition_of program state.frame.function) no_place) }))
         by_main true = gives_back (integer_value Int (pos 0)) tt
         by_main false = by_nothing (gives_nothing (type_declared program state.frame.function))
 
@@ -735,28 +738,35 @@ module _ (n d : ℕ) where
     task_closed names fresh [] h other k = one_closed _ other brace_closed k
     task_closed names fresh (begins tree ∷ rest) h other k =
         one_closed _ other
-        (turned_closed (begin_statement program names state.frame.objects rest state.world.memory tree) (tree_closed state.statics s.statics program state.frame.objects s.frame.0 rest h.1 state.world.memory s.memory s.made names (new names fresh) tree h.0)) k
+        (turned_closed (begin_statement program names state.frame.objects rest state.world.memory tree)
+        (tree_closed state.statics s.statics program state.frame.objects s.frame.0 rest h.1 state.world.memory s.memory s.made names (new names fresh) tree h.0)) k
     task_closed names fresh (declares declarator expressions ∷ rest) h other k =
         one_closed _ other
-        (turned_closed (begin_declarator program state.frame.objects rest state.world.memory declarator expressions) (declarator_closed state.statics s.statics program state.frame.objects s.frame.0 rest h.1 state.world.memory s.memory s.made declarator expressions h.0)) k
+        (turned_closed (begin_declarator program state.frame.objects rest state.world.memory declarator expressions)
+        (declarator_closed state.statics s.statics program state.frame.objects s.frame.0 rest h.1 state.world.memory s.memory s.made declarator expressions h.0)) k
     task_closed names fresh (initials at kind initialiser expressions ∷ rest) h other k =
         one_closed _ other
-        (turned_closed (begin_initialiser program state.frame.objects rest state.world.memory at kind initialiser expressions) (initialiser_closed state.statics s.statics program state.frame.objects s.frame.0 rest h.1 state.world.memory s.memory s.made at kind initialiser expressions h.0)) k
+        (turned_closed (begin_initialiser program state.frame.objects rest state.world.memory at kind initialiser expressions)
+        (initialiser_closed state.statics s.statics program state.frame.objects s.frame.0 rest h.1 state.world.memory s.memory s.made at kind initialiser expressions h.0)) k
     task_closed names fresh (evaluates place run use_of ∷ rest) h other k = expression_closed names fresh rest place use_of run h.1 h.0.1 h.0.0 other k
     task_closed names fresh (again saved loop ∷ rest) h other k = absurd k
     task_closed names fresh (tests saved loop ∷ rest) h other k = absurd k
     task_closed names fresh (ends saved ∷ rest) h other k =
         one_closed _ other
-        (turned_closed (ended saved state.frame.objects rest state.world.memory) (ended_closed state.statics s.statics program state.frame.objects s.frame.0 rest h.1 state.world.memory s.memory s.made saved rest h.0 h.1)) k
+        (turned_closed (ended saved state.frame.objects rest state.world.memory)
+        (ended_closed state.statics s.statics program state.frame.objects s.frame.0 rest h.1 state.world.memory s.memory s.made saved rest h.0 h.1)) k
     task_closed names fresh (ends_switch saved ∷ rest) h other k =
         one_closed _ other
-        (turned_closed (ended saved state.frame.objects rest state.world.memory) (ended_closed state.statics s.statics program state.frame.objects s.frame.0 rest h.1 state.world.memory s.memory s.made saved rest h.0 h.1)) k
+        (turned_closed (ended saved state.frame.objects rest state.world.memory)
+        (ended_closed state.statics s.statics program state.frame.objects s.frame.0 rest h.1 state.world.memory s.memory s.made saved rest h.0 h.1)) k
     task_closed names fresh (leaves ∷ rest) h other k =
         one_closed _ other
-        (turned_closed (after_break state.frame.objects state.world.memory rest) (break_closed state.statics s.statics program state.frame.objects s.frame.0 rest h.1 state.world.memory s.memory s.made rest h.1)) k
+        (turned_closed (after_break state.frame.objects state.world.memory rest)
+        (break_closed state.statics s.statics program state.frame.objects s.frame.0 rest h.1 state.world.memory s.memory s.made rest h.1)) k
     task_closed names fresh (skips ∷ rest) h other k =
         one_closed _ other
-        (turned_closed (after_continue state.frame.objects state.world.memory rest) (continue_closed state.statics s.statics program state.frame.objects s.frame.0 rest h.1 state.world.memory s.memory s.made rest h.1)) k
+        (turned_closed (after_continue state.frame.objects state.world.memory rest)
+        (continue_closed state.statics s.statics program state.frame.objects s.frame.0 rest h.1 state.world.memory s.memory s.made rest h.1)) k
     task_closed names fresh (hands_back value ∷ rest) h other k = one_closed _ other (handed_closed value h.0 state.callers s.callers) k
 
 -- A step leaves such a state, where the object's address is nowhere taken.

@@ -9,4 +9,6 @@ mod ClosedLemmas
 mod ClosedRunLemmas
 mod ShrinkEffectLemmas
 mod ClosedStateLemmas
+mod FrameChangeLemmas
+mod StepEffectLemmas
 mod CountExample

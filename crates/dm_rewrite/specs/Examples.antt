@@ -2,10 +2,11 @@
 use Rattle.std.specs.Prelude.{ℕ, true, false, [], ◌∷◌, pos}
 use Rattle.dm_int.specs.declared.Kind.TheVariants.{Int}
 use Rattle.dm_int.specs.declared.Op.TheVariants.{Add}
-use Rattle.dm_type.specs.CTypes.{CType, integer, pointer}
-use Rattle.dm_tree.specs.Trees.{object, read, address, binary, both, count, Spans, node, trees}
+use Rattle.dm_type.specs.CTypes.{CType, void, integer, pointer}
+use Rattle.dm_tree.specs.Trees.{object, read, address, binary, both, count, block, Spans, node, trees}
 use Rattle.dm_meaning.specs.Values.{At, numbered, integer_value}
 use Rattle.dm_meaning.specs.Memory.{Block}
+use Rattle.dm_meaning.specs.Programs.{Definition}
 use Rattle.dm_meaning.specs.Operations.{of_value, designates, World, Objects, whole}
 use Rattle.dm_meaning.specs.Running.{evaluates, Run, done, to_do, Hole, here, within, in_first, in_others, no_runs, more_runs, begun}
 use Rattle.dm_meaning.specs.Examples.{at, reading, counted, and_count}
@@ -94,3 +95,7 @@ x_read = record { result = of_value (integer_value Int (pos 2)); reads = x ∷ [
 -- &x
 abbrev pub address_of_x : Run
 address_of_x = begun (node address (pointer int) (spans 0) (trees (node (object 1) int (spans 0) (trees []) ∷ [])))
+
+-- a function of one parameter, which the declaration of x declares
+abbrev pub function : Definition
+function = record { function = 0; parameters = 1 ∷ []; body = node block void (spans 0) (trees []) }

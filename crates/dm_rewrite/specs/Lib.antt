@@ -5,4 +5,5 @@ pub mod Aside
 pub mod Effects
 pub mod Closed
 pub mod ClosedStates
+pub mod StepEffects
 pub mod Examples

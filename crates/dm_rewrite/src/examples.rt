@@ -1,16 +1,18 @@
 //! Small programs in the midst of an expression, which meet the premises of the laws; each is proved by computing.
 
-ghost use Rattle.std.specs.Prelude.{◌≡◌, List, [], ◌∷◌, replicate, Some, IsSomeAnd};
+ghost use Rattle.std.specs.Prelude.{◌≡◌, ℕ, false, List, [], ◌∷◌, replicate, Some, IsSomeAnd, pos};
+ghost use Rattle.dm_int.specs.declared.Kind.TheVariants.{Int};
 ghost use Rattle.dm_meaning.specs.Among.{IsAmong};
 ghost use Rattle.dm_meaning.specs.Choices.{run_by};
 ghost use Rattle.dm_meaning.specs.Examples.{at, and_count, counted_sum};
 ghost use Rattle.dm_meaning.specs.Expressions.{Move, goes, moves};
+ghost use Rattle.dm_meaning.specs.Memory.{IsFresh, killed};
 ghost use Rattle.dm_meaning.specs.Running.{Run, Hole, filled_in};
 ghost use Rattle.dm_meaning.specs.Simulation.{GoesWrong};
 ghost use Rattle.dm_meaning.specs.States.{returns, State};
-ghost use Rattle.dm_meaning.specs.Steps.{scene_of, Step};
+ghost use Rattle.dm_meaning.specs.Steps.{opened_memory, scene_of, Step};
 ghost use Rattle.dm_meaning.specs.Units.{machine_of};
-ghost use Rattle.dm_meaning.specs.Values.{At};
+ghost use Rattle.dm_meaning.specs.Values.{At, integer_value};
 ghost use Rattle.dm_rewrite.specs.Aside.{Claims, IsForeseen};
 ghost use Rattle.dm_rewrite.specs.Closed.{MemoryAvoids, IsClosedIn, StaysClosed};
 ghost use Rattle.dm_rewrite.specs.Computed.{computed, IsPure};
@@ -18,6 +20,7 @@ ghost use Rattle.dm_rewrite.specs.ClosedStates.{ProgramNamesOnly, IsClosedState}
 ghost use Rattle.dm_rewrite.specs.Effects.{on_object, effects_of, ChangesOnly, LeavesNoMore};
 ghost use Rattle.dm_rewrite.specs.Examples as examples;
 ghost use Rattle.dm_rewrite.specs.KeptMemory.{KeepsPlaces};
+ghost use Rattle.dm_rewrite.specs.StepEffects.{stage_of, next_effects, StillHolds};
 ghost use Rattle.dm_rewrite.specs.PureSteps.{IsAt, Evaluated};
 
 /// In `i++ + i` the second operand is evaluated at once, and reads i; where i was counted before, the program can go wrong.
@@ -67,4 +70,21 @@ pub fn an_object_stays_closed_in_a_run()
     ensures state { IsSomeAnd (run_by (and_count 2) (replicate 8 0) []) (IsClosedState 1 1) }
     ensures steps { IsSomeAnd (run_by (and_count 2) (replicate 8 0) [])
         (λ state. (other : State) → Step (and_count 2) state other → IsClosedState 1 1 other) }
+{}
+
+/// A call makes an object, which dies when the call returns: neither x nor y have changed then.
+pub fn a_call_leaves_other_objects()
+    ensures { (names : ℕ → ℕ) → IsFresh names (examples.world 5).memory → ChangesOnly examples.stage [] (examples.world 5)
+        (record (examples.world 5) {
+          memory =
+              killed (names 0 ∷ []) (opened_memory (and_count 2) names examples.function (integer_value Int (pos 3) ∷ []) (examples.world 5).memory);
+        }) }
+{}
+
+/// In `x && y++` x holds 2 behind each step of `y++`.
+pub fn a_step_leaves_other_objects()
+    ensures effects { IsSomeAnd (run_by (and_count 2) (replicate 12 0) [])
+        (λ state. next_effects (stage_of (and_count 2) (1 ∷ []) (λ f. false) state) state ≡ on_object 2 ∷ []) }
+    ensures steps { IsSomeAnd (run_by (and_count 2) (replicate 12 0) [])
+        (λ state. (other : State) → Step (and_count 2) state other → StillHolds other.world.memory 1 (examples.holding 2)) }
 {}

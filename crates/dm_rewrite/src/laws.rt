@@ -1,14 +1,15 @@
-ghost use Rattle.std.specs.Prelude.{◌≡◌, ◌⊎◌, ℕ, true, false, List, Some, None};
+ghost use Rattle.std.specs.Prelude.{◌≡◌, ◌⊎◌, ℕ, Bool, true, false, List, Some, None};
 ghost use Rattle.dm_token.specs.declared.place.Place.{Place};
 ghost use Rattle.dm_type.specs.CTypes.{CType};
 ghost use Rattle.dm_tree.specs.Trees.{Label};
 ghost use Rattle.dm_meaning.specs.Among.{IsAmong};
-ghost use Rattle.dm_meaning.specs.Programs.{Program};
+ghost use Rattle.dm_meaning.specs.Memory.{Block, look_up, killed};
+ghost use Rattle.dm_meaning.specs.Programs.{Definition, Program};
 ghost use Rattle.dm_meaning.specs.Simulation.{GoesWrong};
 ghost use Rattle.dm_meaning.specs.States.{Use, Task, State};
-ghost use Rattle.dm_meaning.specs.Steps.{scene_of, Step};
+ghost use Rattle.dm_meaning.specs.Steps.{opened_memory, scene_of, Step};
 ghost use Rattle.dm_meaning.specs.Units.{machine_of};
-ghost use Rattle.dm_meaning.specs.Values.{At, overlaps_any};
+ghost use Rattle.dm_meaning.specs.Values.{At, Value, overlaps_any};
 ghost use Rattle.dm_meaning.specs.Operations.{World, Scene, Operand, operate};
 ghost use Rattle.dm_meaning.specs.Running.{Run, Hole, IsOpen, filled_in, locks_in};
 ghost use Rattle.dm_meaning.specs.Expressions.{Move, goes, moves, kind_of_run};
@@ -16,8 +17,9 @@ ghost use Rattle.dm_rewrite.specs.Computed.{Computed, computed, IsPure, is_pure_
 ghost use Rattle.dm_rewrite.specs.Aside.{Claims, Follows, AsideFits, IsForeseen};
 ghost use Rattle.dm_rewrite.specs.Closed.{MemoryAvoids, IsClosedIn, StaysClosed};
 ghost use Rattle.dm_rewrite.specs.ClosedStates.{ProgramNamesOnly, IsClosedState};
-ghost use Rattle.dm_rewrite.specs.Effects.{Stage, effects_of, Writes, ChangesOnly, LeavesNoMore};
+ghost use Rattle.dm_rewrite.specs.Effects.{Effect, Stage, IsFree, effects_of, Writes, ChangesOnly, LeavesNoMore};
 ghost use Rattle.dm_rewrite.specs.KeptMemory.{HasSameObjects, KeepsPlaces};
+ghost use Rattle.dm_rewrite.specs.StepEffects.{stage_of, next_effects, StillHolds};
 ghost use Rattle.dm_rewrite.specs.PureSteps.{DidPlain, StepKeeps, Meets, IsAt, Evaluated};
 
 /// The step of a node that neither stores nor calls leaves the world as it is, and locks nothing.
@@ -100,4 +102,25 @@ pub fn effects_shrink()
 pub fn closed_states()
     ensures { (n d : ℕ) (program : Program) → ProgramNamesOnly d program → (state other : State) → IsClosedState n d state → Step program state other
         → IsClosedState n d other }
+{}
+
+/// What of a world stays so while functions that a frame has called run: changes come one after the other, and objects that are made meanwhile, and
+/// that die again, are none that were there.
+pub fn changes_of_frames()
+    ensures joined { (stage : Stage) (effects : List Effect) (a b c : World) → ChangesOnly stage effects a b → ChangesOnly stage effects b c
+        → ChangesOnly stage effects a c }
+    ensures opened { (stage : Stage) (effects : List Effect) (start world : World) (program : Program) (names : ℕ → ℕ) (definition : Definition)
+        (arguments : List Value) → ((i : ℕ) → look_up start.memory (names i) ≡ None) → ChangesOnly stage effects start world
+        → ChangesOnly stage effects start (record world { memory = opened_memory program names definition arguments world.memory }) }
+    ensures ended { (stage : Stage) (effects : List Effect) (start world : World) (numbers : List ℕ)
+        → ((n : ℕ) → IsAmong n numbers → look_up start.memory n ≡ None) → ChangesOnly stage effects start world
+        → ChangesOnly stage effects start (record world { memory = killed numbers world.memory }) }
+{}
+
+/// A step of a program writes only in objects that its next task names as written, or that aren't closed where it writes through a pointer: all
+/// others hold what they held.
+pub fn effects_of_program_steps()
+    ensures { (program : Program) (closed : List ℕ) (quiet : ℕ → Bool) (state other : State) → Step program state other
+        → (n : ℕ) (block : Block) → look_up state.world.memory n ≡ Some block
+        → IsFree closed (next_effects (stage_of program closed quiet state) state) n → StillHolds other.world.memory n block }
 {}

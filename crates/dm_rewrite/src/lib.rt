@@ -5,10 +5,11 @@ mod examples;
 mod laws;
 
 pub use examples::{
-    a_count_leaves_other_objects, a_value_is_computed_aside, an_object_stays_closed,
-    an_object_stays_closed_in_a_run, an_operand_is_evaluated_at_once,
+    a_call_leaves_other_objects, a_count_leaves_other_objects, a_step_leaves_other_objects,
+    a_value_is_computed_aside, an_object_stays_closed, an_object_stays_closed_in_a_run,
+    an_operand_is_evaluated_at_once,
 };
 pub use laws::{
-    closed_objects, closed_states, effects_of_steps, effects_shrink, evaluations_aside,
-    kept_computations, plain_steps, pure_steps,
+    changes_of_frames, closed_objects, closed_states, effects_of_program_steps, effects_of_steps,
+    effects_shrink, evaluations_aside, kept_computations, plain_steps, pure_steps,
 };
