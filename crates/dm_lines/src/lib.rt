@@ -9,4 +9,4 @@ mod stop;
 pub use joining::append_all;
 pub use line::{limit_line, manifest_line, read_fault_line, refusal_line, write_fault_line};
 pub use put::put_line;
-pub use stop::explain_stop;
+pub use stop::{explain_stop, name_by_number};

@@ -60,7 +60,7 @@ fn status_about(stop: Stop) -> u8
 }
 
 /// The name of a number, which is empty where there is none.
-fn name_by_number(names: &[Text], file: u32) -> &[u8]
+pub fn name_by_number(names: &[Text], file: u32) -> &[u8]
     ensures { result.now ≡ slice_index_or names.now file [] }
 {
     match names.get(file as usize) {
