@@ -29,14 +29,18 @@ int least(int a, int b) { return a < b ? a : b; }
 class Writer:
     def __init__(self, seed):
         self.random = random.Random(seed)
-        self.depth = 0
-        self.loops = 0
+        self.names = 0
 
     def one(self, *choices):
         return self.random.choice(choices)
 
     def below(self, count):
         return self.random.randrange(count)
+
+    def fresh(self, stem):
+        """A name that nothing else has."""
+        self.names += 1
+        return f"{stem}{self.names}"
 
     def leaf(self):
         """An int expression without effects."""
@@ -111,14 +115,12 @@ class Writer:
         return f"if ({self.value(1)}) {{ {self.statements(depth - 1)} }}{other}"
 
     def repeated(self, depth):
-        self.loops += 1
-        name = f"i{self.loops}"
+        name = self.fresh("i")
         leave = self.one("", f"if ({name} == {self.below(4)}) continue;", f"if ({self.value(1)}) break;")
         return f"for (int {name} = 0; {name} < {1 + self.below(4)}; {name}++) {{ {leave} {self.statements(depth - 1)} }}"
 
     def until(self, depth):
-        self.loops += 1
-        name = f"n{self.loops}"
+        name = self.fresh("n")
         return f"{{ int {name} = {1 + self.below(3)}; do {{ {self.statements(depth - 1)} }} while (--{name} > 0); }}"
 
     def selected(self, depth):
@@ -128,8 +130,7 @@ class Writer:
         return f"switch ({self.value(1)} & 7) {{{items} default: {self.statement(0)} }}"
 
     def block(self, depth):
-        self.loops += 1
-        name = f"list{self.loops}"
+        name = self.fresh("list")
         return f"{{ int {name}[3] = {{ (int)({self.value(1)}), {self.below(9)} }}; show({name}[a & 1] + {name}[2]); {self.statements(depth - 1)} }}"
 
     def statements(self, depth):

@@ -1,12 +1,10 @@
 #!/bin/sh
 # Runs random programs whose behaviour is defined, as `demacro run` does under three orders and as gcc compiles them, and says where
 # output or status differ. usage: defined.sh PROGRAM [COUNT [FIRST]], where PROGRAM is a built `demacro`.
-here=$(cd "$(dirname "$0")" && pwd) || exit 2
+. "$(dirname "$0")/common.sh"
 program=$(realpath "$1") || exit 2
 count=${2:-300}
 first=${3:-1}
-work=$(mktemp -d) || exit 2
-trap 'rm -rf "$work"' EXIT
 cd "$work" || exit 2
 differences=0
 seed=$first

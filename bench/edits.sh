@@ -2,10 +2,8 @@
 # Tries wrong bodies that the gate leaves out for the time they take: those in a crate's more-must-fail/ as well as those in its
 # must-fail/. Each has to be refused by the prover. Works on a clone of what is committed, and proves the crates below first.
 # usage: edits.sh NAME.. for crates by their names.
-top=$(cd "$(dirname "$0")/.." && pwd) || exit 2
+. "$(dirname "$0")/common.sh"
 [ $# -gt 0 ] || exit 2
-work=$(mktemp -d) || exit 2
-trap 'rm -rf "$work"' EXIT
 git clone -q "$top" "$work/checkout" && cd "$work/checkout" || exit 2
 for name in "$@"; do
     [ -d "crates/$name/more-must-fail" ] || continue

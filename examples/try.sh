@@ -5,7 +5,7 @@
 top=$(cd "$(dirname "$0")/.." && pwd) || exit 2
 work=$(mktemp -d) || exit 2
 trap 'rm -rf "$work"' EXIT
-echo "Proving and building the tool. The first time on a machine this takes an hour or two, and later some seconds." >&2
+echo "Proving and building the tool. The first time on a machine this takes an hour or more, and later some seconds." >&2
 began=$(date +%s)
 # Where the build succeeds it ends with a run of the tool, whose output and status count for nothing here.
 {

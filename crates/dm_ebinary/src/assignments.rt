@@ -20,6 +20,7 @@ ghost use Rattle.dm_ebinary.specs.Stores.{updated_over, IsUpdated};
 use crate::ways::{Sides, as_type_if, both_kinds, sides_of};
 use dm_eunary::counting::is_modifiable;
 use dm_int::{Kind, Op};
+use dm_spell::punctuator;
 use dm_syn::Symbol;
 use dm_token::{Memory, Stop};
 use dm_tree::Core;
@@ -42,16 +43,16 @@ fn operator_of_assignment(row: u16) -> Option<Op>
     ensures { result ≡ operators.operator_of_assignment row }
 {
     match row {
-        35 => Some(Op::Mul),
-        36 => Some(Op::Div),
-        37 => Some(Op::Rem),
-        38 => Some(Op::Add),
-        39 => Some(Op::Sub),
-        40 => Some(Op::Shl),
-        41 => Some(Op::Shr),
-        42 => Some(Op::And),
-        43 => Some(Op::Xor),
-        44 => Some(Op::Or),
+        punctuator::STAR_EQUALS => Some(Op::Mul),
+        punctuator::SLASH_EQUALS => Some(Op::Div),
+        punctuator::PERCENT_EQUALS => Some(Op::Rem),
+        punctuator::PLUS_EQUALS => Some(Op::Add),
+        punctuator::MINUS_EQUALS => Some(Op::Sub),
+        punctuator::LEFT_SHIFT_EQUALS => Some(Op::Shl),
+        punctuator::RIGHT_SHIFT_EQUALS => Some(Op::Shr),
+        punctuator::AMPERSAND_EQUALS => Some(Op::And),
+        punctuator::CARET_EQUALS => Some(Op::Xor),
+        punctuator::BAR_EQUALS => Some(Op::Or),
         _ => None,
     }
 }

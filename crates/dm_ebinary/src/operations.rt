@@ -19,6 +19,7 @@ ghost use Rattle.dm_ebinary.specs.Pairs.{pair_by, IsWay};
 
 use crate::ways::{Sides, Way, as_type_if, both_kinds, sides_of};
 use dm_int::{Kind, Op};
+use dm_spell::punctuator;
 use dm_syn::Symbol;
 use dm_token::{Memory, Stop};
 use dm_tree::Core;
@@ -56,22 +57,22 @@ fn operator_of_row(row: u16) -> Option<Op>
     ensures { result ≡ operators.operator_of_row row }
 {
     match row {
-        11 => Some(Op::Mul),
-        16 => Some(Op::Div),
-        17 => Some(Op::Rem),
-        12 => Some(Op::Add),
-        13 => Some(Op::Sub),
-        18 => Some(Op::Shl),
-        19 => Some(Op::Shr),
-        20 => Some(Op::Less),
-        21 => Some(Op::Greater),
-        22 => Some(Op::LessEq),
-        23 => Some(Op::GreaterEq),
-        24 => Some(Op::Equal),
-        25 => Some(Op::NotEqual),
-        10 => Some(Op::And),
-        26 => Some(Op::Xor),
-        27 => Some(Op::Or),
+        punctuator::STAR => Some(Op::Mul),
+        punctuator::SLASH => Some(Op::Div),
+        punctuator::PERCENT => Some(Op::Rem),
+        punctuator::PLUS => Some(Op::Add),
+        punctuator::MINUS => Some(Op::Sub),
+        punctuator::LEFT_SHIFT => Some(Op::Shl),
+        punctuator::RIGHT_SHIFT => Some(Op::Shr),
+        punctuator::LESS => Some(Op::Less),
+        punctuator::GREATER => Some(Op::Greater),
+        punctuator::LESS_EQUAL => Some(Op::LessEq),
+        punctuator::GREATER_EQUAL => Some(Op::GreaterEq),
+        punctuator::EQUAL_EQUAL => Some(Op::Equal),
+        punctuator::NOT_EQUAL => Some(Op::NotEqual),
+        punctuator::AMPERSAND => Some(Op::And),
+        punctuator::CARET => Some(Op::Xor),
+        punctuator::BAR => Some(Op::Or),
         _ => None,
     }
 }

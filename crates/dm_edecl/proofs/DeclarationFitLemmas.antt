@@ -159,9 +159,9 @@ pub declarable-settles : {A : Type 0} (P : Scene → A → Type 0) (said : Speci
     → may_be_object s.known said.storage start entry.sort (kind_seen s entry) ≡ true → may_be_main s.known entry ≡ true → Settles P u next)
     → Settles P u (declarable said s start here name entry next)
 declarable-settles P said s u start here name entry next step =
-    settles-keeps P u (not (is_misplaced_static s.known said.storage entry.sort)) 3 said.first _
-    (λ a. settles-keeps P u (may_be_declared s entry) 2 name _
-    (λ b. settles-keeps P u (may_be_object s.known said.storage start entry.sort (kind_seen s entry)) 5 here _
+    settles-keeps P u (may_be_declared s entry) 2 name _
+    (λ b. settles-keeps P u (not (is_misplaced_static s.known said.storage entry.sort)) 3 said.first _
+    (λ a. settles-keeps P u (may_be_object s.known said.storage start entry.sort (kind_seen s entry)) 5 here _
     (λ c. settles-keeps P u (may_be_main s.known entry) 36 name next
     (λ d. step (not-true (is_misplaced_static s.known said.storage entry.sort) a) b c d))))
 

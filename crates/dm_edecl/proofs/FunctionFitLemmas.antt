@@ -3,6 +3,7 @@ use Rattle.std.specs.Prelude.{◌≡◌, ◌==◌, ℕ, ◌<◌, ◌≤◌, Bool
 use Rattle.std.proofs.Common.{sym, ap, ◌∙◌, subst, arith, ⊎_elim}
 use Rattle.std.proofs.lemmas.List.Elements.{All-append}
 use Rattle.std.proofs.lemmas.Slice.Eq.{bytes_eq-Decides}
+use Rattle.dm_spell.specs.Keywords.{extern_word, typedef_word}
 use Rattle.dm_token.specs.declared.place.Span.{Span}
 use Rattle.dm_type.specs.Alike.{are_compatible}
 use Rattle.dm_type.specs.CTypes.{CType, CTypes, function as function_type, const, no_types, more_types, all_of, bare}
@@ -67,7 +68,7 @@ is_typedef_word static = false
 no-typedef : (storage : List ℕ) → is_one_at_most storage ≡ true → not (is_typedef_alone storage) ≡ true → is_typedef_word (storage_of storage) ≡ false
 unfolding is_typedef_word
 no-typedef [] h g = refl
-no-typedef (row ∷ []) h g = by-test (row == 22) (row == 9) g
+no-typedef (row ∷ []) h g = by-test (row == typedef_word) (row == extern_word) g
   where
     by-test : (one other : Bool) → not one ≡ true → is_typedef_word (if one then typedef else if other then extern else static) ≡ false
     by-test true other g = absurd (cc)

@@ -100,18 +100,18 @@ unfolding DefinesTo
 keeps-defines numbers old true rule at next g = g refl
 keeps-defines numbers old false rule at next g = tt
 
-four-define : {A : Type 0} (numbers : A → List ℕ) (old : List Linked) (a b c d : Bool) (first name here : ℕ) (next : Progress A) → DefinesTo numbers old next
-    → DefinesTo numbers old (keeps a 3 first (keeps b 2 name (keeps c 5 here (keeps d 36 name next))))
-four-define numbers old a b c d first name here next g =
-    keeps-defines numbers old a 3 first (keeps b 2 name (keeps c 5 here (keeps d 36 name next))) (λ _.
-    keeps-defines numbers old b 2 name (keeps c 5 here (keeps d 36 name next)) (λ _.
+four-define : {A : Type 0} (numbers : A → List ℕ) (old : List Linked) (a b c d : Bool) (name first here : ℕ) (next : Progress A) → DefinesTo numbers old next
+    → DefinesTo numbers old (keeps a 2 name (keeps b 3 first (keeps c 5 here (keeps d 36 name next))))
+four-define numbers old a b c d name first here next g =
+    keeps-defines numbers old a 2 name (keeps b 3 first (keeps c 5 here (keeps d 36 name next))) (λ _.
+    keeps-defines numbers old b 3 first (keeps c 5 here (keeps d 36 name next)) (λ _.
     keeps-defines numbers old c 5 here (keeps d 36 name next) (λ _. keeps-defines numbers old d 36 name next (λ _. g))))
 
 declarable-defines : {A : Type 0} (numbers : A → List ℕ) (said : Specified) (s : Standing) (initialised : Bool) (here name : ℕ) (entry : unit.Declaration)
     (next : Progress A) → DefinesTo numbers s.linked next → DefinesTo numbers s.linked (declarable said s initialised here name entry next)
 declarable-defines numbers said s initialised here name entry next g =
-    four-define numbers s.linked (not (is_misplaced_static s.known said.storage entry.sort)) (may_be_declared s entry)
-    (may_be_object s.known said.storage initialised entry.sort (kind_seen s entry)) (may_be_main s.known entry) said.first name here next g
+    four-define numbers s.linked (may_be_declared s entry) (not (is_misplaced_static s.known said.storage entry.sort))
+    (may_be_object s.known said.storage initialised entry.sort (kind_seen s entry)) (may_be_main s.known entry) name said.first here next g
 
 -- ---- external declarations
 

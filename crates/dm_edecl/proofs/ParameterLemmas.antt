@@ -1,9 +1,8 @@
 -- The parameters of a function definition: each has an entry of its own, and the type of the function has their types.
-use Rattle.std.specs.Prelude.{◌≡◌, ℕ, ◌≤◌, ◌⊎◌, Bool, true, false, ◌&&◌, not, if◌then◌else◌, List, [], ◌∷◌, ◌++◌, length, Option, Some, None, is_some, slice_get, refl}
+use Rattle.std.specs.Prelude.{◌≡◌, ℕ, ◌≤◌, ◌⊎◌, Bool, true, false, ◌&&◌, not, if◌then◌else◌, List, [], ◌∷◌, ◌++◌, length, Option, Some, None, is_some, unwrap_or, slice_get, refl}
 use Rattle.std.proofs.Common.{sym, ap, ◌∙◌, subst, arith, append_assoc, inl, inr, ⊎_elim}
 use Rattle.dm_type.specs.CTypes.{CType, array, function as function_type, all_of}
 use Rattle.dm_type.specs.TableLaws.{injected}
-use Rattle.dm_scope.specs.Scopes.{is_declared}
 use Rattle.dm_syn.specs.declared.declared.Declared.{Declared as Seen}
 use Rattle.dm_syn.specs.Sources.{spelling_at}
 use Rattle.dm_syn.specs.Spans.{expr_span}
@@ -19,7 +18,7 @@ use Rattle.dm_typing.specs.Known.{Known, Setting, Outcome, given, broken, after,
 use Rattle.dm_typing.specs.Conversions.{is_complete, as_value}
 use Rattle.dm_typing.specs.Specifiers.{elsewhere}
 use Rattle.dm_typing.specs.Sound.{IsType, AreSoundTokens, AreSteps, IsSound, IsSoundKnown, KnowsMore, GivesMore, scene_of}
-use Rattle.dm_typing.specs.Typing.{TypedParameter, Step, pointing, calling, arraying, kinds_of, length_of, length_fits, is_result, typed, pointers, direct_at, adjusted, is_no_parameters, without_void, parameter_entry, parameter_declared, typed_parameter, parameter_at, entered, left, stepped, derived, typed_specifiers, steps_of, direct_steps, parameters_of, parameter_of}
+use Rattle.dm_typing.specs.Typing.{TypedParameter, Step, pointing, calling, arraying, kinds_of, length_of, length_fits, is_result, typed, pointers, direct_at, adjusted, is_no_parameters, without_void, parameter_entry, is_new_parameter, parameter_declared, typed_parameter, parameter_at, entered, left, stepped, derived, typed_specifiers, steps_of, direct_steps, parameters_of, parameter_of}
 use Rattle.dm_typing.proofs.DerivedLemmas.{IsParameterType, AreParameterTypes, declarator-gives, parameter-gives, entered-sound, left-more}
 use Rattle.dm_typing.proofs.GrowthLemmas.{complete-stays, known-later}
 use Rattle.dm_typing.proofs.KnownLemmas.{Any, knows-itself, knows-through, type-stays, stays-so, after-more, with-more, obeys-more, length-more}
@@ -79,16 +78,16 @@ declared-entered setting known base type (Some at) low =
     let entry = parameter_entry setting at (adjusted type) in
     let behind = declaring known (spelling_at setting.source at) entry in
     let one : TypedParameter = record { kind = adjusted type; declared = Some (length known.declared) } in
-    obeys-entered base (not (is_declared known.scopes (spelling_at setting.source at))) 2 at (given behind one)
-    (λ number e.
+    λ number e.
     let same : length known.declared ≡ number = injected (length known.declared) number e in
     subst (HasEntry base behind one) same
-    (record { entry = entry; at = last-get known.declared entry; low = low; sort = refl; kind = refl; shut = adjusted-shut type }))
+    (record { entry = entry; at = last-get known.declared entry; low = low; sort = refl; kind = refl; shut = adjusted-shut type })
 
 typed-entered : (setting : Setting) (known : Known) (base here : ℕ) (type : CType) (name : Option ℕ) → base ≤ length known.declared
     → EnteredIn base (typed_parameter setting known here type name)
 typed-entered setting known base here type name low =
-    obeys-entered base (not (is_function type)) 5 here (parameter_declared setting known (adjusted type) name) (declared-entered setting known base type name low)
+    obeys-entered base (is_new_parameter setting known name) 2 (unwrap_or name here) (obeys (not (is_function type)) 5 here (parameter_declared setting known (adjusted type) name))
+    (obeys-entered base (not (is_function type)) 5 here (parameter_declared setting known (adjusted type) name) (declared-entered setting known base type name low))
 
 -- a parameter, with its entry
 abbrev pub IsOwnEntry : ℕ → Known → TypedParameter → Type 0

@@ -281,8 +281,9 @@ module _ (setting : Setting) (said : Specified) (least most : ℕ) (begins : lea
   declarable-within s initialised here name entry next low high from to h =
       let fourth = keeps (may_be_main s.known entry) 36 name next in
       let third = keeps (may_be_object s.known said.storage initialised entry.sort (kind_seen s entry)) 5 here fourth in
-      keeps-within least most (not (is_misplaced_static s.known said.storage entry.sort)) 3 said.first (keeps (may_be_declared s entry) 2 name third) begins below
-      (keeps-within least most (may_be_declared s entry) 2 name third from to
+      let second = keeps (not (is_misplaced_static s.known said.storage entry.sort)) 3 said.first third in
+      keeps-within least most (may_be_declared s entry) 2 name second from to
+      (keeps-within least most (not (is_misplaced_static s.known said.storage entry.sort)) 3 said.first third begins below
       (keeps-within least most (may_be_object s.known said.storage initialised entry.sort (kind_seen s entry)) 5 here fourth low high
       (keeps-within least most (may_be_main s.known entry) 36 name next from to h)))
 

@@ -111,7 +111,7 @@ stops-grow A s rule at = tt
 declarable-grows : {A : Type 0} (said : Specified) (s : Standing) (initialised : Bool) (here name : ℕ) (entry : Declaration) (next : Progress A)
     → GrowsTo s next → GrowsTo s (declarable said s initialised here name entry next)
 declarable-grows said s initialised here name entry next g =
-    keeps-grows s _ 3 said.first _ (keeps-grows s _ 2 name _ (keeps-grows s _ 5 here _ (keeps-grows s _ 36 name next g)))
+    keeps-grows s _ 2 name _ (keeps-grows s _ 3 said.first _ (keeps-grows s _ 5 here _ (keeps-grows s _ 36 name next g)))
 
 pub there-grows : {A : Type 0} (s t : Standing) (it : A) → Grows s t → GrowsTo s (goes_on t it)
 unfolding GrowsTo

@@ -86,11 +86,11 @@ fits_main entry =
 abbrev pub may_be_main : Known → Declaration → Bool
 may_be_main known entry = not (is_file_scope known.scopes) || fits_main entry
 
--- C3, C2, C5 and C36 of a declarator that begins at a token and names its entity at another
+-- C2, C3, C5 and C36 of a declarator that begins at a token and names its entity at another
 abbrev pub declarable : {A : Type 0} → Specified → Standing → Bool → ℕ → ℕ → Declaration → Progress A → Progress A
 declarable said standing initialised here name entry next =
-    keeps (not (is_misplaced_static standing.known said.storage entry.sort)) 3 said.first
-    (keeps (may_be_declared standing entry) 2 name
+    keeps (may_be_declared standing entry) 2 name
+    (keeps (not (is_misplaced_static standing.known said.storage entry.sort)) 3 said.first
     (keeps (may_be_object standing.known said.storage initialised entry.sort (kind_seen standing entry)) 5 here
     (keeps (may_be_main standing.known entry) 36 name next)))
 

@@ -2,6 +2,8 @@
 --     rule_of tokens externals      the rule that a unit of these tokens breaks, and the token at which it does
 --     kinds_of tokens externals      the types of its entries
 use Rattle.std.specs.Prelude.{ℕ, ◌+◌, pos, ℤ, false, List, [], ◌∷◌, Option, Some, None, map, codes}
+use Rattle.dm_spell.specs.Keywords.{break_word, extern_word, int_word, long_word, void_word}
+use Rattle.dm_spell.specs.Punctuators.{comma, equals, left_brace, left_bracket, left_parenthesis, right_brace, right_bracket, right_parenthesis, semicolon}
 use Rattle.dm_token.specs.declared.place.Span.{Span}
 use Rattle.dm_token.specs.declared.token.Class.{Class}
 use Rattle.dm_token.specs.declared.token.Class.TheVariants.{Keyword, Identifier, Punctuator, Integer}
@@ -86,7 +88,7 @@ kinds_of tokens externals = kinds_in (typed_unit [] tokens externals)
 -- int a; long a;
 abbrev pub twice_tokens : List CToken
 twice_tokens =
-    keyword 13 ∷ identifier (codes "a") ∷ punctuator 32 ∷ keyword 14 ∷ identifier (codes "a") ∷ punctuator 32 ∷ []
+    keyword int_word ∷ identifier (codes "a") ∷ punctuator semicolon ∷ keyword long_word ∷ identifier (codes "a") ∷ punctuator semicolon ∷ []
 
 abbrev pub twice : List External
 twice = declared 0 3 (word 0) 1 2 (tree.declared 1) ∷ declared 3 6 (word 3) 4 5 (tree.declared 4) ∷ []
@@ -94,7 +96,7 @@ twice = declared 0 3 (word 0) 1 2 (tree.declared 1) ∷ declared 3 6 (word 3) 4 
 -- int f(void) { break; }
 abbrev pub loose_tokens : List CToken
 loose_tokens =
-    keyword 13 ∷ identifier (codes "f") ∷ punctuator 2 ∷ keyword 24 ∷ punctuator 3 ∷ punctuator 4 ∷ keyword 0 ∷ punctuator 32 ∷ punctuator 5 ∷ []
+    keyword int_word ∷ identifier (codes "f") ∷ punctuator left_parenthesis ∷ keyword void_word ∷ punctuator right_parenthesis ∷ punctuator left_brace ∷ keyword break_word ∷ punctuator semicolon ∷ punctuator right_brace ∷ []
 
 abbrev pub loose : List External
 loose = function 0 9 (tree.break (span 6 8)) ∷ []
@@ -102,8 +104,8 @@ loose = function 0 9 (tree.break (span 6 8)) ∷ []
 -- int a[1] = {1, 2};
 abbrev pub surplus_tokens : List CToken
 surplus_tokens =
-    keyword 13 ∷ identifier (codes "a") ∷ punctuator 0 ∷ int 1 ∷ punctuator 1 ∷ punctuator 34 ∷ punctuator 4 ∷ int 1 ∷ punctuator 45 ∷ int 2
-    ∷ punctuator 5 ∷ punctuator 32 ∷ []
+    keyword int_word ∷ identifier (codes "a") ∷ punctuator left_bracket ∷ int 1 ∷ punctuator right_bracket ∷ punctuator equals ∷ punctuator left_brace ∷ int 1 ∷ punctuator comma ∷ int 2
+    ∷ punctuator right_brace ∷ punctuator semicolon ∷ []
 
 abbrev item : ℕ → Initialiser
 item at = tree.value (span at (at + 1)) (constant at)
@@ -119,8 +121,8 @@ surplus =
 -- extern int a[]; int a[2];
 abbrev pub completed_tokens : List CToken
 completed_tokens =
-    keyword 9 ∷ keyword 13 ∷ identifier (codes "a") ∷ punctuator 0 ∷ punctuator 1 ∷ punctuator 32
-    ∷ keyword 13 ∷ identifier (codes "a") ∷ punctuator 0 ∷ int 2 ∷ punctuator 1 ∷ punctuator 32 ∷ []
+    keyword extern_word ∷ keyword int_word ∷ identifier (codes "a") ∷ punctuator left_bracket ∷ punctuator right_bracket ∷ punctuator semicolon
+    ∷ keyword int_word ∷ identifier (codes "a") ∷ punctuator left_bracket ∷ int 2 ∷ punctuator right_bracket ∷ punctuator semicolon ∷ []
 
 abbrev pub completed : List External
 completed =

@@ -4,6 +4,7 @@
 --     number_here standing entry      the number of its entry, and `declared_here standing entry` what is known behind its declarator
 --     with_whole_kinds linked n declared      entries, from a number on, with the types that all declarations together say
 use Rattle.std.specs.Prelude.{ℕ, zero, suc, ◌+◌, Bool, true, false, ◌&&◌, ◌||◌, ◌==◌, if◌then◌else◌, List, [], ◌∷◌, ◌++◌, length, Option, Some, None, unwrap_or, is_some, slice_get, bytes_eq}
+use Rattle.dm_spell.specs.Keywords.{extern_word, typedef_word}
 use Rattle.dm_type.specs.Alike.{are_compatible, composite}
 use Rattle.dm_type.specs.CTypes.{CType}
 use Rattle.dm_scope.specs.Scopes.{number_of, is_declared, declared as declared_in}
@@ -32,7 +33,7 @@ pub data Storage : Type 0 where
 -- the first of some, by their rows in the table of keywords (6.4.1)
 abbrev pub storage_of : List ℕ → Storage
 storage_of [] = unsaid
-storage_of (row ∷ rows) = if row == 22 then typedef else if row == 9 then extern else static
+storage_of (row ∷ rows) = if row == typedef_word then typedef else if row == extern_word then extern else static
 
 abbrev pub is_extern : Storage → Bool
 is_extern extern = true

@@ -46,59 +46,62 @@ declarable-by said s initialised here name entry next =
     let object = may_be_object s.known said.storage initialised entry.sort (kind_seen s entry) in
     let main = may_be_main s.known entry in
     let last = broken_unless main 36 name None in
-    ap (λ p. keeps static 3 said.first (keeps may 2 name (keeps object 5 here p))) (keeps-by main 36 name None next)
-    ∙ ap (λ p. keeps static 3 said.first (keeps may 2 name p)) (keeps-by object 5 here last next)
-    ∙ ap (λ p. keeps static 3 said.first p) (keeps-by may 2 name (broken_unless object 5 here last) next)
-    ∙ keeps-by static 3 said.first (broken_unless may 2 name (broken_unless object 5 here last)) next
+    ap (λ p. keeps may 2 name (keeps static 3 said.first (keeps object 5 here p))) (keeps-by main 36 name None next)
+    ∙ ap (λ p. keeps may 2 name (keeps static 3 said.first p)) (keeps-by object 5 here last next)
+    ∙ ap (λ p. keeps may 2 name p) (keeps-by static 3 said.first (broken_unless object 5 here last) next)
+    ∙ keeps-by may 2 name (broken_unless static 3 said.first (broken_unless object 5 here last)) next
 
 none-first : (test : Bool) (rule at : ℕ) (broken : Option (ℕ × ℕ)) → broken_unless test rule at broken ≡ None → test ≡ true
 none-first true rule at broken h = refl
 none-first false rule at broken h = absurd (cc)
 
+none-then : (test : Bool) (rule at : ℕ) (broken : Option (ℕ × ℕ)) → broken_unless test rule at broken ≡ None → broken ≡ None
+none-then true rule at broken h = h
+none-then false rule at broken h = absurd (cc)
+
 pub not-misplaced : (said : Specified) (s : Standing) (initialised : Bool) (here name : ℕ) (entry : Declaration) → rule_broken said s initialised here name entry ≡ None
     → is_misplaced_static s.known said.storage entry.sort ≡ false
 not-misplaced said s initialised here name entry h =
-    not-true (is_misplaced_static s.known said.storage entry.sort) (none-first (not (is_misplaced_static s.known said.storage entry.sort)) 3 said.first _ h)
+    not-true (is_misplaced_static s.known said.storage entry.sort)
+    (none-first (not (is_misplaced_static s.known said.storage entry.sort)) 3 said.first _ (none-then (may_be_declared s entry) 2 name _ h))
 
 -- the rule that the tests come to
-pub third-rule : (said : Specified) (s : Standing) (initialised : Bool) (here name : ℕ) (entry : Declaration) → is_misplaced_static s.known said.storage entry.sort ≡ true
-    → rule_broken said s initialised here name entry ≡ Some (3, said.first)
-third-rule said s initialised here name entry a =
-    let object = may_be_object s.known said.storage initialised entry.sort (kind_seen s entry) in
-    let rest = broken_unless (may_be_declared s entry) 2 name (broken_unless object 5 here (broken_unless (may_be_main s.known entry) 36 name None)) in
-    ap (λ test. broken_unless (not test) 3 said.first rest) a
+module _ (said : Specified) (s : Standing) (initialised : Bool) (here name : ℕ) (entry : Declaration) where
+  last_of : Option (ℕ × ℕ)
+  last_of = broken_unless (may_be_main s.known entry) 36 name None
 
-module _ (said : Specified) (s : Standing) (initialised : Bool) (here name : ℕ) (entry : Declaration) (a : is_misplaced_static s.known said.storage entry.sort ≡ false) where
   after-third : Option (ℕ × ℕ)
-  after-third =
-      broken_unless (may_be_declared s entry) 2 name
-      (broken_unless (may_be_object s.known said.storage initialised entry.sort (kind_seen s entry)) 5 here (broken_unless (may_be_main s.known entry) 36 name None))
+  after-third = broken_unless (may_be_object s.known said.storage initialised entry.sort (kind_seen s entry)) 5 here last_of
 
-  not-third : rule_broken said s initialised here name entry ≡ after-third
-  unfolding after-third
-  not-third = ap (λ test. broken_unless (not test) 3 said.first after-third) a
+  after-second : Option (ℕ × ℕ)
+  after-second = broken_unless (not (is_misplaced_static s.known said.storage entry.sort)) 3 said.first after-third
 
   pub second-rule : may_be_declared s entry ≡ false → rule_broken said s initialised here name entry ≡ Some (2, name)
-  unfolding after-third
-  second-rule b =
-      not-third ∙ ap (λ test. broken_unless test 2 name
-      (broken_unless (may_be_object s.known said.storage initialised entry.sort (kind_seen s entry)) 5 here (broken_unless (may_be_main s.known entry) 36 name None))) b
+  unfolding after-second after-third last_of
+  second-rule b = ap (λ test. broken_unless test 2 name after-second) b
 
   module _ (b : may_be_declared s entry ≡ true) where
-    not-second : rule_broken said s initialised here name entry
-        ≡ broken_unless (may_be_object s.known said.storage initialised entry.sort (kind_seen s entry)) 5 here (broken_unless (may_be_main s.known entry) 36 name None)
-    unfolding after-third
-    not-second =
-        not-third ∙ ap (λ test. broken_unless test 2 name
-        (broken_unless (may_be_object s.known said.storage initialised entry.sort (kind_seen s entry)) 5 here (broken_unless (may_be_main s.known entry) 36 name None))) b
+    not-second : rule_broken said s initialised here name entry ≡ after-second
+    unfolding after-second after-third last_of
+    not-second = ap (λ test. broken_unless test 2 name after-second) b
 
-    pub fifth-rule : may_be_object s.known said.storage initialised entry.sort (kind_seen s entry) ≡ false → rule_broken said s initialised here name entry ≡ Some (5, here)
-    fifth-rule c = not-second ∙ ap (λ test. broken_unless test 5 here (broken_unless (may_be_main s.known entry) 36 name None)) c
+    pub third-rule : is_misplaced_static s.known said.storage entry.sort ≡ true → rule_broken said s initialised here name entry ≡ Some (3, said.first)
+    unfolding after-second
+    third-rule a = not-second ∙ ap (λ test. broken_unless (not test) 3 said.first after-third) a
 
-    pub last-rule : may_be_object s.known said.storage initialised entry.sort (kind_seen s entry) ≡ true → (may : Bool) → may_be_main s.known entry ≡ may
-        → rule_broken said s initialised here name entry ≡ broken_unless may 36 name None
-    last-rule c may d =
-        not-second ∙ ap (λ test. broken_unless test 5 here (broken_unless (may_be_main s.known entry) 36 name None)) c ∙ ap (λ test. broken_unless test 36 name None) d
+    module _ (a : is_misplaced_static s.known said.storage entry.sort ≡ false) where
+      not-third : rule_broken said s initialised here name entry ≡ after-third
+      unfolding after-second
+      not-third = not-second ∙ ap (λ test. broken_unless (not test) 3 said.first after-third) a
+
+      pub fifth-rule : may_be_object s.known said.storage initialised entry.sort (kind_seen s entry) ≡ false → rule_broken said s initialised here name entry ≡ Some (5, here)
+      unfolding after-third
+      fifth-rule c = not-third ∙ ap (λ test. broken_unless test 5 here last_of) c
+
+      pub last-rule : may_be_object s.known said.storage initialised entry.sort (kind_seen s entry) ≡ true → (may : Bool) → may_be_main s.known entry ≡ may
+          → rule_broken said s initialised here name entry ≡ broken_unless may 36 name None
+      unfolding after-third last_of
+      last-rule c may d = not-third ∙ ap (λ test. broken_unless test 5 here last_of) c ∙ ap (λ test. broken_unless test 36 name None) d
 
 -- ---- behind a declarator
 

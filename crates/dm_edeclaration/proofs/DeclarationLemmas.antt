@@ -35,7 +35,7 @@ use Rattle.dm_edecl.specs.Declaring.{Specified, specified, is_alone, typed_decla
 use Rattle.dm_estanding.specs.declared.standing.Standing.{Standing as Held}
 use Rattle.dm_estanding.specs.Proceeding.{Proceeds}
 use Rattle.dm_estanding.specs.Summaries.{StandsFor}
-use Rattle.dm_estanding.proofs.ProceedingLemmas.{Arrives, starts, restated, holds, passes, fails, done, breaks, collects, collect-fails}
+use Rattle.dm_estanding.proofs.ProceedingLemmas.{Arrives, starts, restated, holds, passes, fails, done, breaks, collects}
 use Rattle.dm_edeclaration.specs.declared.items.TypedLocal.{TypedLocal}
 use Rattle.dm_edeclaration.specs.declared.items.TypedLocals.{TypedLocals}
 use Rattle.dm_edeclaration.specs.declared.specified.Specification.{Specification}
@@ -80,10 +80,6 @@ module _ (setting : Setting) (source : Source) (said : Specification) (node : In
       item-split setting (specified_over later said) before (syntax.item node)
       ∙ ap (λ declarator. collecting before (typed_declarator setting before.known (type_over later said.kind) declarator) (item-next later)) (declarator-seen node))
 
-  pub item-untyped : (new : Held) (fault : Stop) → Follows IsId type_over source now.known new.known (Err fault) (λ later. item-type later (known_over later now.known))
-      → Proceeds TypedFits typed_over source now new (Err fault) item-whole
-  item-untyped new fault f = collect-fails IsId type_over source now now new item-whole item-type item-next item-starts TypedFits typed_over fault f
-
   module _ (typed : Known-held) (mid : Held) (kind : ℕ) (constants : List Core) (f : Follows IsId type_over source now.known typed (Ok kind) (λ later. item-type later (known_over later now.known)))
       (same : SameBesideConstants typed mid.known) (none : mid.known.constants ≡ []) (taken : constants ≡ typed.constants) (links : mid.links ≡ now.links)
       (retyped : mid.retyped.items ≡ now.retyped.items) where
@@ -116,10 +112,6 @@ module _ (setting : Setting) (source : Source) (said : Specification) (node : In
 -- the rest of them, behind some
 abbrev pub rest_items : Setting → Specified → Together → List Item → Standing → Progress Together
 rest_items setting said all items standing = further (typed_items setting said standing items) (λ behind more. goes_on behind (together_behind all more))
-
-pub items-start : (setting : Setting) (said : Specified) (items : List Item) (s : Standing)
-    → together (typed_items setting said s items) ≡ rest_items setting said (record { constants = []; declarators = []; expressions = [] }) items s
-items-start setting said items s = refl
 
 items-more : (all : Together) (one : Progress Local) (rest : Standing → Progress (List Local))
     → further (further one (λ then_standing made. further (rest then_standing) (λ behind more. goes_on behind (made ∷ more)))) (λ behind more. goes_on behind (together_behind all more))
@@ -285,11 +277,6 @@ module _ (setting : Setting) (source : Source) (node : DeclarationHeld) (now : H
       declaration-split setting before node.span (syntax.specifiers node.specifiers) (syntax.items node.items)
       ∙ ap (λ test. collecting before (specified setting of_declaration test before.known (syntax.specifiers node.specifiers)) (declaration-next setting (syntax.items node.items))) (sym alone-is)
       ∙ ap (λ list. collecting before (specified setting of_declaration alone before.known (syntax.specifiers node.specifiers)) (declaration-next setting (syntax.items list))) (sym nodes-are))
-
-  pub declaration-unsaid : (new : Held) (fault : Stop) → Follows SpecifiedFits specified_over source now.known new.known (Err fault) (λ later. declaration-run later (known_over later now.known))
-      → Proceeds ItemsFit items_over source now new (Err fault) declaration-whole
-  declaration-unsaid new fault f =
-      collect-fails SpecifiedFits specified_over source now now new declaration-whole declaration-run declaration-rest declaration-starts ItemsFit items_over fault f
 
   module _ (typed : Known-held) (mid : Held) (said : Specification) (constants : List Core)
       (f : Follows SpecifiedFits specified_over source now.known typed (Ok said) (λ later. declaration-run later (known_over later now.known))) (same : SameBesideConstants typed mid.known)

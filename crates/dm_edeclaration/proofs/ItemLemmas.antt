@@ -405,18 +405,6 @@ module _ (entry : Declaration) (number here at : ℕ) (source : Source) (now new
         );
   }
 
-  pub twice-defined : (fault : Stop) → ((later : List Shape) → Begins now.known.types.shapes later → (s : Standing) → StandsFor later now.known now.links s → may_define s number (type_over later kind) ≡ false)
-      → fault ≡ stop.Refused (refusal_at source 2 at) → (P : Standing → Type 0) → ProceedsWhere P LocalFits bare_over source now now (Err fault) defined-of
-  twice-defined fault may same P =
-      subst (λ f. ProceedsWhere P LocalFits bare_over source now now (Err f) defined-of) (sym same)
-      (record {
-        shapes = begins-itself now.known.types.shapes;
-        numbered = tt;
-        within = tt;
-        gives = λ later on s stands lawful named.
-            (2, at, ap (λ test. defined-left test (is_complete s.known (type_over later kind)) later s) (may later on s stands), refl);
-      })
-
   pub never-whole : (fault : Stop) → ((later : List Shape) → Begins now.known.types.shapes later → (s : Standing) → StandsFor later now.known now.links s → may_define s number (type_over later kind) ≡ true)
       → ((later : List Shape) → Begins now.known.types.shapes later → is_complete (known_over later now.known) (type_over later kind) ≡ false)
       → fault ≡ stop.Refused (refusal_at source 5 here) → (P : Standing → Type 0) → ProceedsWhere P LocalFits bare_over source now now (Err fault) defined-of

@@ -1,19 +1,17 @@
 -- What the code has on the way through declarations.
-use Rattle.std.specs.Prelude.{◌≡◌, ℕ, Bool, true, List, [], ◌∷◌, ◌++◌, length, map, Option, Some, None, refl}
+use Rattle.std.specs.Prelude.{◌≡◌, ℕ, Bool, true, List, [], ◌∷◌, ◌++◌, length, Option, Some, None}
 use Rattle.std.proofs.Common.{rules, sym, ap, ◌∙◌, append-nil, append_assoc}
-use Rattle.std.proofs.lemmas.List.{map-append}
 use Rattle.dm_type.specs.declared.shape.Shape.{Shape}
 use Rattle.dm_type.specs.Tables.{Table}
-use Rattle.dm_tree.specs.declared.tree.Core.{Core}
 use Rattle.dm_tree.specs.declared.tree.Core as q
 use Rattle.dm_tree.specs.declared.tree.Initial.{Initial as InitialHeld}
 use Rattle.dm_tree.specs.declared.tree.Local.{Local as LocalHeld}
 use Rattle.dm_tree.specs.TypeNumbers.{are_known_in_local}
-use Rattle.dm_tree.specs.Views.{OpenedLocal, declarators_of, expressions_of_locals}
+use Rattle.dm_tree.specs.Views.{OpenedLocal, declarators_of}
 use Rattle.dm_typing.specs.Known.{Known, Setting}
 use Rattle.dm_typing.specs.Specifiers.{nothing_said, Where}
 use Rattle.dm_typing.specs.Typing.{words_said, typed_said, steps_of}
-use Rattle.dm_typing.specs.Views.{Begins, view_over}
+use Rattle.dm_typing.specs.Views.{Begins}
 use Rattle.dm_syn.specs.Trees.{Specifiers}
 use Rattle.dm_syn.specs.Trees as tree
 use Rattle.dm_typing.proofs.LaterLemmas.{trees-later}
@@ -23,7 +21,7 @@ use Rattle.dm_edecl.specs.Declaring as declaring
 use Rattle.dm_einitial.specs.Steps.{initial_over, InitialFits, are_known_in_initial}
 use Rattle.dm_einitial.proofs.InitialLemmas.{initial-later}
 use Rattle.dm_edeclaration.specs.declared.items.TypedLocals.{TypedLocals}
-use Rattle.dm_edeclaration.specs.Steps.{local_seen, opened_over, bare_over, LocalFits, typed_over, Together, joined, items_over, ItemsFit}
+use Rattle.dm_edeclaration.specs.Steps.{local_seen, opened_over, bare_over, LocalFits, Together, joined, ItemsFit}
 
 -- ---- specifiers and declarators
 
@@ -89,30 +87,6 @@ opened-number later local = go local.declared local.defines local.initial
     go number defines (Some initial) = ap (λ (it : OpenedLocal). it.declarator.declared) (opened-initialised later number defines initial)
 
 -- ---- the declarators of a declaration
-
-expressions-append : (one other : List OpenedLocal) → expressions_of_locals (one ++ other) ≡ expressions_of_locals one ++ expressions_of_locals other
-expressions-append [] other = refl
-expressions-append (first ∷ one) other =
-    ap (λ list. first.expressions ++ list) (expressions-append one other) ∙ sym (append_assoc first.expressions (expressions_of_locals one) (expressions_of_locals other))
-
-declarators-append : (one other : List OpenedLocal) → declarators_of (one ++ other) ≡ declarators_of one ++ declarators_of other
-declarators-append one other = map-append (λ (it : OpenedLocal). it.declarator) one other
-
--- one more
-pub items-push : (later : List Shape) (constants more : List Core) (locals : List LocalHeld) (local : LocalHeld)
-    → items_over later (record { constants = constants ++ more; locals = locals ++ local ∷ [] })
-    ≡ joined (items_over later (record { constants = constants; locals = locals })) (typed_over later (record { constants = more; local = local }))
-items-push later constants more locals local =
-    let f = opened_over later in
-    let parts : List OpenedLocal = map f locals in
-    let all = map-append f locals (local ∷ []) in
-    ap (λ trees. record { constants = trees; declarators = declarators_of (map f (locals ++ local ∷ [])); expressions = expressions_of_locals (map f (locals ++ local ∷ [])) })
-    (map-append (view_over later) constants more)
-    ∙ ap (λ list. record { constants = map (view_over later) constants ++ map (view_over later) more; declarators = declarators_of list; expressions = expressions_of_locals list }) all
-    ∙ ap (λ list. record { constants = map (view_over later) constants ++ map (view_over later) more; declarators = list; expressions = expressions_of_locals (parts ++ f local ∷ []) })
-    (declarators-append parts (f local ∷ []))
-    ∙ ap (λ list. record { constants = map (view_over later) constants ++ map (view_over later) more; declarators = declarators_of parts ++ (f local).declarator ∷ []; expressions = list })
-    (expressions-append parts (f local ∷ []) ∙ ap (λ list. expressions_of_locals parts ++ list) (append-nil (f local).expressions))
 
 -- a list behind some
 abbrev pub together_behind : Together → List Local → Together

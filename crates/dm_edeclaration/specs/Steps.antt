@@ -60,8 +60,8 @@ broken_unless false rule at next = Some (rule, at)
 
 abbrev pub rule_broken : Specified → Standing → Bool → ℕ → ℕ → Declaration → Option (ℕ × ℕ)
 rule_broken said standing initialised here name entry =
-    broken_unless (not (is_misplaced_static standing.known said.storage entry.sort)) 3 said.first
-    (broken_unless (may_be_declared standing entry) 2 name
+    broken_unless (may_be_declared standing entry) 2 name
+    (broken_unless (not (is_misplaced_static standing.known said.storage entry.sort)) 3 said.first
     (broken_unless (may_be_object standing.known said.storage initialised entry.sort (kind_seen standing entry)) 5 here
     (broken_unless (may_be_main standing.known entry) 36 name None)))
 

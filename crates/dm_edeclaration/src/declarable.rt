@@ -106,11 +106,11 @@ pub fn declarable(
     ensures numbered { IfOk result (IsId known.new.types) }
     ensures grows { Grows known.old known.new }
 {
-    if is_misplaced_static(known, said.storage, entry.sort) {
-        return Err(typer.broken(3, said.first));
-    }
     if !may_be_declared(known, links, entry) {
         return Err(typer.broken(2, name));
+    }
+    if is_misplaced_static(known, said.storage, entry.sort) {
+        return Err(typer.broken(3, said.first));
     }
     let kind = kind_seen(known, links, entry)?;
     if !may_be_object(known, said.storage, initialised, entry.sort, kind) {

@@ -7,7 +7,8 @@ use Rattle.std.proofs.lemmas.List.Elements.{All-head, All-tail}
 use Rattle.dm_type.specs.declared.layout.Layout.{Layout}
 use Rattle.dm_type.specs.declared.shape.Shape.{Shape}
 use Rattle.dm_type.specs.CTypes.{CType, void, integer, pointer, array, struct, function, const, bare}
-use Rattle.dm_type.specs.Layouts.{layout_of, size_of, times, repeated, greatest_size}
+use Rattle.dm_token.specs.Limits.{most_type_bytes}
+use Rattle.dm_type.specs.Layouts.{layout_of, size_of, times, repeated}
 use Rattle.dm_type.specs.Tables.{Table, IsId}
 use Rattle.dm_token.specs.declared.place.Span.{Span}
 use Rattle.dm_syn.specs.declared.declaration.Declarator.{Declarator}
@@ -94,20 +95,20 @@ not-not false = refl
 
 -- an array of complete elements is complete if it isn't too large
 pub array-fits : (known : Known) (type : CType) (n size : ℕ) → size_of known.types type ≡ Some size
-    → (is_complete known type && length_fits known type (Some n)) ≡ nat_le (n * size) greatest_size
+    → (is_complete known type && length_fits known type (Some n)) ≡ nat_le (n * size) most_type_bytes
 array-fits known type n size h = go (layout_of known.types type) h
   where
     go : (found : Option Layout) → option_map (λ (layout : Layout). layout.size) found ≡ Some size
-        → (is_some (option_map (λ (layout : Layout). layout.size) found) && is_some (option_map (λ (layout : Layout). layout.size) (times (Some n) found))) ≡ nat_le (n * size) greatest_size
+        → (is_some (option_map (λ (layout : Layout). layout.size) found) && is_some (option_map (λ (layout : Layout). layout.size) (times (Some n) found))) ≡ nat_le (n * size) most_type_bytes
     go None h = absurd (cc)
-    go (Some layout) h = let e : layout.size ≡ size = cc in fitting (nat_le (n * layout.size) greatest_size) ∙ ap (λ s. nat_le (n * s) greatest_size) e
+    go (Some layout) h = let e : layout.size ≡ size = cc in fitting (nat_le (n * layout.size) most_type_bytes) ∙ ap (λ s. nat_le (n * s) most_type_bytes) e
       where
         fitting : (test : Bool) → is_some (option_map (λ (layout : Layout). layout.size) (if test then Some (repeated n layout) else None)) ≡ test
         fitting true = refl
         fitting false = refl
 
-pub array-known : (known : Known) (type : CType) (n size : ℕ) → Some size ≡ size_of known.types type → n * size ≤ greatest_size → (is_complete known type && length_fits known type (Some n)) ≡ true
-array-known known type n size h few = array-fits known type n size (sym h) ∙ le-leb (n * size) greatest_size few
+pub array-known : (known : Known) (type : CType) (n size : ℕ) → Some size ≡ size_of known.types type → n * size ≤ most_type_bytes → (is_complete known type && length_fits known type (Some n)) ≡ true
+array-known known type n size h few = array-fits known type n size (sym h) ∙ le-leb (n * size) most_type_bytes few
 
 -- tests of types, whatever numbers come
 pub fits-later : (later : List Shape) (held : Held) (one other : CType) (n : ℕ) → one ≡ other

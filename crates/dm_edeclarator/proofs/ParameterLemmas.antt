@@ -1,27 +1,29 @@
 -- Parameters whose types are no functions.
-use Rattle.std.specs.Prelude.{◌≡◌, ℕ, false, not, List, Option}
+use Rattle.std.specs.Prelude.{◌≡◌, ℕ, true, false, not, List, Option, unwrap_or}
 use Rattle.std.proofs.Common.{sym, ap, ap₂, ◌∙◌}
 use Rattle.dm_type.specs.declared.shape.Shape.{Shape}
 use Rattle.dm_type.specs.Tables.{type_of, IsId}
 use Rattle.dm_tree.specs.Scenes.{is_function}
 use Rattle.dm_typing.specs.declared.known.Known.{Known as Held}
 use Rattle.dm_typing.specs.declared.typer.Typer.{Typer}
-use Rattle.dm_typing.specs.Typing.{typed_parameter, parameter_declared, adjusted}
+use Rattle.dm_typing.specs.Typing.{typed_parameter, is_new_parameter, parameter_declared, adjusted}
 use Rattle.dm_typing.specs.Views.{Begins, type_over, known_over, setting_of, Grows}
 use Rattle.dm_typing.proofs.GivesLemmas.{obeyed, grown}
 use Rattle.dm_typing.proofs.LaterLemmas.{begins-on, type-later}
 use Rattle.dm_edeclarator.proofs.ReachLemmas.{Reaches}
 
--- it is declared with its type, that of an array being a pointer
-pub parameter-reaches : (typer : Typer) (old mid : Held) (here kind made : ℕ) (name : Option ℕ) → Grows old mid → IsId old.types kind → is_function (type_of old.types kind) ≡ false
+-- its name is new, and it is declared with its type, that of an array being a pointer
+pub parameter-reaches : (typer : Typer) (old mid : Held) (here kind made : ℕ) (name : Option ℕ) → Grows old mid → IsId old.types kind
+    → ((later : List Shape) → is_new_parameter (setting_of typer) (known_over later old) name ≡ true) → is_function (type_of old.types kind) ≡ false
     → ((later : List Shape) → Begins mid.types.shapes later → type_over later made ≡ adjusted (type_over later kind))
     → Reaches old mid (λ later. typed_parameter (setting_of typer) (known_over later old) here (type_over later kind) name)
     (λ later. parameter_declared (setting_of typer) (known_over later mid) (type_over later made) name)
-parameter-reaches typer old mid here kind made name grows inside plain is = record {
+parameter-reaches typer old mid here kind made name grows inside new plain is = record {
   shapes = grows.shapes;
   is = λ later on.
       let before = begins-on old.types.shapes mid.types.shapes later grows.shapes on in
-      obeyed (not (is_function (type_over later kind))) 5 here (parameter_declared (setting_of typer) (known_over later old) (adjusted (type_over later kind)) name)
+      obeyed (is_new_parameter (setting_of typer) (known_over later old) name) 2 (unwrap_or name here) _ (new later)
+      ∙ obeyed (not (is_function (type_over later kind))) 5 here (parameter_declared (setting_of typer) (known_over later old) (adjusted (type_over later kind)) name)
       (ap (λ type. not (is_function type)) (type-later old.types.shapes later kind before inside) ∙ ap not plain)
       ∙ ap₂ (λ known type. parameter_declared (setting_of typer) known type name) (grown later old mid grows) (sym (is later on));
 }

@@ -17,14 +17,11 @@ use crate::places::add_constant;
 use crate::specifiers::with_const_said;
 use dm_enames::tags::declare;
 use dm_syn::{Declarator, Direct, Parameter};
-use dm_token::{List, Memory, Stop};
+use dm_token::{List, MOST_TYPE_BYTES, Memory, Stop};
 use dm_tree::{Core, Declared, Linkage, Sort, constant};
 use dm_type::{Shape, TypeId};
 use dm_typing::looks::{bare, elements, is_array, is_complete, is_function, is_void};
 use dm_typing::{Known, Typer};
-
-/// The greatest size of a type, in bytes.
-const MOST_BYTES: u128 = 1073741824;
 
 /// A parameter: its type, and the number of its declaration if it is named.
 #[derive(Clone, Copy, Drop)]
@@ -361,7 +358,7 @@ pub fn length_of(typer: &Typer<'_>, known: &mut Known, here: u32, tree: Core) ->
     }
 }
 
-/// No parameter is a function (C5), and one that is an array is a pointer (6.7.6.3p7).
+/// A parameter is declared once in its list (C2) and is no function (C5), and one that is an array is a pointer (6.7.6.3p7).
 pub fn typed_parameter(
     typer: &Typer<'_>,
     known: &mut Known,
@@ -373,6 +370,10 @@ pub fn typed_parameter(
     ensures { Follows ParameterFits parameter_over (source_of typer.now) known.old known.new result
         (λ later. typing.typed_parameter (setting_of typer.now) (known_over later known.old) here (type_over later kind) name) }
 {
+    let is_new = is_new_parameter(typer, known, name)?;
+    if !is_new {
+        return Err(typer.broken(2, name.unwrap_or(here)));
+    }
     if is_function(&known.types, kind) {
         return Err(typer.broken(5, here));
     }
@@ -385,6 +386,19 @@ pub fn typed_parameter(
         Some(at) => {
             let made = parameter_declared(typer, known, kind, at)?;
             Ok(made)
+        }
+    }
+}
+
+/// Whether a parameter has no name, or one that isn't declared in its list so far.
+fn is_new_parameter(typer: &Typer<'_>, known: &Known, name: Option<u32>) -> Result<bool, Memory>
+    ensures { IfOk result (λ is_new. (later : List OneShape) → is_new ≡ typing.is_new_parameter (setting_of typer.now) (known_over later known.now) name) }
+{
+    match name {
+        None => Ok(true),
+        Some(at) => {
+            let name = typer.spelling(at)?;
+            Ok(!known.scopes.is_declared(&name))
         }
     }
 }
@@ -405,7 +419,7 @@ fn adjusted(typer: &Typer<'_>, known: &mut Known, kind: TypeId) -> Result<TypeId
     }
 }
 
-/// A parameter is declared once in its list (C2).
+/// A parameter with a name.
 fn parameter_declared(
     typer: &Typer<'_>,
     known: &mut Known,
@@ -417,9 +431,6 @@ fn parameter_declared(
         (λ later. typing.parameter_declared (setting_of typer.now) (known_over later known.old) (type_over later kind) (Some at)) }
 {
     let name = typer.spelling(at)?;
-    if known.scopes.is_declared(&name) {
-        return Err(typer.broken(2, at));
-    }
     let Ok(number) = u32::try_from(known.declared.len()) else {
         return Err(Stop::from(Memory));
     };
@@ -456,7 +467,7 @@ fn array_length(known: &Known, kind: TypeId, length: u128) -> Option<u64>
 {
     let size = known.types.size(kind)?;
     let bytes = u128::from(size).checked_mul(length)?;
-    if bytes > MOST_BYTES {
+    if bytes > MOST_TYPE_BYTES {
         return None;
     }
     u64::try_from(length).ok()

@@ -1,6 +1,7 @@
 //! Lists of specifiers (6.7.1 to 6.7.4).
 
 ghost use Rattle.std.specs.Prelude.{◌≡◌, ◌==◌, ◌||◌, not, List, [], ◌∷◌, IfOk, IfSome, Some, None, if◌then◌else◌, option_map, slice_get, ◌≤◌};
+ghost use Rattle.dm_spell.specs.Keywords.{int_word, long_word, short_word, signed_word, unsigned_word, void_word, bool_word};
 ghost use Rattle.dm_type.specs.declared.shape.Shape.{Shape as OneShape};
 ghost use Rattle.dm_type.specs.CTypes.{CType};
 ghost use Rattle.dm_type.specs.Tables.{Table, IsId, IsShape, written_out};
@@ -12,37 +13,14 @@ ghost use Rattle.dm_edeclarator.specs.Steps.{where_of, said_over, SaidFits, word
 ghost use Rattle.dm_typing.specs.Views.{Begins, type_over, known_over, source_of, Gives, Grows};
 
 use dm_int::Kind;
+use dm_spell::keyword::{
+    BOOL, CHAR, CONST, EXTERN, INLINE, INT, LONG, SHORT, SIGNED, STATIC, TYPEDEF, UNSIGNED, VOID,
+};
 use dm_token::{List, Memory, Stop};
 use dm_type::{Shape, TypeId};
 use dm_typing::looks::is_function;
 use dm_typing::{Known, Typer};
 use std::alloc::Global;
-
-const CHAR: u16 = 2;
-
-const CONST: u16 = 3;
-
-const EXTERN: u16 = 9;
-
-const INLINE: u16 = 12;
-
-const INT: u16 = 13;
-
-const LONG: u16 = 14;
-
-const SHORT: u16 = 16;
-
-const SIGNED: u16 = 17;
-
-const STATIC: u16 = 19;
-
-const TYPEDEF: u16 = 22;
-
-const UNSIGNED: u16 = 23;
-
-const VOID: u16 = 24;
-
-const BOOL: u16 = 26;
 
 /// Where specifiers stand.
 #[derive(Clone, Copy, Debug, PartialEq, Eq)]
@@ -265,7 +243,7 @@ fn are_words(words: &[u16], others: &[u16]) -> bool
 
 /// The same apart from `char`.
 fn are_other_words(words: &[u16], others: &[u16]) -> bool
-    ensures { result ≡ specifiers.count_alike (13 ∷ 14 ∷ 16 ∷ 17 ∷ 23 ∷ 24 ∷ 26 ∷ []) words.now others.now }
+    ensures { result ≡ specifiers.count_alike (int_word ∷ long_word ∷ short_word ∷ signed_word ∷ unsigned_word ∷ void_word ∷ bool_word ∷ []) words.now others.now }
 {
     is_as_often(INT, words, others)
         && (is_as_often(LONG, words, others)
@@ -274,7 +252,7 @@ fn are_other_words(words: &[u16], others: &[u16]) -> bool
 
 /// The same of `signed`, `unsigned`, `void` and `_Bool`.
 fn are_signs(words: &[u16], others: &[u16]) -> bool
-    ensures { result ≡ specifiers.count_alike (17 ∷ 23 ∷ 24 ∷ 26 ∷ []) words.now others.now }
+    ensures { result ≡ specifiers.count_alike (signed_word ∷ unsigned_word ∷ void_word ∷ bool_word ∷ []) words.now others.now }
 {
     is_as_often(SIGNED, words, others)
         && (is_as_often(UNSIGNED, words, others)

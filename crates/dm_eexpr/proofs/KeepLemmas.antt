@@ -36,7 +36,7 @@ use Rattle.dm_typing.specs.Conversions.{as_value, made, is_complete, complete_ta
 use Rattle.dm_typing.specs.Specifiers.{type_said, are_allowed, Said, Where, elsewhere, nothing_said}
 use Rattle.dm_edeclarator.specs.Steps.{enum_begun_with}
 use Rattle.dm_eexpr.specs.Parts.{begun_with}
-use Rattle.dm_typing.specs.Typing.{comma_of, may_be_used, is_name, is_function_label, number_if_struct, fields, is_file_scope, enumerator_entry, is_int, with_constant, length_fits, is_result, natural, parameter_entry, is_named, name_of, named, spelled, typed_sign, typed_operation, typed_update, new_struct, typed_index, typed_member, typed_arrow, typed_count, typed_prefix, typed_sizeof, typed_sizeof_name, typed_cast, typed_binary, typed_choice, typed_assignment, typed_call, tag_declared, tag_inside, tag_seen, struct_named, enum_named, with_new_struct, struct_begun, struct_ended, beginning, enumerator_declared, enumerator_implied, enumerator_valued, TypedMember, typed_field, typed_said, name_ended, Step, arraying, calling, derived, stepped, pointing, direct_at, length_of, typed_parameter, parameter_declared, adjusted, parameter_at, entered, left, extent, typed, typed_within, typed_values, typed_name, typed_specifiers, words_said, word_said, fields_of, fields_declared, fields_with, enumerators_of, enumerator_of, steps_of, direct_steps, parameters_of, parameter_of}
+use Rattle.dm_typing.specs.Typing.{comma_of, may_be_used, is_name, is_function_label, number_if_struct, fields, is_file_scope, enumerator_entry, is_int, with_constant, length_fits, is_result, natural, parameter_entry, is_named, name_of, named, spelled, typed_sign, typed_operation, typed_update, new_struct, typed_index, typed_member, typed_arrow, typed_count, typed_prefix, typed_sizeof, typed_sizeof_name, typed_cast, typed_binary, typed_choice, typed_assignment, typed_call, tag_declared, tag_inside, tag_seen, struct_named, enum_named, with_new_struct, struct_begun, struct_ended, beginning, enumerator_declared, enumerator_valued, TypedMember, typed_field, typed_said, name_ended, Step, arraying, calling, derived, stepped, pointing, direct_at, length_of, typed_parameter, is_new_parameter, parameter_declared, adjusted, parameter_at, entered, left, extent, typed, typed_within, typed_values, typed_name, typed_specifiers, words_said, word_said, fields_of, fields_declared, fields_with, enumerators_of, enumerator_of, steps_of, direct_steps, parameters_of, parameter_of}
 
 -- the number that a name has in the innermost scope
 abbrev pub number_inside : Scopes → List ℕ → Option ℕ
@@ -311,11 +311,9 @@ enum-begun-keeps setting known tag false = tag-keeps setting known tag (integer 
 enumerator-declared-keeps : (setting : Setting) (known : Known) (at : ℕ) (value : ℤ) → KeepsIn known (enumerator_declared setting known at value)
 enumerator-declared-keeps setting known at value =
     obeys-keeps known (not (is_declared known.scopes (spelling_at setting.source at))) 2 at _
+    (obeys-keeps known (is_int value) 7 at _
     (obeys-keeps known (not (is_file_scope known.scopes && bytes_eq (spelling_at setting.source at) (codes "main"))) 36 at _
-    (record { leads = declaring-keeps known (spelling_at setting.source at) (enumerator_entry setting at value) refl }))
-
-implied-keeps : (setting : Setting) (known : Known) (at : ℕ) (value : ℤ) → KeepsIn known (enumerator_implied setting known at value)
-implied-keeps setting known at value = obeys-keeps known (is_int value) 7 at _ (enumerator-declared-keeps setting known at value)
+    (record { leads = declaring-keeps known (spelling_at setting.source at) (enumerator_entry setting at value) refl })))
 
 valued-keeps : (setting : Setting) (known : Known) (at here : ℕ) (tree : Tree) → KeepsIn known (enumerator_valued setting known at here tree)
 valued-keeps setting known at here tree =
@@ -341,10 +339,12 @@ length-keeps known here tree = if-keeps known (option_and_then natural (constant
 
 pub parameter-keeps : (setting : Setting) (known : Known) (type : CType) (name : Option ℕ) → KeepsIn known (parameter_declared setting known type name)
 parameter-keeps setting known type None = stays Keeps known _ (keeps-itself known)
-parameter-keeps setting known type (Some at) = obeys-keeps known (not (is_declared known.scopes (spelling_at setting.source at))) 2 at _ (record { leads = declaring-keeps known (spelling_at setting.source at) (parameter_entry setting at type) refl })
+parameter-keeps setting known type (Some at) = record { leads = declaring-keeps known (spelling_at setting.source at) (parameter_entry setting at type) refl }
 
 typed-parameter-keeps : (setting : Setting) (known : Known) (here : ℕ) (type : CType) (name : Option ℕ) → KeepsIn known (typed_parameter setting known here type name)
-typed-parameter-keeps setting known here type name = obeys-keeps known (not (is_function type)) 5 here _ (parameter-keeps setting known (adjusted type) name)
+typed-parameter-keeps setting known here type name =
+    obeys-keeps known (is_new_parameter setting known name) 2 (unwrap_or name here) _
+    (obeys-keeps known (not (is_function type)) 5 here _ (parameter-keeps setting known (adjusted type) name))
 
 field-keeps : (setting : Setting) (known : Known) (here : ℕ) (name : Option ℕ) (before : List TypedMember) (type : CType) → KeepsIn known (typed_field setting known here name before type)
 field-keeps setting known here name before type = obeys-keeps known (is_complete known type) 5 here _ (obeys-keeps known (not (is_named (name_of setting name) before)) 6 (unwrap_or name here) _ (stays Keeps known _ (keeps-itself known)))
@@ -492,7 +492,7 @@ module _ (setting : Setting) where
         after-keeps known (enumerator_of setting used known last first) _ (enumerator-keeps used known last first) (λ behind value. enumerators-keep used behind value others)
 
     enumerator-keeps : (used : Bool) (known : Known) (last : ℤ) (enumerator : Enumerator) → KeepsIn known (enumerator_of setting used known last enumerator)
-    enumerator-keeps used known last (tree.bare span at) = implied-keeps setting known at (last +ℤ pos 1)
+    enumerator-keeps used known last (tree.bare span at) = enumerator-declared-keeps setting known at (last +ℤ pos 1)
     enumerator-keeps used known last (tree.valued span at value) =
         after-keeps known (typed setting used known value) _ (expr-keeps used known _ value) (λ behind made. valued-keeps setting behind at (expr_span value).first (as_value made))
 

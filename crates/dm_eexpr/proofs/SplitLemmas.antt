@@ -19,7 +19,7 @@ use Rattle.dm_typing.specs.Operators.{keyword_at}
 use Rattle.dm_typing.specs.Specifiers.{Said, nothing_said, with_word, with_type, Where, elsewhere}
 use Rattle.dm_edeclarator.specs.Steps.{typedef_said}
 use Rattle.dm_eexpr.specs.Parts.{valued, type_of_specifier, declared_type, typed_with, enumerator_with, array_steps, calling_steps}
-use Rattle.dm_typing.specs.Typing.{named, constant_tree, literal_tree, typed_index, typed_member, typed_arrow, typed_count, typed_prefix, typed_sizeof, typed_sizeof_name, typed_cast, typed_binary, typed_choice, typed_assignment, typed_call, comma_of, TypedName, TypedMember, Step, arraying, pointers, direct_at, derived, typed_parameter, parameter_at, name_ended, typed_said, enumerator_implied, typed, typed_within, typed_values, typed_name, typed_specifiers, words_said, word_said, fields_declared, fields_with, enumerator_of, steps_of, direct_steps, parameter_of}
+use Rattle.dm_typing.specs.Typing.{named, constant_tree, literal_tree, typed_index, typed_member, typed_arrow, typed_count, typed_prefix, typed_sizeof, typed_sizeof_name, typed_cast, typed_binary, typed_choice, typed_assignment, typed_call, comma_of, TypedName, TypedMember, Step, arraying, pointers, direct_at, derived, typed_parameter, parameter_at, name_ended, typed_said, enumerator_declared, typed, typed_within, typed_values, typed_name, typed_specifiers, words_said, word_said, fields_declared, fields_with, enumerator_of, steps_of, direct_steps, parameter_of}
 use Rattle.dm_edeclarator.proofs.ReachLemmas.{after-after}
 use Rattle.dm_eexpr.proofs.CycleLemmas.{after-valued, two-valued, second-valued, three-valued}
 use Rattle.dm_eexpr.proofs.SyntaxViewLemmas.{struct-none, struct-some, enum-none, enum-some}
@@ -155,7 +155,7 @@ module _ (setting : Setting) (used : Bool) (known : Known) where
   unfolding fields_declared
   declared-parts before span specifiers declarators = refl
 
-  pub bare-parts : (last : ℤ) (span : Span) (at : ℕ) → enumerator_of setting used known last (tree.bare span at) ≡ enumerator_implied setting known at (last +ℤ pos 1)
+  pub bare-parts : (last : ℤ) (span : Span) (at : ℕ) → enumerator_of setting used known last (tree.bare span at) ≡ enumerator_declared setting known at (last +ℤ pos 1)
   unfolding enumerator_of
   bare-parts last span at = refl
 

@@ -1,6 +1,6 @@
 //! Tags of structs and enums (6.7.2.3), and enumerators (6.7.2.2).
 
-ghost use Rattle.std.specs.Prelude.{◌≡◌, ◌≢◌, ℕ, ◌<◌, false, ◌&&◌, All, List, [], ◌∷◌, ◌++◌, drop, length, reverse, IsOk, IfOk, OnOk, IfSome, IfNone, option_map, option_and_then, Option, Some, None, pos, ◌+ℤ◌, bytes_eq, codes};
+ghost use Rattle.std.specs.Prelude.{◌≡◌, ◌≢◌, ℕ, ℤ, ◌<◌, false, ◌&&◌, All, List, [], ◌∷◌, ◌++◌, drop, length, reverse, IsOk, IfOk, OnOk, IfSome, IfNone, option_map, option_and_then, Option, Some, None, pos, ◌+ℤ◌, bytes_eq, codes};
 ghost use Rattle.std.specs.Option.{option_copied};
 ghost use Rattle.dm_type.specs.declared.shape.Shape.{Shape as OneShape};
 ghost use Rattle.dm_type.specs.declared.shape.Shape.TheVariants.{Struct as StructShape};
@@ -410,21 +410,25 @@ pub fn struct_ended(
     Ok(kind)
 }
 
-/// An enumerator is declared once in a scope (C2), and none is called `main` in file scope (C36).
+/// An enumerator is declared once in a scope (C2), int can represent its value (C7), and none is called `main` in file
+/// scope (C36). The value is there if int can represent it.
 fn enumerator_declared(
     typer: &Typer<'_>,
     known: &mut Known,
     at: u32,
-    value: i32,
+    value: Option<i32>,
 ) -> Result<i32, Stop>
-    ensures gives { (later : List OneShape) → Begins known.new.types.shapes later → Gives (λ given. given) (source_of typer.now) (known_over later known.new) result
-        (typing.enumerator_declared (setting_of typer.now) (known_over later known.old) at value) }
+    ensures gives { (later : List OneShape) → Begins known.new.types.shapes later → (number : ℤ) → value ≡ if_int number
+        → Gives (λ given. given) (source_of typer.now) (known_over later known.new) result (typing.enumerator_declared (setting_of typer.now) (known_over later known.old) at number) }
     ensures shapes { Begins known.old.types.shapes known.new.types.shapes }
 {
     let name = typer.spelling(at)?;
     if known.scopes.is_declared(&name) {
         return Err(typer.broken(2, at));
     }
+    let Some(value) = value else {
+        return Err(typer.broken(7, at));
+    };
     if is_main_in_file(known, &name) {
         return Err(typer.broken(36, at));
     }
@@ -441,7 +445,7 @@ fn enumerator_declared(
     Ok(value)
 }
 
-/// An enumerator without a value has one more than the one before (C7).
+/// An enumerator without a value has one more than the one before.
 pub fn enumerator_implied(
     typer: &Typer<'_>,
     known: &mut Known,
@@ -449,13 +453,10 @@ pub fn enumerator_implied(
     before: i32,
 ) -> Result<i32, Stop>
     ensures gives { (later : List OneShape) → Begins known.new.types.shapes later → Gives (λ given. given) (source_of typer.now) (known_over later known.new) result
-        (typing.enumerator_implied (setting_of typer.now) (known_over later known.old) at (before +ℤ pos 1)) }
+        (typing.enumerator_declared (setting_of typer.now) (known_over later known.old) at (before +ℤ pos 1)) }
     ensures shapes { Begins known.old.types.shapes known.new.types.shapes }
 {
-    match before.checked_add(1) {
-        Some(value) => enumerator_declared(typer, known, at, value),
-        None => Err(typer.broken(7, at)),
-    }
+    enumerator_declared(typer, known, at, before.checked_add(1))
 }
 
 /// An enumerator with a value, which is an integer constant expression (C7).
@@ -471,13 +472,12 @@ pub fn enumerator_valued(
         (typing.enumerator_valued (setting_of typer.now) (known_over later known.old) at here (view_over later tree)) }
     ensures shapes { Begins known.old.types.shapes known.new.types.shapes }
 {
-    match int_of(known, &tree) {
-        Some(value) => {
-            add_constant(known, tree)?;
-            enumerator_declared(typer, known, at, value)
-        }
-        None => Err(typer.broken(7, here)),
+    let value = int_of(known, &tree);
+    if value.is_none() {
+        return Err(typer.broken(7, here));
     }
+    add_constant(known, tree)?;
+    enumerator_declared(typer, known, at, value)
 }
 
 /// The struct of a type, if it hasn't its members and they aren't being read.

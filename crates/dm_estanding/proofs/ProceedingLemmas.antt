@@ -49,11 +49,6 @@ pub typing-further : {A B C : Type 0} (standing : Standing) (outcome : Outcome A
 typing-further standing (given known it) first second = refl
 typing-further standing (broken rule at) first second = refl
 
-pub keeps-further : {A B : Type 0} (test : Bool) (rule at : ℕ) (progress : Progress A) (next : Standing → A → Progress B)
-    → keeps test rule at (further progress next) ≡ further (keeps test rule at progress) next
-keeps-further true rule at progress next = refl
-keeps-further false rule at progress next = refl
-
 -- ---- what is reached
 
 pub reached-itself : (later : List Shape) (held : Held) (s : Standing) → StandsFor later held.known held.links s → IsLawful s → Reached later held s s

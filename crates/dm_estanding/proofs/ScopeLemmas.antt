@@ -1,6 +1,5 @@
 -- What is known behind a scope.
-use Rattle.std.specs.Prelude.{◌≡◌, ℕ, zero, suc, Bool, false, if◌then◌else◌, List, [], ◌∷◌, ◌++◌, length, map, take, drop, reverse, All, Option, Some, None, option_map, slice_get, bytes_eq, Result, Ok, Err, OnOk, OnErr, refl}
-use Rattle.std.specs.FinMap as finite
+use Rattle.std.specs.Prelude.{◌≡◌, ℕ, zero, suc, Bool, false, if◌then◌else◌, List, [], ◌∷◌, ◌++◌, length, map, take, drop, reverse, All, Option, Some, None, option_map, slice_get, bytes_eq, refl}
 use Rattle.std.proofs.Common.{sym, ap, ap₂, ◌∙◌, subst, append-nil}
 use Rattle.std.proofs.lemmas.List.{map-append, length-map, take-map}
 use Rattle.std.proofs.lemmas.List.Elements.{All-head, All-tail, All-cons, All-nil}
@@ -13,11 +12,9 @@ use Rattle.dm_tree.specs.declared.tree.Core.{Core}
 use Rattle.dm_tree.specs.declared.unit.Declared.{Declared}
 use Rattle.dm_tree.specs.Units.{Declaration}
 use Rattle.dm_typing.specs.declared.known.Known.{Known as Held}
-use Rattle.dm_typing.specs.Bounds.{AreBelow}
 use Rattle.dm_typing.specs.Fitting.{HaveTypes}
 use Rattle.dm_typing.specs.Known.{Known}
 use Rattle.dm_typing.specs.Views.{Begins, view_over, known_over}
-use Rattle.dm_enames.proofs.TagStepLemmas.{entered-below}
 use Rattle.dm_edecl.specs.Standing.{Linked, Standing, known_behind}
 use Rattle.dm_edecl.specs.Linkages.{is_called, number_linked}
 use Rattle.dm_estanding.specs.declared.links.Links.{Links}
@@ -132,10 +129,6 @@ pub length-behind : (count : ℕ) (changes : List Retyped) (entries : List Decla
 length-behind count changes entries = length-names (take count (undone changes entries) ++ drop count entries) entries (names-behind count changes entries)
 
 -- ---- a scope that opens
-
-pub entered-anyway : {A E : Type 0} (answer : Result A E) (count : ℕ) (old new : Scopes) → AreBelow count old → OnOk answer (new ≡ finite.empty ∷ old) → OnErr answer (new ≡ old) → AreBelow count new
-entered-anyway (Ok it) count old new all ok err = subst (AreBelow count) (sym ok) (entered-below count old all)
-entered-anyway (Err fault) count old new all ok err = subst (AreBelow count) (sym err) all
 
 -- ---- a scope that closes
 

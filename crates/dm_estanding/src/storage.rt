@@ -12,6 +12,7 @@ ghost use Rattle.dm_edecl.specs.Linkages as linkages;
 ghost use Rattle.dm_estanding.specs.Summaries.{storage_seen, entry_over};
 
 use dm_enames::tags::meaning_of;
+use dm_spell::keyword;
 use dm_token::Memory;
 use dm_tree::{Declared, Linkage, Sort};
 use dm_type::TypeId;
@@ -33,8 +34,8 @@ pub fn storage_of(rows: &[u16]) -> Storage
 {
     match rows.first() {
         None => Storage::Unsaid,
-        Some(22) => Storage::Typedef,
-        Some(9) => Storage::Extern,
+        Some(&keyword::TYPEDEF) => Storage::Typedef,
+        Some(&keyword::EXTERN) => Storage::Extern,
         Some(_) => Storage::Static,
     }
 }

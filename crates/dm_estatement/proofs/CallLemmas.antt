@@ -88,9 +88,6 @@ module _ {A B C D E F : Type 0} (FitsA : Table → A → Type 0) (viewA : List S
     pair-then : Arrives old mid whole (λ later behind. further (second-call later behind) (behind-second later))
     pair-then = passes FitsA viewA source old old mid whole one behind-first first pair-begins p
 
-    pub pair-dry-between : (result : Result E Stop) → IsErrAnd result (λ e. e ≡ stop.Memory) → Proceeds Fits seen source old mid result whole
-    pair-dry-between result handed = runs-out Fits seen source old mid whole result pair-then.shapes handed
-
     pub pair-fails-then : (new : Held) (fault : Stop) → Proceeds FitsC viewC source mid new (Err fault) second-call → (result : Result E Stop) → IsErrAnd result (λ e. e ≡ fault)
         → Proceeds Fits seen source old new result whole
     pair-fails-then new fault q result handed =

@@ -13,15 +13,13 @@ ghost use Rattle.dm_eunary.specs.Unary as unary;
 ghost use Rattle.dm_typing.specs.Views.{Begins, seen, view_over, known_over, source_of, setting_of, Gives};
 
 use crate::parts::has_const;
+use dm_spell::punctuator::INCREMENT;
 use dm_token::{Memory, Stop};
 use dm_tree::Core;
 use dm_type::TypeId;
 use dm_typing::looks::{bare, is_array, is_complete, is_integer, points_to_complete};
 use dm_typing::values::is_lvalue;
 use dm_typing::{Extent, Known, Typer};
-
-/// The row of `++` in the table of punctuators (6.4.6).
-const PLUS_PLUS: u16 = 8;
 
 /// `++` and `--`, before their operand or behind it (C13).
 pub fn typed_count(
@@ -51,7 +49,7 @@ fn is_plus_plus(typer: &Typer<'_>, operator: u32) -> bool
     ensures { result ≡ typing.is_plus_plus (row_at (source_of typer.now) operator) }
 {
     match typer.row(operator) {
-        Some(row) => row == PLUS_PLUS,
+        Some(row) => row == INCREMENT,
         None => false,
     }
 }

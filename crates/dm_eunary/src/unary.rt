@@ -13,6 +13,7 @@ ghost use Rattle.dm_typing.specs.Views.{Begins, view_over, known_over, source_of
 
 use crate::counting::typed_count;
 use dm_int::{Kind, promote};
+use dm_spell::punctuator;
 use dm_syn::Symbol;
 use dm_token::Stop;
 use dm_tree::{Core, Sign};
@@ -25,10 +26,10 @@ fn sign_of_row(row: u16) -> Option<Sign>
     ensures { result ≡ operators.sign_of_row row }
 {
     match row {
-        12 => Some(Sign::Plus),
-        13 => Some(Sign::Minus),
-        14 => Some(Sign::Complement),
-        15 => Some(Sign::Not),
+        punctuator::PLUS => Some(Sign::Plus),
+        punctuator::MINUS => Some(Sign::Minus),
+        punctuator::TILDE => Some(Sign::Complement),
+        punctuator::EXCLAMATION => Some(Sign::Not),
         _ => None,
     }
 }

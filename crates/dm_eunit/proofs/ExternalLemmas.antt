@@ -83,10 +83,6 @@ module _ (setting : Setting) (span : Span) (declaration : Declaration) (now new 
 abbrev pub rest_externals : Setting → List External → List tree.External → Standing → Progress (List External)
 rest_externals setting front externals standing = further (typed_externals setting standing externals) (λ behind more. goes_on behind (front ++ more))
 
-externals-start : (progress : Progress (List External)) → progress ≡ further progress (λ behind more. goes_on behind ([] ++ more))
-externals-start (goes_on behind more) = refl
-externals-start (stops rule at) = refl
-
 externals-more : (front : List External) (one : Progress External) (rest : Standing → Progress (List External))
     → further (further one (λ then_standing made. further (rest then_standing) (λ behind more. goes_on behind (made ∷ more)))) (λ behind more. goes_on behind (front ++ more))
     ≡ further one (λ then_standing made. further (rest then_standing) (λ behind more. goes_on behind ((front ++ made ∷ []) ++ more)))
@@ -104,9 +100,6 @@ module _ (setting : Setting) (externals : List Node) (start : Held) where
 
   abbrev pub externals-left : List CoreExternal → List Node → List Shape → Standing → Progress (List External)
   externals-left all rest later behind = rest_externals setting (externals_over later all) (map syntax.external rest) behind
-
-  pub externals-begin : Arrives start start externals-whole (externals-left [] externals)
-  externals-begin = starts start externals-whole (externals-left [] externals) (λ later before stands lawful. externals-start (externals-whole later before))
 
   module _ (now : Held) (all : List CoreExternal) (node : Node) (rest others : List Node) (is : rest ≡ node ∷ others) (a : Arrives start now externals-whole (externals-left all rest)) where
     abbrev one-run : List Shape → Standing → Progress External

@@ -147,9 +147,6 @@ module _ (setting : Setting) (said : Specification) (span : Span) (constants : L
       subst (λ these. Proceeds IsNumbered view_over setting.source mid new result
       (λ later behind. typed_body setting (body_within (type_over later heading.kind)) behind (with_names finite.empty these) body)) same p
 
-  pub declared-fails : (fault : Stop) → Proceeds NumberFits number_over setting.source now mid (Err fault) defined-one → Proceeds ExternalFits external_over setting.source now mid (Err fault) defined-whole
-  declared-fails fault p = fails NumberFits number_over setting.source now now mid defined-whole ExternalFits external_over defined-one defined-next fault defined-starts p
-
   module _ (number : ℕ) (declared : Proceeds NumberFits number_over setting.source now mid (Ok number) defined-one) where
     body-starts : Arrives now mid defined-whole (λ later behind. further (body-run later behind) (body-ends number later))
     body-starts = passes NumberFits number_over setting.source now now mid defined-whole defined-one defined-next number defined-starts declared

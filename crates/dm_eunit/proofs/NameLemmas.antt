@@ -1,9 +1,9 @@
 -- The names that a scope has, as the code finds them.
-use Rattle.std.specs.Prelude.{◌≡◌, ℕ, suc, ◌+◌, ◌<◌, ◌≤◌, Bool, true, false, if◌then◌else◌, List, [], ◌∷◌, ◌++◌, length, map, drop, Option, Some, None, is_some, refl}
+use Rattle.std.specs.Prelude.{◌≡◌, ℕ, suc, ◌+◌, ◌<◌, Bool, true, false, if◌then◌else◌, List, [], ◌∷◌, ◌++◌, length, map, drop, Option, Some, None, is_some, refl}
 use Rattle.std.specs.Cmp.Lexicographic.{slice_cmp}
 use Rattle.std.specs.FinMap as finite
 use Rattle.std.specs.Ordering.{nat_cmp}
-use Rattle.std.proofs.Common.{sym, ap, ◌∙◌, append_assoc, append-nil, drop-cons, drop_of_length-le, add-one, get_or}
+use Rattle.std.proofs.Common.{sym, ap, ◌∙◌, append_assoc, drop-cons, add-one, get_or}
 use Rattle.std.proofs.lemmas.List.{drop-map}
 use Rattle.dm_type.specs.Tables.{Table}
 use Rattle.dm_scope.specs.Scopes.{Numbers, Scopes, number_of, is_declared, or_else}
@@ -61,9 +61,3 @@ pub name-so : (scope : Numbers) (names : List Numbered) (n : ℕ) (entry : Decla
 name-so scope names n entry name test e h =
     ap (λ key. if is_number (finite.get scope key) n then names ++ record { name = key; number = n } ∷ [] else names) (sym e)
     ∙ ap (λ is. if is then names ++ record { name = name; number = n } ∷ [] else names) h
-
--- none is left
-pub names-end : (scope : Numbers) (names : List Numbered) (n : ℕ) (types : Table) (entries : List Declared) → length entries ≤ n
-    → names ++ names_in scope n (drop n (entries_of types entries)) ≡ names
-names-end scope names n types entries past =
-    ap (λ rest. names ++ names_in scope n rest) (drop-map (view_of_declared types) n entries ∙ ap (map (view_of_declared types)) (drop_of_length-le entries past)) ∙ append-nil names

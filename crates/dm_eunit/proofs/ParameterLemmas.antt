@@ -1,8 +1,7 @@
 -- The parameters of a function definition, as the code goes through them.
-use Rattle.std.specs.Prelude.{◌≡◌, ℕ, ◌==◌, Bool, true, false, ◌&&◌, not, if◌then◌else◌, List, [], ◌∷◌, ◌++◌, length, map, Some, is_some, refl}
+use Rattle.std.specs.Prelude.{◌≡◌, ◌==◌, Bool, true, false, ◌&&◌, not, if◌then◌else◌, List, [], ◌∷◌, ◌++◌, length, map, is_some, refl}
 use Rattle.std.proofs.Common.{sym, ap, ◌∙◌, append_assoc, ne_eqb, arith}
 use Rattle.dm_type.specs.declared.shape.Shape.{Shape}
-use Rattle.dm_type.specs.CTypes.{CType}
 use Rattle.dm_type.specs.Tables.{Table, type_of}
 use Rattle.dm_syn.specs.declared.declaration.Parameter.{Parameter as ParameterHeld}
 use Rattle.dm_syn.specs.Trees.{Parameters, Parameter}
@@ -19,9 +18,9 @@ use Rattle.dm_typing.proofs.LaterLemmas.{type-later}
 use Rattle.dm_edeclarator.specs.declared.declarators.TypedParameter.{TypedParameter as TypedHeld}
 use Rattle.dm_edeclarator.specs.Steps.{parameter_over, ParameterFits, parameter_at as fault_at}
 use Rattle.dm_edeclarator.proofs.DeclaratorStepLemmas.{void-alone}
-use Rattle.dm_eexpr.proofs.LoopLemmas.{onward, onward-end}
+use Rattle.dm_eexpr.proofs.LoopLemmas.{onward}
 use Rattle.dm_eexpr.proofs.SyntaxViewLemmas.{view-parameter}
-use Rattle.dm_edecl.specs.Units.{is_only, may_be_defined, defined_parameter, defined_parameters, numbers_of}
+use Rattle.dm_edecl.specs.Units.{is_only, may_be_defined, defined_parameter, defined_parameters}
 use Rattle.dm_eunit.specs.Parts.{parameter_behind}
 
 -- ---- one parameter
@@ -67,10 +66,6 @@ module _ (held : Held) (later : List Shape) (alone : Bool) (parameter : Paramete
 
 -- ---- numbers
 
-pub numbers-some : (before : List ℕ) (number : ℕ) (kind : CType) (others : List TypedParameter)
-    → (before ++ number ∷ []) ++ numbers_of others ≡ before ++ numbers_of (record { kind = kind; declared = Some number } ∷ others)
-numbers-some before number kind others = append_assoc before (number ∷ []) (numbers_of others)
-
 -- ---- all parameters
 
 -- whether one parameter stands alone is the same for each of a list
@@ -109,9 +104,6 @@ one-by-length (first ∷ second ∷ others) = ne_eqb (length (first ∷ second �
 
 -- a loop over them
 module _ (setting : Setting) (alone : Bool) (known : Known) where
-  pub all-end : (before : List TypedParameter) → onward before (all_defined setting alone known tree.no_parameters) ≡ given known before
-  all-end before = onward-end known before
-
   pub all-next : (before : List TypedParameter) (first : Parameter) (others : Parameters) → onward before (all_defined setting alone known (tree.more_parameters first others))
       ≡ after (defined_parameter setting alone known first) (λ then_known made. onward (before ++ made ∷ []) (all_defined setting alone then_known others))
   all-next before first others = go (defined_parameter setting alone known first)

@@ -12,10 +12,10 @@ use Rattle.dm_syn.specs.Trees.{Expr, Initialiser, Initialisers, Specifiers, Decl
 use Rattle.dm_syn.specs.Trees as tree
 use Rattle.dm_tree.specs.Initialisers.{is_fixed}
 use Rattle.dm_tree.specs.Scenes.{is_scalar, part_type}
-use Rattle.dm_tree.specs.Trees.{Tree, kind_of}
+use Rattle.dm_tree.specs.Trees.{Tree}
 use Rattle.dm_tree.specs.Trees as label
 use Rattle.dm_tree.specs.Units as unit
-use Rattle.dm_typing.specs.Known.{Known, Setting, Outcome, given, broken, after, with_it, obeys, if_given}
+use Rattle.dm_typing.specs.Known.{Known, Setting, Outcome, given, broken, after, with_it, obeys}
 use Rattle.dm_typing.specs.Conversions.{as_value}
 use Rattle.dm_typing.specs.Specifiers.{Where, of_declaration, of_definition, nothing_said}
 use Rattle.dm_typing.specs.Typing.{entered, typed, words_said, steps_of, parameter_of}
@@ -38,10 +38,6 @@ after-same one other next more same onward = ap (λ outcome. after outcome next)
 
 with-same : {A B : Type 0} (one other : Outcome A) (made : Known → A → B) → one ≡ other → with_it one made ≡ with_it other made
 with-same one other made same = ap (λ outcome. with_it outcome made) same
-
-if-same : {A B : Type 0} (found : Option A) (rule at : ℕ) (next more : A → Outcome B) → ((it : A) → next it ≡ more it) → if_given found rule at next ≡ if_given found rule at more
-if-same (Some it) rule at next more onward = onward it
-if-same None rule at next more onward = refl
 
 further-same : {A B : Type 0} (one other : Progress A) (next more : Standing → A → Progress B) → one ≡ other → ((standing : Standing) (it : A) → next standing it ≡ more standing it)
     → further one next ≡ further other more

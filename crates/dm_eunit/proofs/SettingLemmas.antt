@@ -35,7 +35,7 @@ use Rattle.dm_typing.specs.Operators.{row_at, operator_of_row, operator_of_assig
 use Rattle.dm_typing.specs.Known.{meaning_of, place_at, tag_key, tag_entry, Known, Setting, Outcome, given, broken, after, with_it, obeys, if_given, declaring}
 use Rattle.dm_typing.specs.Conversions.{as_value, made, is_complete, complete_target, constant_of}
 use Rattle.dm_typing.specs.Specifiers.{type_said, are_allowed, Said, Where, elsewhere, nothing_said}
-use Rattle.dm_typing.specs.Typing.{comma_of, comma_tree, constant_tree, index_tree, is_internal, is_name, is_function_label, number_if_struct, fields, is_file_scope, enumerator_entry, is_int, with_constant, length_fits, is_result, natural, parameter_entry, is_named, name_of, named, typed_index, typed_member, typed_arrow, typed_count, typed_sign, typed_prefix, typed_sizeof, typed_sizeof_name, typed_cast, typed_operation, typed_binary, typed_choice, typed_update, typed_assignment, typed_call, tag_declared, new_struct, tag_inside, tag_seen, struct_named, enum_named, struct_begun, with_new_struct, beginning, TypedMember, struct_ended, enumerator_declared, enumerator_implied, enumerator_valued, Step, pointing, arraying, calling, stepped, derived, direct_at, length_of, adjusted, parameter_declared, typed_parameter, parameter_at, entered, left, typed_field, typed_said, name_ended, extent, typed_within, typed_values, typed_name, typed_specifiers, words_said, word_said, fields_of, fields_declared, fields_with, enumerators_of, enumerator_of, steps_of, direct_steps, parameters_of, parameter_of, typed}
+use Rattle.dm_typing.specs.Typing.{comma_of, comma_tree, constant_tree, index_tree, is_internal, is_name, is_function_label, number_if_struct, fields, is_file_scope, enumerator_entry, is_int, with_constant, length_fits, is_result, natural, parameter_entry, is_named, named, typed_index, typed_member, typed_arrow, typed_count, typed_sign, typed_prefix, typed_sizeof, typed_sizeof_name, typed_cast, typed_operation, typed_binary, typed_choice, typed_update, typed_assignment, typed_call, tag_declared, new_struct, tag_inside, tag_seen, struct_named, enum_named, struct_begun, with_new_struct, beginning, TypedMember, struct_ended, enumerator_declared, enumerator_valued, Step, pointing, arraying, calling, stepped, derived, direct_at, length_of, adjusted, is_new_parameter, parameter_declared, typed_parameter, parameter_at, entered, left, typed_field, typed_said, name_ended, extent, typed_within, typed_values, typed_name, typed_specifiers, words_said, word_said, fields_of, fields_declared, fields_with, enumerators_of, enumerator_of, steps_of, direct_steps, parameters_of, parameter_of, typed}
 use Rattle.dm_edecl.specs.Units.{innermost}
 use Rattle.dm_eunit.specs.Naming.{key_of}
 
@@ -344,11 +344,9 @@ module _ (source : Source) (la lb : List ℕ → Bool) (alike : (at : ℕ) → l
     enumerator-declared-both : (at : ℕ) (value : ℤ) → Both known (enumerator_declared a known at value) (enumerator_declared b known at value)
     enumerator-declared-both at value =
         obeys-both known (not (is_declared known.scopes (spelling_at source at))) _ 2 at _ _ refl
+        (obeys-both known (is_int value) _ 7 at _ _ refl
         (obeys-both known (not (is_file_scope known.scopes && bytes_eq (spelling_at source at) (codes "main"))) _ 36 at _ _ refl
-        (record { same = refl; adds = declaring-declares known (spelling_at source at) (enumerator_entry a at value) refl }))
-
-    implied-both : (at : ℕ) (value : ℤ) → Both known (enumerator_implied a known at value) (enumerator_implied b known at value)
-    implied-both at value = obeys-both known (is_int value) _ 7 at _ _ refl (enumerator-declared-both at value)
+        (record { same = refl; adds = declaring-declares known (spelling_at source at) (enumerator_entry a at value) refl })))
 
   beginning-declares : (known : Known) (number : Option ℕ) → Declares known (beginning known number)
   beginning-declares known None = declares-itself known
@@ -374,18 +372,18 @@ module _ (source : Source) (la lb : List ℕ → Bool) (alike : (at : ℕ) → l
     length-both : (here : ℕ) (tree : Tree) → Both known (length_of known here tree) (length_of known here tree)
     length-both here tree = if-both known (option_and_then natural (constant_of known tree)) 5 here _ _ (λ n. known-there known (with_constant known tree) n refl refl)
 
+    new-both : (name : Option ℕ) → is_new_parameter a known name ≡ is_new_parameter b known name
+    new-both None = refl
+    new-both (Some at) = refl
+
     parameter-declared-both : (type : CType) (name : Option ℕ) → Both known (parameter_declared a known type name) (parameter_declared b known type name)
     parameter-declared-both type None = there known _ _ refl
-    parameter-declared-both type (Some at) =
-        obeys-both known (not (is_declared known.scopes (spelling_at source at))) _ 2 at _ _ refl
-        (record { same = refl; adds = declaring-declares known (spelling_at source at) (parameter_entry a at type) refl })
+    parameter-declared-both type (Some at) = record { same = refl; adds = declaring-declares known (spelling_at source at) (parameter_entry a at type) refl }
 
     typed-parameter-both : (here : ℕ) (type : CType) (name : Option ℕ) → Both known (typed_parameter a known here type name) (typed_parameter b known here type name)
-    typed-parameter-both here type name = obeys-both known (not (is_function type)) _ 5 here _ _ refl (parameter-declared-both (adjusted type) name)
-
-    name-same : (name : Option ℕ) → name_of a name ≡ name_of b name
-    name-same None = refl
-    name-same (Some at) = refl
+    typed-parameter-both here type name =
+        obeys-both known (is_new_parameter a known name) _ 2 (unwrap_or name here) _ _ (new-both name)
+        (obeys-both known (not (is_function type)) _ 5 here _ _ refl (parameter-declared-both (adjusted type) name))
 
     field-both : (here : ℕ) (name : Option ℕ) (before : List TypedMember) (type : CType) → Both known (typed_field a known here name before type) (typed_field b known here name before type)
     field-both here None before type =
@@ -558,7 +556,7 @@ module _ (source : Source) (la lb : List ℕ → Bool) (alike : (at : ℕ) → l
         after-both known (enumerator_of a used known last first) _ _ _ (enumerator-both used known last first) (λ behind value. enumerators-both used behind value others)
 
     enumerator-both : (used : Bool) (known : Known) (last : ℤ) (enumerator : Enumerator) → Both known (enumerator_of a used known last enumerator) (enumerator_of b used known last enumerator)
-    enumerator-both used known last (tree.bare span at) = implied-both known at (last +ℤ pos 1)
+    enumerator-both used known last (tree.bare span at) = enumerator-declared-both known at (last +ℤ pos 1)
     enumerator-both used known last (tree.valued span at value) =
         after-both known (typed a used known value) _ _ _ (expr-both used known _ value) (λ behind made. valued-both behind at (expr_span value).first (as_value made))
 

@@ -1,9 +1,13 @@
 -- Runs of several steps.
-use Rattle.std.proofs.Common.{◌≡◌, ℕ, suc, ◌+◌, ◌-◌, ◌<◌, List, Option, Some, None, option_map, Result, Ok, IsErr, ap, sym, ◌∙◌, arith}
+use Rattle.std.proofs.Common.{◌≡◌, ℕ, zero, suc, ◌+◌, ◌-◌, ◌<◌, List, [], ◌∷◌, length, get_or, Option, Some, None, option_map, Result, Ok, IsErr, refl, ap, sym, subst, ◌∙◌, arith}
+use mir.Syntax.{w8}
+use mir.Val.{Fits}
 use Rattle.dm_token.specs.declared.stop.Memory.{Memory}
-use Rattle.dm_meaning.specs.Choices.{after, after_start}
+use Rattle.dm_meaning.specs.Choices.{after, after_start, run_by}
+use Rattle.dm_meaning.specs.Machines.{RunsWithin}
 use Rattle.dm_meaning.specs.Programs.{Program, Definition}
-use Rattle.dm_meaning.specs.Units.{start}
+use Rattle.dm_meaning.specs.States.{State}
+use Rattle.dm_meaning.specs.Units.{machine_of, start, AreBytes}
 use Rattle.dm_state.specs.declared.turn.Turn.{Turn}
 use Rattle.dm_state.specs.declared.turn.Turn.TheVariants as variant
 use Rattle.dm_state.specs.Turns.{turn_of}
@@ -67,13 +71,42 @@ last-step program order number n choice (Some before) after turn taken ended =
 
 -- ---- whole runs
 
-pub run-outcome : (program : Program) (order n : ℕ) (input : List ℕ) (first last : Option Seen) (outcome : Outcome) → IsStart program input first
+-- the input of the code is a list of bytes
+byte-below : (byte : ℕ) → Fits w8 byte → byte < 256
+byte-below byte fits = omega (arith, fits)
+
+pub all-bytes : (input : List ℕ) → ((k : ℕ) → Fits w8 (get_or input k 0)) → AreBytes input
+all-bytes [] fits k other within = absurd (omega (arith, within))
+all-bytes (byte ∷ bytes) fits zero other within = byte-below byte (fits 0)
+all-bytes (byte ∷ bytes) fits (suc k) other within = all-bytes bytes (λ j. fits (suc j)) k other (omega (arith, within))
+
+-- there are as many choices as steps
+choices-counted : (order number n : ℕ) → length (choices_behind order number n) ≡ n
+choices-counted order number zero = refl
+choices-counted order number (suc n) = ap suc (choices-counted order (turned number) n)
+
+same-outcome : (one other : Outcome) → ◌≡◌ {A = Option Outcome} (Some one) (Some other) → one ≡ other
+same-outcome one other is = cc
+
+-- each run by choices is one of the machine's
+abbrev pub AreRuns : Type 0
+AreRuns = (program : Program) (choices input : List ℕ) (state : State) → AreBytes input → run_by program choices input ≡ Some state
+    → RunsWithin (machine_of program) input (length choices) state
+
+pub run-outcome : AreRuns → (program : Program) (order n : ℕ) (input : List ℕ) (first last : Option Seen) (outcome : Outcome) → AreBytes input → IsStart program input first
     → last ≡ option_map (after_seen program (choices order n)) first → option_map outcome_seen last ≡ Some outcome → IsRun program order n input outcome
-unfolding IsRun IsStart
-run-outcome program order n input first last outcome begins left is =
+unfolding IsStart
+run-outcome runs program order n input first last outcome bytes begins left is =
     let all = choices order n in
     let begun = start (λ i. i) program begins.0 input in
-    ap (λ (main : Option Definition). option_map outcome_of (after_start program all input main)) begins.1
-    ∙ (ap Some (outcome-seen (after program all begun) ∙ ap outcome_seen (sym (seen-after program all begun)))
-    ∙ (ap (λ (first : Option Seen). option_map outcome_seen (option_map (after_seen program all) first)) (sym begins.2)
-    ∙ (ap (option_map outcome_seen) (sym left) ∙ is)))
+    let led : run_by program all input ≡ Some (after program all begun) = ap (λ (main : Option Definition). after_start program all input main) begins.1 in
+    record {
+      state = after program all begun;
+      chosen = led;
+      run = subst (λ count. RunsWithin (machine_of program) input count (after program all begun)) (choices-counted order order n)
+          (runs program all input (after program all begun) bytes led);
+      comes_to = same-outcome (outcome_of (after program all begun)) outcome
+          (ap Some (outcome-seen (after program all begun) ∙ ap outcome_seen (sym (seen-after program all begun)))
+          ∙ (ap (λ (first : Option Seen). option_map outcome_seen (option_map (after_seen program all) first)) (sym begins.2)
+          ∙ (ap (option_map outcome_seen) (sym left) ∙ is)));
+    }

@@ -1,14 +1,14 @@
 -- What calls that run a program are to answer.
 --     IsStart program input state      a state at the beginning of a run
 --     IsStep program choice before result after      one step of the machine
---     IsRun program order n input outcome      a run of so many steps in an order
-use Rattle.std.specs.Prelude.{◌≡◌, ℕ, List, Option, Some, None, option_map, Result, Ok, Err, IsErr}
+--     IsRun program order n input outcome      a run of so many steps in an order, which is one of the machine's
+use Rattle.std.specs.Prelude.{◌≡◌, ℕ, List, Option, Some, None, Result, Ok, Err, IsErr}
 use Rattle.dm_token.specs.declared.stop.Memory.{Memory}
 use Rattle.dm_meaning.specs.Choices.{run_by}
-use Rattle.dm_meaning.specs.Machines.{Standing, going, exited, undefined}
+use Rattle.dm_meaning.specs.Machines.{Standing, going, exited, undefined, RunsWithin}
 use Rattle.dm_meaning.specs.Programs.{Program, Definition}
 use Rattle.dm_meaning.specs.States.{State}
-use Rattle.dm_meaning.specs.Units.{main_of, start}
+use Rattle.dm_meaning.specs.Units.{machine_of, main_of, start}
 use Rattle.dm_exec.specs.declared.outcome.Outcome.{Outcome}
 use Rattle.dm_exec.specs.declared.outcome.Outcome.TheVariants as outcome
 use Rattle.dm_state.specs.declared.turn.Turn.{Turn}
@@ -48,6 +48,11 @@ outcome_seen (goes_on state) = outcome.Running state.world.output
 outcome_seen (has_exited status output) = outcome.Exited output status
 outcome_seen (is_undefined cause place output) = outcome.Undefined output cause place
 
--- There are as many choices as steps, so a run is still running only after all of them.
-unfoldable pub IsRun : Program → ℕ → ℕ → List ℕ → Outcome → Type 0
-IsRun program order n input outcome = option_map outcome_of (run_by program (choices order n) input) ≡ Some outcome
+-- The run of so many steps whose choices an order makes, which is one of the runs of the program's machine, has come to this.
+pub record IsRun (program : Program) (order n : ℕ) (input : List ℕ) (outcome : Outcome) : Type 0 where
+  pub state : State
+  -- the choices lead there; there are as many as steps, so a run is still running only after all of them
+  pub chosen : run_by program (choices order n) input ≡ Some state
+  -- the machine may run on the input to there (5.1.2.3)
+  pub run : RunsWithin (machine_of program) input n state
+  pub comes_to : outcome_of state ≡ outcome

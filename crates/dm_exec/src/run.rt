@@ -12,6 +12,7 @@ use crate::order::Choices;
 use crate::outcome::Outcome;
 use crate::state::State;
 use crate::steps::{start, step};
+use dm_meaning::chosen_runs;
 use dm_primitive::Streams;
 use dm_program::Program;
 use dm_state::{Running, Turn};
@@ -31,6 +32,8 @@ pub fn run_for<'a>(
 {
     let mut state = start(alloc, program, input)?;
     take_steps(alloc, program, &mut state, order, n)?;
+    // The law by which such a run is one of the machine's.
+    chosen_runs();
     outcome_of(state)
 }
 

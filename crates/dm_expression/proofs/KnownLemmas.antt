@@ -1,5 +1,5 @@
 -- The numbers of types in the operands of a node are those of the node's.
-use Rattle.std.specs.Prelude.{◌≡◌, ℕ, Bool, ◌&&◌, nat_lt, IsTrue, List, [], ◌∷◌, map}
+use Rattle.std.specs.Prelude.{◌≡◌, ℕ, ◌&&◌, nat_lt, IsTrue, List, [], ◌∷◌, map}
 use Rattle.std.proofs.Common.{rules, sym, ap, ◌∙◌}
 use Rattle.std.proofs.lemmas.Bool.{and_parts}
 use Rattle.dm_int.specs.declared.Op.{Op}
@@ -46,12 +46,6 @@ known-Unary n s a = search (rules, q.the_lemmas)
 
 pub first-Unary : (n : ℕ) (f : Form) (s : Sign) (a : Core) → f ≡ form.Unary s a → IsTrue (are_known_in_form n f) → IsTrue (are_known n a)
 first-Unary n f s a is h = sym (known-Unary n s a) ∙ (ap (are_known_in_form n) (sym is) ∙ h)
-
-known-Count : (n : ℕ) (p b : Bool) (a : Core) → are_known_in_form n (form.Count p b a) ≡ (are_known n a)
-known-Count n p b a = search (rules, q.the_lemmas)
-
-pub first-Count : (n : ℕ) (f : Form) (p b : Bool) (a : Core) → f ≡ form.Count p b a → IsTrue (are_known_in_form n f) → IsTrue (are_known n a)
-first-Count n f p b a is h = sym (known-Count n p b a) ∙ (ap (are_known_in_form n) (sym is) ∙ h)
 
 known-Convert : (n : ℕ) (a : Core) (lengths : List Core) → are_known_in_form n (form.Convert a lengths) ≡ (are_known n a && all_pass (map (are_known n) lengths))
 known-Convert n a lengths = search (rules, q.the_lemmas)

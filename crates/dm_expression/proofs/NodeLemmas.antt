@@ -8,13 +8,13 @@ use Rattle.dm_tree.specs.declared.tree.Core.{Core, out-Core}
 use Rattle.dm_tree.specs.declared.tree.Core as q
 use Rattle.dm_tree.specs.declared.tree.Form.TheVariants as form
 use Rattle.dm_tree.specs.Trees as label
-use Rattle.dm_tree.specs.Trees.{Label, both, either, choose, comma, call, sizeof_tree, Tree, node, trees}
+use Rattle.dm_tree.specs.Trees.{Label, both, either, choose, comma, call, sizeof_tree, Tree, node}
 use Rattle.dm_tree.specs.Views.{Opened, opened, opened_form, view, node_of}
 use Rattle.dm_tree.proofs.ViewLemmas.{view-core, opened-Both, opened-Either, opened-Choose, opened-Comma}
 use Rattle.dm_meaning.specs.Values.{At}
-use Rattle.dm_meaning.specs.Operations.{World, Scene, truth_of, operate}
-use Rattle.dm_meaning.specs.Running.{Run, done, Runs, no_runs, more_runs, begun, all_begun, locks_in, locks_in_all, open_of, Hole}
-use Rattle.dm_meaning.specs.Expressions.{goes, by_truth, both_chosen, either_chosen, operand_chosen, going_on, call_step, function_named, form_step, as_move, value_of}
+use Rattle.dm_meaning.specs.Operations.{World, Scene, truth_of}
+use Rattle.dm_meaning.specs.Running.{Run, done, no_runs, more_runs, begun, locks_in, locks_in_all, open_of}
+use Rattle.dm_meaning.specs.Expressions.{goes, by_truth, both_chosen, either_chosen, operand_chosen, going_on, call_step, function_named, value_of}
 use Rattle.dm_meaning.specs.Running as running
 use Rattle.dm_row.specs.declared.item.Item.{Item}
 use Rattle.dm_row.specs.declared.item.Item.TheVariants.{Done, Waits}
@@ -90,16 +90,6 @@ is_plain comma = false
 is_plain call = false
 is_plain sizeof_tree = false
 is_plain label = true
-
-pub form-plain : (scene : Scene) (world : World) (held : List At) (label : Label) (kind : CType) (place : Place) (parts : Runs) (all : List Evaluated) → is_plain label ≡ true
-    → form_step scene world held label kind place parts (map as_operand all) ≡ as_move kind place (locks_in_all parts) (operate scene world held label kind (map as_operand all))
-form-plain scene world held both kind place parts all is = absurd (cc)
-form-plain scene world held either kind place parts all is = absurd (cc)
-form-plain scene world held choose kind place parts all is = absurd (cc)
-form-plain scene world held comma kind place parts all is = absurd (cc)
-form-plain scene world held call kind place parts all is = absurd (cc)
-form-plain scene world held sizeof_tree kind place parts all is = absurd (cc)
-form-plain scene world held label kind place parts all is = refl
 
 -- ---- locks
 

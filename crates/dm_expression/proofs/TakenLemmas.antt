@@ -4,7 +4,6 @@ use Rattle.dm_row.specs.declared.item.Item.{Item}
 use Rattle.dm_row.specs.declared.item.Item.TheVariants.{Done, Waits}
 use Rattle.dm_row.specs.Counts.{ready_in, results_after, weight_by, weight_in}
 use Rattle.dm_row.specs.Sought.{IsSought}
-use Rattle.dm_row.proofs.SeekLemmas.{behind-result}
 use Rattle.dm_expression.specs.declared.waiting.Waiting.{Waiting}
 use Rattle.dm_expression.specs.declared.results.Taken.{Taken}
 use Rattle.dm_expression.specs.Taken.{dones, results_of, IsOperands, number_of, IsTaken}
@@ -22,10 +21,6 @@ one-operand count old middle new found one weight h in_front behind = record {
   results = ap (λ rest. one ∷ rest) h.results;
   as_many = ap suc h.as_many;
 }
-
--- one result fewer stands in front of the place
-pub one-fewer : {R N : Type 0} (before after : List (Item R N)) (one : R) (weight : ℕ) → before ≡ after ++ Done one weight ∷ [] → results_after 0 before ≡ suc (results_after 0 after)
-one-fewer before after one weight is = ap (results_after 0) is ∙ behind-result after one weight
 
 -- ---- weights
 

@@ -1,5 +1,5 @@
 -- What is left of a frame where statements begin, form by form.
-use Rattle.std.proofs.Common.{◌≡◌, ℕ, List, [], ◌∷◌, ◌++◌, map, length, Option, Some, None, option_map, Bor, refl, ap, sym, subst, arith, ◌∙◌}
+use Rattle.std.proofs.Common.{◌≡◌, ℕ, List, [], ◌∷◌, ◌++◌, map, length, Option, Some, None, Bor, refl, ap, sym, subst, arith, ◌∙◌}
 use Rattle.dm_type.specs.CTypes.{CType}
 use Rattle.dm_type.specs.Tables.{Table, no_type, type_of}
 use Rattle.dm_tree.proofs.ViewLemmas.{view-core}
@@ -14,7 +14,7 @@ use Rattle.dm_meaning.specs.Memory.{Memory}
 use Rattle.dm_meaning.specs.Operations.{Objects}
 use Rattle.dm_meaning.specs.Programs.{Program}
 use Rattle.dm_meaning.specs.States as states
-use Rattle.dm_meaning.specs.Statements.{Turned, onward, begin_form, begin_statement, begin_tree, evaluation, item_tasks, returning, start_tasks, unlabelled}
+use Rattle.dm_meaning.specs.Statements.{onward, begin_form, evaluation, item_tasks, returning, start_tasks, unlabelled}
 use Rattle.dm_frame.specs.declared.frame.Frame.{Frame}
 use Rattle.dm_frame.specs.declared.task.Begun.{Begun}
 use Rattle.dm_frame.specs.declared.task.Loop.{Loop}
@@ -23,7 +23,7 @@ use Rattle.dm_frame.specs.declared.task.Task.TheVariants as task
 use Rattle.dm_frame.specs.declared.task.Use.{Use}
 use Rattle.dm_frame.specs.Forms.{IsBegunForm, IsPlain}
 use Rattle.dm_frame.specs.Frames.{tasks_of, FrameFits}
-use Rattle.dm_frame.specs.Tasks.{kept, declares_local, view_of_begun, view_of_loop, view_of_tasks, view_of_use, LoopFits, TasksFit}
+use Rattle.dm_frame.specs.Tasks.{declares_local, view_of_begun, view_of_loop, view_of_tasks, view_of_use, LoopFits, TasksFit}
 use Rattle.dm_program.proofs.FormLemmas.{opened-Block, opened-Break, opened-Case, opened-Continue, opened-Declare, opened-Default, opened-Do, opened-For, opened-Full, opened-If, opened-Return, opened-Switch, opened-While}
 use Rattle.dm_program.proofs.InitialLemmas.{item-Declare, listed-trees}
 use Rattle.dm_program.proofs.SortLemmas.{Sorted, is-Block, is-Declare, is-Full, is-If, is-Switch, is-Case, is-Default, is-While, is-Do, is-For, is-Break, is-Continue, is-Return, is-inert, sorted}
@@ -44,13 +44,6 @@ module _ (table : Table) (before after : Frame) (same : after.objects ≡ before
   pub tests-led : (loop : Loop) → after.tasks ≡ task.Tests (length before.objects) loop ∷ before.tasks
       → tasks_of table after ≡ states.tests before.objects (view_of_loop table loop) ∷ tasks_of table before
   tests-led loop is = led (task.Tests (length before.objects) loop) is ∙ ap (λ objects. states.tests objects (view_of_loop table loop) ∷ tasks_of table before) (kept-whole before.objects)
-
-  pub again-led : (loop : Loop) → after.tasks ≡ task.Again (length before.objects) loop ∷ before.tasks
-      → tasks_of table after ≡ states.again before.objects (view_of_loop table loop) ∷ tasks_of table before
-  again-led loop is = led (task.Again (length before.objects) loop) is ∙ ap (λ objects. states.again objects (view_of_loop table loop) ∷ tasks_of table before) (kept-whole before.objects)
-
-  pub task-led : (first : Task) → after.tasks ≡ first ∷ before.tasks → tasks_of table after ≡ view_of_tasks table before.objects (first ∷ before.tasks)
-  task-led first is = led first is
 
 -- where a statement is to end
 pub ends-fit : (table : Table) (before after : Frame) → after.objects ≡ before.objects → after.tasks ≡ task.Ends (length before.objects) ∷ before.tasks → FrameFits table before → FrameFits table after

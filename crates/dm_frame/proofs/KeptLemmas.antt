@@ -1,5 +1,5 @@
 -- The oldest objects, and the lifetimes that end (6.2.4p2).
-use Rattle.std.proofs.Common.{◌≡◌, false, ℕ, zero, suc, ◌-◌, ◌<◌, ◌≤◌, ◌+◌, List, [], ◌∷◌, ◌++◌, map, length, drop, take, refl, ap, sym, ◌∙◌, arith, length-append, length-drop}
+use Rattle.std.proofs.Common.{◌≡◌, false, ℕ, zero, suc, ◌-◌, ◌<◌, ◌≤◌, ◌+◌, [], ◌∷◌, ◌++◌, map, length, drop, take, refl, ap, sym, ◌∙◌, arith, length-append, length-drop}
 use Rattle.std.proofs.Math.Seq.{drop-nil}
 use Rattle.dm_meaning.specs.Memory.{Memory, changed_block, killed}
 use Rattle.dm_meaning.specs.Operations.{Objects}
@@ -39,12 +39,6 @@ kept-append [] objects n within = refl
 kept-append (entry ∷ newer) objects n within =
     let l : length (newer ++ objects) ≡ length newer + length objects = length-append newer objects in
     kept-more n entry (newer ++ objects) (omega (arith, l, within)) ∙ kept-append newer objects n within
-
--- nothing ends where nothing is newer
-pub none-ends : (n : ℕ) (objects : Objects) → length objects ≤ n → named_since (kept n objects) objects ≡ []
-none-ends n objects past =
-    let e : length objects - length objects ≡ 0 = omega arith in
-    ap (λ saved. named_since saved objects) (kept-all n objects past) ∙ ap (λ k. map (λ (entry : ℕ × ℕ). entry.1) (take k objects)) e
 
 -- the newest ends first
 pub newest-ends : (n : ℕ) (entry : ℕ × ℕ) (objects : Objects) → n ≤ length objects

@@ -3,7 +3,7 @@
 ghost use Rattle.std.specs.Prelude.{◌≡◌, IfOk};
 ghost use Rattle.dm_token.specs.declared.place.Place.{Place};
 ghost use Rattle.dm_memory.specs.Blocks.{view_of_blocks, AreKnown};
-ghost use Rattle.dm_first.specs.Texts.{characters_in};
+ghost use Rattle.dm_first_value.specs.Texts.{characters_in};
 ghost use Rattle.dm_meaning.specs.Operations.{of_value};
 ghost use Rattle.dm_meaning.specs.Statements as statements;
 ghost use Rattle.dm_value.specs.Places.{view_of_at, view_of_name};
@@ -16,7 +16,7 @@ ghost use Rattle.dm_frame.specs.Tasks.{view_of_use, UseFits};
 use crate::frame::Frame;
 use crate::switching::selected;
 use crate::task::{Task, Use};
-use dm_first::text_array;
+use dm_first_value::text_array;
 use dm_layout::Layout;
 use dm_meaning::Cause;
 use dm_memory::{Blocks, truth};

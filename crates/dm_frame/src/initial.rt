@@ -17,7 +17,7 @@ ghost use Rattle.dm_frame.specs.Tasks.{initials_at, InitialFits, InitialsFit, Lo
 use crate::frame::Frame;
 use crate::objects::automatic;
 use crate::task::{Begun, Task, Use};
-use dm_first::listed_value;
+use dm_first_value::listed_value;
 use dm_layout::ObjectType;
 use dm_memory::Blocks;
 use dm_program::Program;
@@ -57,9 +57,9 @@ impl<'a> Frame<'a> {
     }
 }
 
-/// An initialiser begins, of an object or a part of one. An expression is given back. Of a list in braces the parts with an
-/// initialiser are unset until it is evaluated, and the others are 0 (6.7.9p19, p21); its initialisers are left to do. After
-/// an `Err` the frame isn't to be used.
+/// An initialiser begins, of an object or a part of one. An expression is given back. Of a list in braces the parts without
+/// an initialiser become 0, and the others stay as they are until they are stored (6.7.9p19, p21); its initialisers are left to
+/// do. After an `Err` the frame isn't to be used.
 pub fn begin_initialiser<'a>(
     alloc: Global,
     program: &Program<'a>,
@@ -109,7 +109,8 @@ fn begin_list<'a>(
         (statements.begin_initialiser (meant program.now) frame.old.objects (tasks_of program.now.table frame.old) (view_of_blocks program.now.table blocks.old)
         (view_of_at at) (type_of_object program.now.table kind) (in_braces (items_of all)) (expressions_of_items all))) }
 {
-    let value = listed_value(alloc, program.layout(), &kind, items.len())?;
+    let before = blocks.contents(alloc, &at)?;
+    let value = listed_value(alloc, program.layout(), &kind, items.len(), &before)?;
     blocks.store(alloc, &at, value)?;
     frame.tasks.push(Task::Parts(at, kind, 0, items))?;
     Ok(())

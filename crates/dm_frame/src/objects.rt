@@ -4,7 +4,7 @@ ghost use Rattle.std.specs.Prelude.{◌≡◌, ◌∷◌, ◌++◌, [], false, t
 ghost use Rattle.dm_type.specs.Tables.{IsId, Table, type_of};
 ghost use Rattle.dm_tree.specs.Views.{declarators_of, view, view_of_local};
 ghost use Rattle.dm_layout.specs.LaidOut.{laid_out};
-ghost use Rattle.dm_memory.specs.Blocks.{view_of_block, view_of_blocks, AreKnown};
+ghost use Rattle.dm_memory.specs.Blocks.{view_of_block, AreKnown};
 ghost use Rattle.dm_meaning.specs.Memory as memory;
 ghost use Rattle.dm_meaning.specs.Operations as operations;
 ghost use Rattle.dm_meaning.specs.Statements as statements;
@@ -12,7 +12,7 @@ ghost use Rattle.dm_program.specs.Sources.{meant};
 ghost use Rattle.dm_frame.specs.Entering.{automatic_one, IsEntered};
 
 use crate::stack::Stack;
-use dm_first::{Scalars, first_value};
+use dm_first_value::{Scalars, first_value};
 use dm_layout::{Layout, is_const};
 use dm_memory::{Block, Blocks};
 use dm_program::Program;

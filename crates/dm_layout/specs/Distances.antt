@@ -1,13 +1,12 @@
 -- How far places lie apart, by what is left of their paths.
 use Rattle.std.specs.Prelude.{ℕ, ℤ, [], ◌∷◌, Option, Some, None, if◌then◌else◌}
-use Rattle.dm_type.specs.Alike.{are_compatible}
-use Rattle.dm_type.specs.CTypes.{CType, array, bare}
-use Rattle.dm_meaning.specs.Objects.{apart, distance_alone}
+use Rattle.dm_type.specs.CTypes.{CType, array}
+use Rattle.dm_meaning.specs.Objects.{apart, agree_without_const, distance_alone}
 use Rattle.dm_meaning.specs.Values.{past, Path}
 
 -- two elements of an array
 abbrev pub distance_in_array : CType → CType → ℕ → ℕ → Option ℤ
-distance_in_array (array type length) target m n = if are_compatible (bare type) (bare target) then Some (apart m n) else None
+distance_in_array (array type length) target m n = if agree_without_const type target then Some (apart m n) else None
 distance_in_array type target m n = None
 
 -- an object, or one past it, as an array of one

@@ -1,3 +1,4 @@
+pub mod Alikes
 pub mod Distances
 pub mod Fields
 pub mod Kinds

@@ -11,12 +11,9 @@ ghost use Rattle.dm_value.specs.Parts.{view_of_part};
 
 use crate::kinds::{ObjectType, bare_kind, inner};
 use crate::layout::Layout;
-use dm_token::Memory;
+use dm_token::{MOST_TYPE_BYTES, Memory};
 use dm_type::{Shape, TypeId};
 use dm_value::Part;
-
-/// The greatest size of a type, in bytes.
-const GREATEST_SIZE: u64 = 1 << 30;
 
 /// The first byte to which a path leads, from the object's first. A number beyond 2 to the 64 counts as want of memory: no object
 /// has such a byte.
@@ -49,7 +46,13 @@ pub fn size(layout: &Layout, kind: &ObjectType) -> u64
     match kind {
         ObjectType::Known(kind) => layout.types().size(*kind).unwrap_or(0),
         ObjectType::Void => 0,
-        ObjectType::Text(length) => { if *length <= GREATEST_SIZE { *length } else { 0 } }
+        ObjectType::Text(length) => {
+            if u128::from(*length) <= MOST_TYPE_BYTES {
+                *length
+            } else {
+                0
+            }
+        }
         ObjectType::Character => 1,
     }
 }

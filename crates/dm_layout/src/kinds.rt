@@ -1,14 +1,13 @@
 //! The types of objects, those of string literals among them (6.4.5p6).
 
-ghost use Rattle.std.specs.Prelude.{◌≡◌, Some};
-ghost use Rattle.dm_int.specs.declared.Kind.TheVariants.{Char};
-ghost use Rattle.dm_type.specs.Alike.{are_compatible};
+ghost use Rattle.std.specs.Prelude.{◌≡◌};
 ghost use Rattle.dm_type.specs.CTypes as ctypes;
 ghost use Rattle.dm_type.specs.Tables.{IsId, type_of};
 ghost use Rattle.dm_meaning.specs.Objects as objects;
 ghost use Rattle.dm_layout.specs.Kinds.{type_of_object, IsKnownType};
 ghost use Rattle.dm_layout.specs.LaidOut.{laid_out};
 
+use crate::alike::{agree_without_const, is_char, is_text, is_void};
 use crate::layout::{Layout, bare};
 use dm_int::Kind;
 use dm_type::{Shape, TypeId, Types};
@@ -29,47 +28,14 @@ pub enum ObjectType {
 pub(crate) fn is_target(layout: &Layout, kind: &ObjectType, target: TypeId) -> bool
     requires kind { IsKnownType layout.now kind.now }
     requires target { IsId layout.now target }
-    ensures { result ≡ are_compatible (ctypes.bare (type_of_object layout.now kind.now)) (ctypes.bare (type_of layout.now target)) }
+    ensures { result ≡ objects.agree_without_const (type_of_object layout.now kind.now) (type_of layout.now target) }
 {
     let types = layout.types();
     match kind {
-        ObjectType::Known(kind) => types.compatible(bare(types, *kind), bare(types, target)),
-        ObjectType::Void => is_void(types, bare(types, target)),
-        ObjectType::Text(length) => is_text(types, bare(types, target), *length),
-        ObjectType::Character => is_char(types, bare(types, target)),
-    }
-}
-
-fn is_void(types: &Types, id: TypeId) -> bool
-    requires { IsId types.now id }
-    ensures { result ≡ are_compatible ctypes.void (type_of types.now id) }
-{
-    match types.shape(id) {
-        Shape::Void => true,
-        _ => false,
-    }
-}
-
-/// Whether a type is compatible with that of the array of a string literal.
-pub fn is_text(types: &Types, id: TypeId, length: u64) -> bool
-    requires { IsId types.now id }
-    ensures { result ≡ are_compatible (ctypes.array (ctypes.integer Char) (Some length)) (type_of types.now id) }
-{
-    match types.shape(id) {
-        Shape::Array(inner, Some(count)) => length == *count && is_char(types, *inner),
-        Shape::Array(inner, None) => is_char(types, *inner),
-        _ => false,
-    }
-}
-
-/// Whether a type is char.
-pub fn is_char(types: &Types, id: TypeId) -> bool
-    requires { IsId types.now id }
-    ensures { result ≡ are_compatible (ctypes.integer Char) (type_of types.now id) }
-{
-    match types.shape(id) {
-        Shape::Integer(Kind::Char) => true,
-        _ => false,
+        ObjectType::Known(kind) => agree_without_const(types, *kind, target),
+        ObjectType::Void => is_void(types, target),
+        ObjectType::Text(length) => is_text(types, target, *length),
+        ObjectType::Character => is_char(types, target),
     }
 }
 

@@ -2,6 +2,7 @@
 //! and where pointers may move (6.5.6).
 #![tactic(auto)]
 
+mod alike;
 mod apart;
 mod bytes;
 mod fields;
@@ -9,8 +10,9 @@ mod kinds;
 mod layout;
 mod moves;
 
+pub use alike::{agree_without_const, is_char, is_text};
 pub use apart::distance;
 pub use bytes::{byte_of, size};
-pub use kinds::{ObjectType, bare_kind, inner, is_char, is_text};
+pub use kinds::{ObjectType, bare_kind, inner};
 pub use layout::{Element, Field, Layout, Reached, bare, is_const};
 pub use moves::{Tail, moved};

@@ -1,8 +1,7 @@
 -- Which statements a tree of the code holds doesn't depend on what types its numbers stand for.
---     expression-anywhere, whole-anywhere      of a tree
---     initial-anywhere, local-anywhere      of an initialiser and of a declarator
-use Rattle.std.specs.Prelude.{◌≡◌, ℕ, suc, Bool, true, false, not, ◌&&◌, IsTrue, List, [], ◌∷◌, ◌++◌, map, length, Option, Some, None, refl}
-use Rattle.std.specs.List.{list_all}
+--     whole-anywhere      of a tree
+--     initial-anywhere      of an initialiser
+use Rattle.std.specs.Prelude.{◌≡◌, ℕ, suc, Bool, true, false, not, ◌&&◌, List, [], ◌∷◌, ◌++◌, map, length, Option, Some, None, refl}
 use Rattle.std.proofs.Common.{sym, ap, ap₂, ◌∙◌, subst}
 use Rattle.dm_type.specs.CTypes.{CType, void}
 use Rattle.dm_type.specs.Tables.{Table, type_of}
@@ -285,13 +284,6 @@ module _ (a b : Table) where
       (λ x y is. subst (λ z. CoreSame (roll-Core z)) is (core-whole y))
       (λ x y is. subst (λ z. LocalSame (roll-Local z)) is (local-whole y))
 
-  local-same : (local : Local) → LocalSame local
-  local-same = folds.ind-Local FormSame InitialSame CoreSame LocalSame
-      (λ x y is. subst (λ z. FormSame (roll-Form z)) is (form-whole y))
-      (λ x y is. subst (λ z. InitialSame (roll-Initial z)) is (initial-whole y))
-      (λ x y is. subst (λ z. CoreSame (roll-Core z)) is (core-whole y))
-      (λ x y is. subst (λ z. LocalSame (roll-Local z)) is (local-whole y))
-
 -- ---- statements in trees without their types
 
 untyped-statement : (form : Label) → is_statement (untyped form) ≡ is_statement form
@@ -363,16 +355,9 @@ mutual
 
 -- ---- what is so over one table
 
-pub expression-anywhere : (a b : Table) (core : Core) → is_expression (view a core) ≡ is_expression (view b core)
-expression-anywhere a b core = sym (plain-expression (view a core)) ∙ ap is_expression (core-same a b core) ∙ plain-expression (view b core)
-
 pub whole-anywhere : (a b : Table) (core : Core) → is_whole (view a core) ≡ is_whole (view b core)
 whole-anywhere a b core = sym (plain-whole (view a core)) ∙ ap is_whole (core-same a b core) ∙ plain-whole (view b core)
 
 pub initial-anywhere : (a b : Table) (initial : Initial) → all_expressions (view_of_initial a initial).expressions ≡ all_expressions (view_of_initial b initial).expressions
 initial-anywhere a b initial =
     sym (plain-all (view_of_initial a initial).expressions) ∙ ap (λ (one : OpenedInitial). all_expressions one.expressions) (initial-same a b initial) ∙ plain-all (view_of_initial b initial).expressions
-
-pub local-anywhere : (a b : Table) (local : Local) → all_expressions (view_of_local a local).expressions ≡ all_expressions (view_of_local b local).expressions
-local-anywhere a b local =
-    sym (plain-all (view_of_local a local).expressions) ∙ ap (λ (one : OpenedLocal). all_expressions one.expressions) (local-same a b local) ∙ plain-all (view_of_local b local).expressions

@@ -10,7 +10,7 @@ use Rattle.dm_meaning.specs.CalledWith as passed
 use Rattle.dm_meaning.specs.CalledWith.{Holds, IsCallingWith}
 use Rattle.dm_meaning.specs.CalledWithAll as passed_all
 use Rattle.dm_meaning.specs.CalledWithAll.{times_named, IsCallingWithAll}
-use Rattle.dm_meaning.specs.Examples.{beyond_third, called_add, calling_twice, stored_there, reading, summed, doubled, counted, called_with, beyond_two, calling_with_twice, types, inverted, inverted_unit, inverting, inverting_unit, called_one, beyond_main, calling_double, constant, taken, called_take, beyond_take, take, calling_take, calling_same, taken_unit, called_take_unit, six_unit, six_body, called_six, calling_six_unit, beyond_six}
+use Rattle.dm_meaning.specs.Examples.{beyond_third, called_add, calling_twice, stored_there, reading, summed, doubled, counted, called_with, beyond_two, calling_with_twice, types, inverted, inverted_unit, inverting, inverting_unit, called_one, beyond_main, calling_double, constant, taken, called_take, beyond_take, take, calling_take, calling_same, taken_unit, called_take_unit, six_unit, six_body, called_six, calling_six_unit, beyond_six, first_of, beside_size, calling_sized}
 use Rattle.dm_meaning.specs.Programs.{declaration_at, declaration_of}
 use Rattle.dm_meaning.specs.Replaced.{facts_of}
 
@@ -439,6 +439,68 @@ premises_same = record {
   value = inl refl;
 }
 
+-- ---- a member of a value, and an object that isn't defined
+
+told_sized : (d : ℕ) → option_map facts_of (declaration_of (new_of calling_sized) (beyond_main d)) ≡ option_map facts_of (declaration_of calling_sized.old d)
+told_sized zero = refl
+told_sized (suc d) = refl
+
+once_sized : (d : ℕ) → IsAmong d (2 ∷ []) → times_named d (beside_size 5 (reading 2)) ≡ 1
+once_sized d (inl e) = ap (λ n. times_named n (beside_size 5 (reading 2))) e
+once_sized d (inr k) = absurd k
+
+first_alone : Trees
+first_alone = more_trees (first_of 1) no_trees
+
+holds_sized : passed_all.HoldsWhole calling_sized first_alone (beside_size 5 (reading 2)) (beside_size 3 (first_of 1))
+unfolding first_alone
+holds_sized = inr (
+  refl,
+  refl,
+  refl,
+  (
+    inr (refl, inl (record { parameter = 2; spans = _; named_kind = _; named_spans = _; is = refl; own = refl; stands = refl })),
+    (inl (refl, refl, refl, ((refl, refl, refl, ((refl, refl, refl, tt), tt)), tt)), tt),
+  ),
+)
+
+call_sized : passed_all.Agrees calling_sized (called_one (first_of 3)) (beside_size 3 (first_of 1))
+unfolding first_alone
+call_sized = inr (
+  first_alone,
+  record { is = refl; typed = refl; holds = holds_sized; each = refl; once = once_sized },
+  (
+    record { kind = _; spans = _; is = refl },
+    (inr (inl refl), refl, inl (refl, refl, tt, (inl (refl, refl, tt, (inl (refl, refl, tt, tt), tt)), tt)), tt),
+  ),
+)
+
+pub premises_sized : IsCallingWithAll calling_sized
+premises_sized = record {
+  injective = injective_double;
+  apart = apart_double;
+  own = own_same;
+  distinct = ((λ k. k), tt);
+  told = told_sized;
+  functions = inl (
+    refl,
+    (
+      (
+        refl,
+        refl,
+        (inl (refl, refl, tt, (inl (refl, refl, tt, tt), (inl (refl, refl, tt, tt), tt))), (inl (refl, refl, tt, (inl (refl, refl, tt, (inl (refl, refl, tt, tt), tt)), tt)), tt)),
+      ),
+      ((refl, refl, (inl (refl, refl, tt, (call_sized, tt)), tt)), tt),
+    ),
+  );
+  statics = tt;
+  not_main = refl;
+  return_kind = _;
+  return_spans = _;
+  returns = refl;
+  value = inl refl;
+}
+
 -- ---- units without arguments
 
 without_six : ℕ → ℕ
@@ -451,7 +513,7 @@ unfolding without_six
 without_beyond_six zero = refl
 without_beyond_six (suc d) = refl
 
-injective_six : (c d : ℕ) → beyond_six c ≡ beyond_six d → c ≡ d
+pub injective_six : (c d : ℕ) → beyond_six c ≡ beyond_six d → c ≡ d
 injective_six c d e = sym (without_beyond_six c) ∙ ap without_six e ∙ without_beyond_six d
 
 apart_six : (d : ℕ) → beyond_six d ≡ 1 → ⊥

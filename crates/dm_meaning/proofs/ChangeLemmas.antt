@@ -16,7 +16,7 @@ use Rattle.dm_meaning.specs.declared.cause.Cause.TheVariants.{Unset, Life, Const
 use Rattle.dm_meaning.specs.Values.{Name, numbered, literal_of, elsewhere, part, part_value, At, Pointer, null, to, Value, integer_value, pointer_value, parts as compound, unset}
 use Rattle.dm_meaning.specs.Memory.{Memory, Block, look_up, look, lives, may_be_written, reached, written, contents_at, or_unset}
 use Rattle.dm_meaning.specs.Programs.{layout}
-use Rattle.dm_meaning.specs.Causes.{earliest, when, is_unset, is_fixed, is_null, absence_causes, access_causes, member_causes, read_causes, store_causes, update_causes, use_causes, follow_causes, moved_pointer, moved_causes, pointer_distance, distance_causes, order_causes}
+use Rattle.dm_meaning.specs.Causes.{earliest, when, is_unset, is_fixed, is_null, absence_causes, access_causes, entry_causes, read_causes, store_causes, update_causes, use_causes, follow_causes, moved_pointer, moved_causes, pointer_distance, distance_causes, order_causes}
 use Rattle.dm_meaning.specs.Operations.{Result, of_value, designates, Operand, World, Scene, Did, gives, breaks, ends_with, decided, provided, unless, plain, typed, is_of_kind, number_alone, or_null, or_zero, truth_in, pointer_minus, byte_at, equal_pointers, ordered, equated, update_at, count_at, faulted, on_one, on_two, on_value, on_set, ill, on_place, designated, object_named, part_of, read_at, followed, member_of, converted, convert_bare, Truth, holds, untold, truth_of, on_truth, signed, on_pointers, on_move, on_plus, pointer_plus, combined, store_at, Made, replace_at, operate, on_target, pointer_further}
 use Rattle.dm_meaning.specs.MoreObjects.{IsMade, IsMadeName}
 use Rattle.dm_meaning.proofs.ExtendLemmas.{nil_left, nil_right, when_false, access_absence}
@@ -70,7 +70,7 @@ module _ (scene : Scene) (world : World) (locks : List At) where
   provided_changes true did h = h
   provided_changes false did h = tt
 
-  number_changes : (kind : CType) (z : ℤ) → DidChanges (number_alone world kind z)
+  pub number_changes : (kind : CType) (z : ℤ) → DidChanges (number_alone world kind z)
   number_changes kind z = provided_changes (is_of_kind (typed kind z)) (plain world (typed kind z)) unchanged
 
   one_changes : (operands : List Operand) (next : Operand → Did) → ((a : Operand) → DidChanges (next a)) → DidChanges (on_one operands next)
@@ -114,7 +114,7 @@ module _ (scene : Scene) (world : World) (locks : List At) where
   member_changes : (m : ℕ) (kind : CType) (result : Result) → DidChanges (member_of scene world m kind result)
   member_changes m kind (of_value value) =
       unless_changes (when Unset (is_unset (or_unset (part_value value (part m ∷ []))))) (plain world (or_unset (part_value value (part m ∷ [])))) unchanged
-  member_changes m kind (designates at) = unless_changes (member_causes (layout scene.program) world.memory kind at) (gives world (designates (part_of at m)) []) unchanged
+  member_changes m kind (designates at) = unless_changes (entry_causes (layout scene.program) world.memory kind at) (gives world (designates (part_of at m)) []) unchanged
 
   converted_changes : (kind : CType) (value : Value) → DidChanges (converted world kind value)
   converted_changes (integer kind) (integer_value other z) = unchanged
@@ -225,7 +225,8 @@ module _ (scene : Scene) (world : World) (locks : List At) where
   operate_changes (object d) kind operands = designated_changes (object_named scene.objects d)
   operate_changes (function d) kind operands = unchanged
   operate_changes read kind operands = one_changes operands (λ a. on_place a.result (read_at scene world locks kind)) (λ a. place_changes a.result (read_at scene world locks kind) (read_changes kind))
-  operate_changes decay kind operands = one_changes operands _ (λ a. place_changes a.result _ (λ at. unchanged))
+  operate_changes decay kind operands =
+      one_changes operands _ (λ a. place_changes a.result _ (λ at. unless_changes (entry_causes (layout scene.program) world.memory a.kind at) (plain world (pointer_value (to (part_of at 0)))) unchanged))
   operate_changes convert kind operands = one_changes operands _ (λ a. convert_changes (bare kind) a.result)
   operate_changes address kind operands = one_changes operands _ (λ a. place_changes a.result _ (λ at. unchanged))
   operate_changes follow kind operands = one_changes operands (λ a. on_value a.result (followed world)) (λ a. value_changes a.result (followed world) followed_changes)

@@ -37,6 +37,13 @@ abbrev pub with_entries : Called → List Entry → Memory → Memory
 with_entries change [] memory = memory
 with_entries change (entry ∷ entries) memory = (entry.stored, parameter_block change entry.parameter entry.value) ∷ with_entries change entries memory
 
+-- no name of the old program is that of a parameter
+pub none_named : (rename : ℕ → ℕ) (entries : List Entry) → ((entry : Entry) → IsAmong entry entries → (d : ℕ) → rename d ≡ entry.parameter → ⊥) → (d : ℕ) → object_named (objects_in entries) (rename d) ≡ None
+none_named rename [] own d = refl
+none_named rename (entry ∷ entries) own d =
+    ap (λ b. if b then Some entry.stored else object_named (objects_in entries) (rename d)) (differ_is entry.parameter (rename d) (λ e. own entry (inl refl) d (sym e)))
+    ∙ none_named rename entries (λ other h. own other (inr h)) d
+
 zero_suc : (n : ℕ) → 0 ≡ suc n → ⊥
 zero_suc n e = omega (arith, e)
 

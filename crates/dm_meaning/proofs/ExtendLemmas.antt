@@ -18,8 +18,8 @@ use Rattle.dm_meaning.specs.Values.{Name, numbered, literal_of, elsewhere, part,
 use Rattle.dm_meaning.specs.Objects.{Layout}
 use Rattle.dm_meaning.specs.Memory.{Memory, Block, look_up, look, changed_block, written, reached_in, value_in, or_unset, contents_at, lives, may_be_written}
 use Rattle.dm_meaning.specs.Programs.{layout}
-use Rattle.dm_meaning.specs.Causes.{earliest, when, is_outside, is_other, is_fixed, is_unset, is_unset_object, absence_causes, access_causes, member_causes, read_causes, store_causes, update_causes, is_null, use_causes, follow_causes, path_moved, pointer_along, moved_pointer, moved_causes, distance_in, pointer_distance, distance_causes, in_one_object, order_causes}
-use Rattle.dm_meaning.specs.Operations.{Result, of_value, designates, Operand, World, Scene, Did, gives, unless, plain, typed, faulted, on_one, on_two, on_value, on_set, ill, on_place, object_named, designated, part_of, read_at, followed, member_of, truth_in, converted, convert_bare, told, truth_of, on_truth, signed, or_null, pointer_plus, or_zero, pointer_minus, byte_in_block, byte_at, equal_pointers, ordered, equated, on_pointers, on_move, on_plus, combined, store_at, Made, made_pointer, updated, counted, move_of, replace_at, operate, provided, is_of_kind, number_alone, on_target, pointer_further}
+use Rattle.dm_meaning.specs.Causes.{earliest, when, is_outside, is_other, is_fixed, is_unset, is_unset_object, absence_causes, access_causes, entry_causes, read_causes, store_causes, update_causes, is_null, use_causes, follow_causes, path_moved, pointer_along, moved_pointer, moved_causes, distance_in, pointer_distance, distance_causes, in_one_object, order_causes}
+use Rattle.dm_meaning.specs.Operations.{Result, of_value, designates, Operand, World, Scene, Did, gives, unless, plain, typed, faulted, on_one, on_two, on_value, on_set, ill, on_place, object_named, designated, part_of, read_at, followed, member_of, decayed, truth_in, converted, convert_bare, told, truth_of, on_truth, signed, or_null, pointer_plus, or_zero, pointer_minus, byte_in_block, byte_at, equal_pointers, ordered, equated, on_pointers, on_move, on_plus, combined, store_at, Made, made_pointer, updated, counted, move_of, replace_at, operate, provided, is_of_kind, number_alone, on_target, pointer_further}
 use Rattle.dm_meaning.proofs.OptionLemmas.{mapped_some}
 use Rattle.dm_meaning.specs.Extending.{HasAll, Extends, AreAmong, SameUnlessUndefined}
 
@@ -143,9 +143,9 @@ access_same layout memory more locks fewer kind at has among e =
     ∙ ap (λ b. when Conflict b ++ when Bounds (is_outside (reached_in layout at.path (look memory at.name))) ++ absence_causes memory at.name ++ when OtherType (is_other kind (reached_in layout at.path (look memory at.name)))) (fewer_none at locks fewer among free ∙ sym free)
     ∙ e
 
-member_causes_same : (layout : Layout) (memory more : Memory) (kind : CType) (at : At) → HasAll more memory
-    → member_causes layout memory kind at ≡ [] → member_causes layout more kind at ≡ []
-member_causes_same layout memory more kind at has e =
+entry_causes_same : (layout : Layout) (memory more : Memory) (kind : CType) (at : At) → HasAll more memory
+    → entry_causes layout memory kind at ≡ [] → entry_causes layout more kind at ≡ []
+entry_causes_same layout memory more kind at has e =
     let other = when OtherType (is_other kind (reached_in layout at.path (look memory at.name))) in
     let same = same_object memory more has at.name (nil_left (absence_causes memory at.name) other e) in
     ap (λ o. absence_causes more at.name ++ when OtherType (is_other kind (reached_in layout at.path o))) same
@@ -256,8 +256,14 @@ module _ (scene : Scene) (world more : World) (extends : Extends more world) (lo
       unless_same (when Unset (is_unset inner)) (when Unset (is_unset inner)) (plain world inner) (plain more inner) (λ e. (e, plain_same inner))
   member_same n kind (designates at) =
       let result = designates (part_of at n) in
-      unless_same (member_causes (layout scene.program) world.memory kind at) (member_causes (layout scene.program) more.memory kind at) (gives world result []) (gives more result [])
-      (λ e. (member_causes_same (layout scene.program) world.memory more.memory kind at extends.0 e, gives_same result []))
+      unless_same (entry_causes (layout scene.program) world.memory kind at) (entry_causes (layout scene.program) more.memory kind at) (gives world result []) (gives more result [])
+      (λ e. (entry_causes_same (layout scene.program) world.memory more.memory kind at extends.0 e, gives_same result []))
+
+  decayed_same : (kind : CType) (at : At) → SameUnlessUndefined (decayed scene world kind at) (decayed scene more kind at)
+  decayed_same kind at =
+      let value = pointer_value (to (part_of at 0)) in
+      unless_same (entry_causes (layout scene.program) world.memory kind at) (entry_causes (layout scene.program) more.memory kind at) (plain world value) (plain more value)
+      (λ e. (entry_causes_same (layout scene.program) world.memory more.memory kind at extends.0 e, plain_same value))
 
   converted_same : (kind : CType) (value : Value) → SameUnlessUndefined (converted world kind value) (converted more kind value)
   converted_same (integer kind) (integer_value other z) = plain_same _
@@ -531,7 +537,7 @@ module _ (scene : Scene) (world more : World) (extends : Extends more world) (lo
   operate_same (object d) kind operands = designated_same (object_named scene.objects d)
   operate_same (function d) kind operands = plain_same _
   operate_same read kind operands = one_same operands _ _ (λ a. place_same a.result _ _ (read_at_same kind))
-  operate_same decay kind operands = one_same operands _ _ (λ a. place_same a.result _ _ (λ at. plain_same _))
+  operate_same decay kind operands = one_same operands _ _ (λ a. place_same a.result _ _ (decayed_same a.kind))
   operate_same convert kind operands = one_same operands _ _ (λ a. convert_same (bare kind) a.result)
   operate_same address kind operands = one_same operands _ _ (λ a. place_same a.result _ _ (λ at. plain_same _))
   operate_same follow kind operands = one_same operands _ _ (λ a. value_same a.result _ _ followed_same)

@@ -1,9 +1,10 @@
--- The objects of static storage duration have names in every frame, from the beginning of a run on.
+-- The names of objects that mean the same in every frame, from the beginning of a run on: those of static storage duration.
 use Rattle.std.specs.Prelude.{◌≡◌, refl, ◌⊎◌, ℕ, suc, ◌==◌, Bool, true, false, ◌||◌, List, [], ◌∷◌, ◌++◌, Option, Some, None, pos, if◌then◌else◌}
 use Rattle.std.proofs.Common.{true≢false, ap, sym, ◌∙◌, subst, inl, inr}
 use Rattle.dm_token.specs.declared.place.Place.{Place}
 use Rattle.dm_int.specs.declared.Kind.TheVariants.{Int}
 use Rattle.dm_type.specs.CTypes.{CType}
+use Rattle.dm_tree.specs.Trees.{object}
 use Rattle.dm_meaning.specs.declared.cause.Cause.TheVariants.{NoValue}
 use Rattle.dm_meaning.specs.Among.{IsAmong}
 use Rattle.dm_meaning.specs.Machines.{undefined}
@@ -16,7 +17,8 @@ use Rattle.dm_meaning.specs.States.{Use, Task, begins, declares, initials, evalu
 use Rattle.dm_meaning.specs.Statements.{Turned, onward, refused, type_declared, named_from, begin_statement, begin_declarator, begin_initialiser, concluded, unfolded, ended, after_break, after_continue}
 use Rattle.dm_meaning.specs.Steps.{opened, lacks_value, gone_back, handed_back, is_main, gives_nothing, body_place, no_place, closed, turned, moved, scene_of, expression_steps, task_steps, Step}
 use Rattle.dm_meaning.specs.Units.{static_numbers, Begins}
-use Rattle.dm_meaning.specs.Called.{is_static_number}
+use Rattle.dm_meaning.specs.Called.{is_static_number, is_nowhere_local, means_the_same}
+use Rattle.dm_meaning.proofs.FrameLemmas.{StateLacks, lacks_later, begins_lacking}
 use Rattle.dm_meaning.proofs.AmongLemmas.{among-map_from}
 use Rattle.dm_meaning.proofs.OptionLemmas.{none_is_some}
 use Rattle.dm_meaning.proofs.RunLemmas.{renamed_objects, object_renamed}
@@ -56,8 +58,8 @@ all_named names i (static ∷ statics) objects d (inl e) = by_name (or_true (sta
     by_name (inl f) later = later (inr (names i, ap (λ b. if b then Some (names i) else object_named objects d) f))
     by_name (inr f) later = later (inl f)
 
-pub begins_known : (program : Program) (input : List ℕ) (state : State) → Begins program input state → AreKnown program state.statics
-begins_known program input state (names, fresh, main, is_main, e) =
+begins_named : (program : Program) (input : List ℕ) (state : State) → Begins program input state → AreKnown program state.statics
+begins_named program input state (bytes, names, fresh, main, is_main, e) =
     subst (λ (s : State). AreKnown program s.statics) (sym e) (λ d f. all_named names 0 program.statics [] d (inl f))
 
 -- ---- steps
@@ -121,8 +123,8 @@ task_statics program names state (skips ∷ rest) other k = one_statics state ot
 task_statics program names state (hands_back value ∷ rest) other k = one_statics state other (handed_back state value state.callers) (back_statics state value state.callers) k
 
 -- a step changes none of them
-pub known_later : (program : Program) (state other : State) → Step program state other → AreKnown program state.statics → AreKnown program other.statics
-known_later program state other step h =
+named_later : (program : Program) (state other : State) → Step program state other → AreKnown program state.statics → AreKnown program other.statics
+named_later program state other step h =
     subst (AreKnown program) (sym (task_statics program step.0 state (unfolded state.frame.tasks) other (from_steps state.standing _ other step.2).1)) h
 
 -- ---- frames
@@ -138,7 +140,36 @@ found_first (entry ∷ entries) own d n e = by_case (entry.0 == d) e (found_firs
     by_case false f later = later f
 
 -- it is the same in two frames
-pub same_static : (rename : ℕ → ℕ) → ((c d : ℕ) → rename c ≡ rename d → c ≡ d) → (statics own others : Objects) (d : ℕ) → IsNamed statics d
+same_static : (rename : ℕ → ℕ) → ((c d : ℕ) → rename c ≡ rename d → c ≡ d) → (statics own others : Objects) (d : ℕ) → IsNamed statics d
     → object_named (renamed_objects rename statics ++ own) (rename d) ≡ object_named (statics ++ others) d
 same_static rename injective statics own others d h =
     found_first (renamed_objects rename statics) own (rename d) h.0 (object_renamed rename injective statics d ∙ h.1) ∙ sym (found_first statics others d h.0 h.1)
+
+-- what a frame doesn't name is found beside it
+found_beside : (statics own : Objects) (d : ℕ) → object_named own d ≡ None → object_named (statics ++ own) d ≡ object_named statics d
+found_beside [] own d e = e
+found_beside (entry ∷ entries) own d e = ap (λ o. if entry.0 == d then Some entry.1 else o) (found_beside entries own d e)
+
+-- ---- what is known of the names in a state
+
+-- each object of static storage duration that the program defines has a name, and no frame has one of an object that no function has as its own
+abbrev pub NamesKnown : Program → State → Type 0
+NamesKnown program state = AreKnown program state.statics × ((d : ℕ) → is_nowhere_local program d ≡ true → StateLacks d state)
+
+pub begins_known : (program : Program) (input : List ℕ) (state : State) → Begins program input state → NamesKnown program state
+begins_known program input state beginning = (begins_named program input state beginning, λ d apart. begins_lacking program d apart input state beginning)
+
+pub known_later : (program : Program) (state other : State) → Step program state other → NamesKnown program state → NamesKnown program other
+known_later program state other step known = (named_later program state other step known.0, λ d apart. lacks_later program d apart state other step (known.1 d apart))
+
+-- such a name means the same in the added function
+pub same_named : (program : Program) (rename : ℕ → ℕ) → ((c d : ℕ) → rename c ≡ rename d → c ≡ d) → (state : State) → NamesKnown program state → (own : Objects) (d : ℕ) → object_named own (rename d) ≡ None
+    → means_the_same program (object d) ≡ true → object_named (renamed_objects rename state.statics ++ own) (rename d) ≡ object_named (state.statics ++ state.frame.objects) d
+same_named program rename injective state known own d other e = by_case (or_true (is_static_number program.statics d) (is_nowhere_local program d) e)
+  where
+    by_case : (is_static_number program.statics d ≡ true) ⊎ (is_nowhere_local program d ≡ true)
+        → object_named (renamed_objects rename state.statics ++ own) (rename d) ≡ object_named (state.statics ++ state.frame.objects) d
+    by_case (inl f) = same_static rename injective state.statics own state.frame.objects d (known.0 d f)
+    by_case (inr f) =
+        found_beside (renamed_objects rename state.statics) own (rename d) other ∙ object_renamed rename injective state.statics d
+        ∙ sym (found_beside state.statics state.frame.objects d (known.1 d f).0.0)

@@ -1,37 +1,42 @@
-mod AmongLemmas
-mod MoveLemmas
-mod StepLemmas
-mod OptionLemmas
-mod QuietLemmas
-mod ConstantLemmas
-mod RunLemmas
-mod StatementLemmas
-mod StateLemmas
-mod StartLemmas
-mod ExtendLemmas
-mod LifeLemmas
-mod UnitLemmas
-mod PrimLemmas
-mod FewerLemmas
-mod YieldLemmas
-mod StaticLemmas
+pub mod AmongLemmas
+pub mod MoveLemmas
+pub mod StepLemmas
+pub mod OptionLemmas
+pub mod QuietLemmas
+pub mod ConstantLemmas
+pub mod RunLemmas
+pub mod StatementLemmas
+pub mod StateLemmas
+pub mod StartLemmas
+pub mod ExtendLemmas
+pub mod FormLemmas
+pub mod StoreLemmas
+pub mod LifeLemmas
+pub mod UnitLemmas
+pub mod PrimLemmas
+pub mod FewerLemmas
+pub mod YieldLemmas
+pub mod StaticLemmas
 mod CallExample
-mod GrowLemmas
-mod ChangeLemmas
-mod SpareRunLemmas
-mod SpareStateLemmas
-mod SetLemmas
-mod PassRunLemmas
-mod PassStatementLemmas
-mod PassStateLemmas
-mod PassRefineLemmas
-mod KnownLemmas
-mod PassUnitLemmas
-mod LikenessLemmas
-mod StandLemmas
-mod ShrinkLemmas
-mod MatchLemmas
-mod EntryLemmas
-mod CallInstanceLemmas
+mod EnumeratorExample
+pub mod GrowLemmas
+pub mod ChangeLemmas
+pub mod SpareRunLemmas
+pub mod SpareStateLemmas
+pub mod SetLemmas
+pub mod PassRunLemmas
+pub mod PassStatementLemmas
+pub mod PassStateLemmas
+pub mod PassRefineLemmas
+pub mod FrameLemmas
+pub mod KnownLemmas
+pub mod OrderLemmas
+pub mod PassUnitLemmas
+pub mod LikenessLemmas
+pub mod StandLemmas
+pub mod ShrinkLemmas
+pub mod MatchLemmas
+pub mod EntryLemmas
+pub mod CallInstanceLemmas
 pub mod WholeLemmas
 pub mod AnywhereLemmas

@@ -4,7 +4,7 @@ use Rattle.std.specs.Prelude.{◌≡◌, refl, ◌⊎◌, ℕ, Bool, true, false
 use Rattle.std.proofs.Common.{ap, sym, ◌∙◌, subst, inl, inr}
 use Rattle.dm_token.specs.declared.place.Place.{Place}
 use Rattle.dm_type.specs.CTypes.{CType}
-use Rattle.dm_tree.specs.Trees.{Label, enumerator, object, function}
+use Rattle.dm_tree.specs.Trees.{Label, enumerator, function}
 use Rattle.dm_meaning.specs.Among.{IsAmong}
 use Rattle.dm_meaning.specs.Values.{Name, numbered, literal_of, elsewhere, At, Value, same_name, along, overlaps_any}
 use Rattle.dm_meaning.specs.Memory.{Memory, Block, look_up, new_block}
@@ -14,7 +14,7 @@ use Rattle.dm_meaning.specs.Running.{Doing, evaluates, gives_truth, gives_value,
 use Rattle.dm_meaning.specs.Expressions.{Move, goes, calls, fails, exits, lifted, function_in, where_open, moves, moves_in}
 use Rattle.dm_meaning.specs.Statements.{type_declared}
 use Rattle.dm_meaning.specs.Replaced.{relabelled}
-use Rattle.dm_meaning.specs.Called.{Called, new_of, is_static_number, means_the_same}
+use Rattle.dm_meaning.specs.Called.{Called, new_of, means_the_same}
 use Rattle.dm_meaning.specs.Extending.{AreAmong}
 use Rattle.dm_meaning.specs.MoreObjects.{IsMadeName, LocksMade}
 use Rattle.dm_meaning.proofs.AmongLemmas.{among_left, among_right, among_either, among-map_from}
@@ -26,9 +26,9 @@ use Rattle.dm_meaning.proofs.YieldLemmas.{may_give}
 
 -- ---- names and forms
 
--- in the added function no objects have names but those of static storage duration
+-- in the added function names mean the same as elsewhere
 abbrev pub may_stand : Program → Bool → Doing → Bool
-may_stand program true (evaluates (object d)) = is_static_number program.statics d
+may_stand program true (evaluates label) = means_the_same program label
 may_stand program inside doing = true
 
 pub open_of_relabelled : (rename : ℕ → ℕ) (label : Label) → open_of (relabelled rename label) ≡ open_of label
@@ -49,10 +49,6 @@ function_in_redone rename gives_value = refl
 pub if_agrees : {X Y : Type 0} (R : X → Y → Type 0) (b : Bool) (x x' : Option X) (y y' : Option Y) → OptionAgrees R x y → OptionAgrees R x' y' → OptionAgrees R (if b then x else x') (if b then y else y')
 if_agrees R true x x' y y' h k = h
 if_agrees R false x x' y y' h k = k
-
-pub stands_inside : (program : Program) (label : Label) → means_the_same program label ≡ true → may_stand program true (evaluates label) ≡ true
-stands_inside program (object d) e = e
-stands_inside program label e = refl
 
 pub among_nothing : (locks others : List At) → locks ≡ [] → AreAmong locks others
 among_nothing locks others e lock k = absurd (subst (λ l. IsAmong lock l) e k)

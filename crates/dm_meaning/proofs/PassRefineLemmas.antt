@@ -21,7 +21,7 @@ use Rattle.dm_meaning.specs.CalledWithAll.{DefinitionAgrees, FunctionsAgree, IsC
 use Rattle.dm_meaning.specs.Extending.{HasAll}
 use Rattle.dm_meaning.specs.MoreObjects.{IsSettled, with_memory, Spared}
 use Rattle.dm_meaning.proofs.OptionLemmas.{none_is_some, some_is_some}
-use Rattle.dm_meaning.proofs.KnownLemmas.{AreKnown, begins_known, known_later}
+use Rattle.dm_meaning.proofs.KnownLemmas.{NamesKnown, begins_known, known_later}
 use Rattle.dm_meaning.proofs.RunLemmas.{OptionAgrees, renamed_objects}
 use Rattle.dm_meaning.proofs.StartLemmas as plain
 use Rattle.dm_meaning.proofs.StaticLemmas.{statics_memory_same}
@@ -118,11 +118,11 @@ module _ (change : Called) (calling : IsCallingWithAll change) where
       }
 
   begins_agrees : (input : List ℕ) (state : State) → Begins (new_of change) input state → (other : State) × Begins change.old input other × StateAgrees change [] state other
-  begins_agrees input state (names, fresh, main, is_main_here, e) =
+  begins_agrees input state (bytes, names, fresh, main, is_main_here, e) =
       let found = other_main (main_of (new_of change)) (main_of change.old) main (functions_main change.functions change.old.functions calling.functions) is_main_here in
       let small : IsSmall (limit change) (Some main) = subst (IsSmall (limit change)) is_main_here (main_small (new_of change) change.functions) in (
         start names change.old found.0 input,
-        (names, fresh, found.0, found.1, refl),
+        (bytes, names, fresh, found.0, found.1, refl),
         subst (λ s. StateAgrees change [] s (start names change.old found.0 input)) (sym e) (start_agrees names main found.0 input (found.2, small)),
       )
 
@@ -135,7 +135,7 @@ module _ (change : Called) (calling : IsCallingWithAll change) where
     pub related : Related change w spare state (with_memory other more)
     pub settled : IsSettled other
     pub has : HasAll more other.world.memory
-    pub known : AreKnown change.old other.statics
+    pub known : NamesKnown change.old other
     pub spares : AllSpare change more other.world.memory (flat spare)
 
   -- ---- the simulation
@@ -189,7 +189,7 @@ module _ (change : Called) (calling : IsCallingWithAll change) where
   unfolding Outcome
   stays_met w v s' t less related = inr (0, v, t, goes_nothing change.old t, omega (arith, less), related)
 
-  met : (w : ℕ) (s' t : State) (more : Memory) (spare : Spare) → IsSettled t → HasAll more t.world.memory → AllSpare change more t.world.memory (flat spare) → AreKnown change.old t.statics → Met change w spare (with_memory t more) s' → Outcome w s' t
+  met : (w : ℕ) (s' t : State) (more : Memory) (spare : Spare) → IsSettled t → HasAll more t.world.memory → AllSpare change more t.world.memory (flat spare) → NamesKnown change.old t → Met change w spare (with_memory t more) s' → Outcome w s' t
   unfolding Outcome
   met w s' t more spare settled has spares known (inl (n, u, goes, cause, place, e)) = inl (wrong_without n change.old more t u settled has goes cause place e)
   met w s' t more spare settled has spares known (inr (inl (last, step, related))) = by_step (spared_steps change.old t last more settled has step)

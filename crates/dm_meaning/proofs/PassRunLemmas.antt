@@ -34,7 +34,7 @@ use Rattle.dm_meaning.proofs.ConstantLemmas.{own_step}
 use Rattle.dm_meaning.proofs.RunLemmas.{redone, same_renamed, OptionAgrees}
 use Rattle.dm_meaning.proofs.GrowLemmas.{equal_is, differ_is}
 use Rattle.dm_meaning.proofs.YieldLemmas.{may_give, given_may, doing_gives, Yields, PicksYield, HoleYields, MoveYields, filled_yields, begun_yields, given_set, move_yields_on}
-use Rattle.dm_meaning.proofs.MatchLemmas.{may_stand, open_parts_redone, function_in_redone, if_agrees, stands_inside, relabelled_gives, among_nothing, among_joined, stands_always, truth_stands, MoveAgrees, lifted_agrees, IsNamedRun, filled_twice, all_filled_twice, not_function, among_both, parameter_block, moving_holds}
+use Rattle.dm_meaning.proofs.MatchLemmas.{may_stand, open_parts_redone, function_in_redone, if_agrees, relabelled_gives, among_nothing, among_joined, stands_always, truth_stands, MoveAgrees, lifted_agrees, IsNamedRun, filled_twice, all_filled_twice, not_function, among_both, parameter_block, moving_holds}
 use Rattle.dm_meaning.proofs.StandLemmas.{label_in, IsStanding, Stands, StandsWhole, StandBelow, run_list, begun_stands_whole, IsPart, part_of, step_of, lock_of}
 
 -- ---- parameters in the added function
@@ -99,7 +99,7 @@ HolesYield [] filler holes = ⊥
 HolesYield (kind ∷ kinds) filler (in_first hole rest) = HoleYields kind filler hole × (is_void (bare kind) ≡ false) × AllYield kinds rest
 HolesYield (kind ∷ kinds) filler (in_others first holes) = Yields kind first × (is_void (bare kind) ≡ false) × HolesYield kinds filler holes
 
-all_filled_yield : (kinds : List CType) (filler : CType) (holes : Holes) (run : Run) → HolesYield kinds filler holes → Yields filler run → AllYield kinds (all_filled_in holes run)
+pub all_filled_yield : (kinds : List CType) (filler : CType) (holes : Holes) (run : Run) → HolesYield kinds filler holes → Yields filler run → AllYield kinds (all_filled_in holes run)
 all_filled_yield [] filler holes run h y = absurd h
 all_filled_yield (kind ∷ kinds) filler (in_first hole rest) run h y = (filled_yields kind filler hole run h.0 y, h.1, h.2)
 all_filled_yield (kind ∷ kinds) filler (in_others first holes) run h y = (h.0, h.1, all_filled_yield kinds filler holes run h.2 y)
@@ -386,7 +386,7 @@ mutual
 mutual
   begun_same : (change : Called) (entries : List Entry) (tree other : Tree) → IsSame change tree other → RunAgrees change (inside entries) (begun tree) (begun other)
   begun_same change entries (node label kind spans parts) (node other other_kind other_spans others) h =
-      inl (ap evaluates h.0, h.1, stands_inside change.old other h.2, all_begun_same change entries parts others h.3)
+      inl (ap evaluates h.0, h.1, h.2, all_begun_same change entries parts others h.3)
 
   all_begun_same : (change : Called) (entries : List Entry) (trees others : Trees) → AreSame change trees others → RunsAgree change (inside entries) (all_begun trees) (all_begun others)
   all_begun_same change entries no_trees no_trees h = tt

@@ -37,13 +37,13 @@ use Rattle.dm_meaning.proofs.MatchLemmas.{parameter_block, unlocked, filled_twic
 use Rattle.dm_meaning.proofs.ShrinkLemmas.{left_in, hole_left, Leaves as LeavesLess, filled_left, move_leaves}
 use Rattle.dm_meaning.proofs.StandLemmas.{run_list}
 use Rattle.dm_meaning.proofs.PassRunLemmas.{Entry, outside, inside, inside_not_outside, RunAgrees, PartAgrees, HoleAgrees, RunMoveAgrees, definition_agrees, added_found, filled_agrees, reading_to_do, fewer_locks, part_fewer_locks, Entered, IsReady, begun_reads_whole, run_matched, whole_matched}
-use Rattle.dm_meaning.proofs.EntryLemmas.{entries_from, objects_in, with_entries, named_entries, given_entries, entry_from, AreNamed, entries_named, own_named, come_set, all_stored, AreFresh, entries_fresh, AllSpare, spare_entry}
+use Rattle.dm_meaning.proofs.EntryLemmas.{entries_from, objects_in, none_named, with_entries, named_entries, given_entries, entry_from, AreNamed, entries_named, own_named, come_set, all_stored, AreFresh, entries_fresh, AllSpare, spare_entry}
 use Rattle.dm_meaning.proofs.YieldLemmas.{begun_yields, Yields, HoleYields, MoveYields, filled_yields, move_yields_on}
 use Rattle.dm_meaning.proofs.StatementLemmas.{map_append, numbers_renamed, named_from_renamed, length_renamed}
 use Rattle.dm_meaning.proofs.LikenessLemmas.{same_type, declared_in_agrees, made_from_agrees, items_agree, statement_begins, declarator_begins, initialiser_begins, conclusion_agrees, unfolded_agree, ended_agrees, break_agrees, continue_agrees}
 use Rattle.dm_meaning.proofs.PassStatementLemmas.{limit, definition_small, TreeFits, RunFits, DefinitionFits, UseAgrees, TasksAgree, TurnedAgrees, option_fits, body_fits, likeness, share, tasks_left, most, most_enough, most_inside, share_called}
 use Rattle.dm_meaning.proofs.OptionLemmas.{none_is_some, some_is_some}
-use Rattle.dm_meaning.proofs.KnownLemmas.{AreKnown, same_static}
+use Rattle.dm_meaning.proofs.KnownLemmas.{NamesKnown, same_named}
 
 -- ---- how states agree
 
@@ -727,7 +727,7 @@ module _ (change : Called) (calling : IsCallingWithAll change) where
 
   module _ (names : ℕ → ℕ) (other : State) (fresh : IsFresh names other.world.memory) (stands : other.standing ≡ going) (function : ℕ) (entries : List Entry) (spare : Spare)
       (caller : Caller) (others : List Caller) (run : Run) (waits : Waits change spare caller others other run) (held : AreHeld change entries)
-      (v w : ℕ) (enough : share change (hole_left caller.hole) + v ≤ w) (known : AreKnown change.old other.statics)
+      (v w : ℕ) (enough : share change (hole_left caller.hole) + v ≤ w) (known : NamesKnown change.old other)
       (found : (entry : Entry) → IsAmong entry entries → look_up other.world.memory entry.stored ≡ Some (parameter_block change entry.parameter entry.value))
       (free : (entry : Entry) → IsAmong entry entries → (locks : List At) → AreAmong locks (locks_in (filled_in waits.hole run)) → overlaps_any (whole (numbered entry.stored)) locks ≡ false) where
     abbrev in_added : List Task → State
@@ -1057,7 +1057,7 @@ module _ (change : Called) (calling : IsCallingWithAll change) where
         subst (Met change w all_spare other) (sym from.2)
         (by_match from.0 (move_yields_on new_scene other.world (locks_in now) caller.kind now yields from.0 from.1) (move_leaves new_scene other.world (locks_in now) now from.0 from.1)
         (whole_matched change calling (inside entries) inner_objects (other.statics ++ other.frame.objects)
-        (λ d stands'. same_static change.rename calling.injective other.statics (objects_in entries) other.frame.objects d (known d stands')) other.world (locks_in now) (locks_in whole_run) fewer
+        (λ d stands'. same_named change.old change.rename calling.injective other known (objects_in entries) d (none_named change.rename entries held.own d) stands') other.world (locks_in now) (locks_in whole_run) fewer
         (all_ready (locks_in now) fewer) now run agrees from.0 from.1))
       where
         by_match : (m : Move Run Hole) → MoveYields caller.kind m → LeavesLess (left_in (to_do doing kind here_at parts)) m
@@ -1103,7 +1103,7 @@ module _ (change : Called) (calling : IsCallingWithAll change) where
 
   -- a step in the added function
   inside_met : (w : ℕ) (first : List Entry) (rest : Spare) (state next_state other : State) → InsideAgrees change w first rest state other
-      → (memory : Memory) → AllSpare change other.world.memory memory (flat (first ∷ rest)) → TasksSettled memory (unfolded other.frame.tasks) → AreKnown change.old other.statics → Step (new_of change) state next_state → Met change w (first ∷ rest) other next_state
+      → (memory : Memory) → AllSpare change other.world.memory memory (flat (first ∷ rest)) → TasksSettled memory (unfolded other.frame.tasks) → NamesKnown change.old other → Step (new_of change) state next_state → Met change w (first ∷ rest) other next_state
   inside_met w first rest state next_state other h memory spares settled known step =
       let moved_step = subst (λ s. Step (new_of change) s next_state) (inside_is w first rest state other h) step in
       let from = from_steps other.standing _ next_state moved_step.2 in
@@ -1114,7 +1114,7 @@ module _ (change : Called) (calling : IsCallingWithAll change) where
 
   -- each step is met
   pub step_met : (w : ℕ) (spare : Spare) (state next_state other : State) → Related change w spare state other
-      → (memory : Memory) → AllSpare change other.world.memory memory (flat spare) → TasksSettled memory (unfolded other.frame.tasks) → AreKnown change.old other.statics → Step (new_of change) state next_state → Met change w spare other next_state
+      → (memory : Memory) → AllSpare change other.world.memory memory (flat spare) → TasksSettled memory (unfolded other.frame.tasks) → NamesKnown change.old other → Step (new_of change) state next_state → Met change w spare other next_state
   step_met w spare state next_state other (inl (enough, h)) memory spares settled known step =
       let moved_step : Step (new_of change) (built change other state.frame.tasks state.callers) next_state =
       subst (λ s. Step (new_of change) s next_state) (is_built change spare state other h) step in

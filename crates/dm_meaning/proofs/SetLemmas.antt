@@ -19,7 +19,7 @@ use Rattle.dm_meaning.specs.Objects.{Layout, Field, Reached, object_of, outside,
 use Rattle.dm_meaning.specs.Memory.{Memory, Block, look_up, look, lives, reached, reached_in, literal_block, contents_at, written}
 use Rattle.dm_meaning.specs.Primitives.{Answer, answers, stops, refuses, put_character, get_character, text_at, most_in, written_line, put_line, end_program, Primitive, primitives, is_primitive, primitive_in, Prim}
 use Rattle.dm_meaning.specs.Programs.{layout}
-use Rattle.dm_meaning.specs.Causes.{when, is_null, store_causes, update_causes, is_unset, is_unset_object, is_outside, is_other, absence_causes, access_causes, read_causes, use_causes, order_causes, distance_causes}
+use Rattle.dm_meaning.specs.Causes.{when, is_null, store_causes, update_causes, is_unset, is_unset_object, is_outside, is_other, absence_causes, access_causes, entry_causes, read_causes, use_causes, order_causes, distance_causes}
 use Rattle.dm_meaning.specs.Operations.{Result, of_value, designates, Operand, World, Scene, Did, gives, breaks, ends_with, provided, unless, number_alone, is_of_kind, faulted, on_one, on_two, on_value, on_set, ill, on_place, converted, store_at, made_number, kind_in, updated, counted, count_at, update_at, Truth, holds, untold, truth_of, on_truth, truth_in, made_right, typed_bare, typed, plain, read_at, part_of, byte_at, ordered, signed, pointer_plus, on_pointers, on_move, on_plus, combined, operate, on_target, pointer_further, made_pointer}
 use Rattle.dm_meaning.proofs.OptionLemmas.{none_is_some}
 use Rattle.dm_meaning.proofs.ExtendLemmas.{nil_left, nil_right, when_false}
@@ -129,7 +129,7 @@ typed_result kind z = (typed kind z, refl, typed_set kind z)
 pointer_result : (p : Pointer) → IsSetResult (of_value (pointer_value p))
 pointer_result p = (pointer_value p, refl, refl)
 
-unless_sets : (causes : List Cause) (did : Did) → (causes ≡ [] → DidSets did) → DidSets (unless causes did)
+pub unless_sets : (causes : List Cause) (did : Did) → (causes ≡ [] → DidSets did) → DidSets (unless causes did)
 unless_sets [] did h = h refl
 unless_sets (cause ∷ causes) did h = tt
 
@@ -409,7 +409,8 @@ module _ (scene : Scene) (world : World) (locks : List At) where
   operate_sets (number z) kind operands h = number_sets world kind z
   operate_sets (enumerator d) kind operands h = number_sets world kind _
   operate_sets read kind operands h = one_sets operands _ (λ a. place_sets a.result _ (read_sets kind))
-  operate_sets decay kind operands h = one_sets operands _ (λ a. place_sets a.result _ (λ at. pointer_result (to (part_of at 0))))
+  operate_sets decay kind operands h =
+      one_sets operands _ (λ a. place_sets a.result _ (λ at. unless_pointer (entry_causes (layout scene.program) world.memory a.kind at) world (to (part_of at 0))))
   operate_sets address kind operands h = one_sets operands _ (λ a. place_sets a.result _ (λ at. pointer_result (to at)))
   operate_sets (unary sign) kind operands h = one_sets operands _ (λ a. value_sets a.result _ (signed_sets kind sign))
   operate_sets (binary op) kind operands h = two_sets operands _ (λ a b. value_sets a.result _ (λ x. value_sets b.result _ (combined_sets kind a.kind op x)))

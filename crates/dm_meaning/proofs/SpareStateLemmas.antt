@@ -10,9 +10,9 @@ use Rattle.dm_meaning.specs.declared.cause.Cause.TheVariants.{NoValue, External}
 use Rattle.dm_meaning.specs.Among.{IsAmong}
 use Rattle.dm_meaning.specs.Machines.{Standing, going, exited, undefined, Goes}
 use Rattle.dm_meaning.specs.Simulation.{GoesWrong}
-use Rattle.dm_meaning.specs.Values.{At, Value, integer_value, unset}
+use Rattle.dm_meaning.specs.Values.{Name, numbered, literal_of, elsewhere, At, Value, integer_value, unset}
 use Rattle.dm_meaning.specs.Objects.{Layout, all_zero}
-use Rattle.dm_meaning.specs.Memory.{Memory, Block, look_up, new_block, killed, written, IsFresh}
+use Rattle.dm_meaning.specs.Memory.{Memory, Block, look_up, look, new_block, contents_at, killed, written, IsFresh}
 use Rattle.dm_meaning.specs.Programs.{Program, Definition, layout, declaration_of, definition_of}
 use Rattle.dm_meaning.specs.Operations.{Result, of_value, Objects, object_named, Truth, holds, untold, truth_of, World}
 use Rattle.dm_meaning.specs.Running.{Run, done, to_do, begun, all_begun, locks_in, locks_in_all, Hole, here, within, Holes, in_first, in_others, filled_in, all_filled_in}
@@ -26,6 +26,7 @@ use Rattle.dm_meaning.specs.Lifetimes.{numbers_of}
 use Rattle.dm_meaning.specs.Replaced.{Zipped}
 use Rattle.dm_meaning.specs.MoreObjects.{IsMade, IsMadeName, ObjectsMade, LocksMade, UseSettled, TaskSettled, TasksSettled, FrameSettled, CallersSettled, IsSettled, Grown, with_memory, Spared}
 use Rattle.dm_meaning.proofs.OptionLemmas.{none_is_some, some_is_some}
+use Rattle.dm_meaning.proofs.ExtendLemmas.{same_contents}
 use Rattle.dm_meaning.proofs.GrowLemmas.{grown_same, grown_join, grown_written, grown_killed, FreshFrom, AreApart, grown_made, objects_made, given_made, given_all, fresh_from, since_made}
 use Rattle.dm_meaning.proofs.SpareRunLemmas.{name_made_later, locks_made_later, locks_made_joined, no_locks_made, TruthSpared, truth_spared, RunSpared, hole_locks, moves_spared}
 use Rattle.dm_meaning.proofs.StateLemmas.{from_steps}
@@ -158,6 +159,12 @@ mutual
 
 -- ---- statements
 
+-- the object of a name that has been made is the same where there are more
+same_made : (memory more : Memory) → HasAll more memory → (name : Name) → IsMadeName memory name → look more name ≡ look memory name
+same_made memory more has (numbered n) h = has n h.0 h.1 ∙ sym h.1
+same_made memory more has (literal_of bytes unit) h = refl
+same_made memory more has (elsewhere identifier) h = refl
+
 -- the same turn, unless it is refused without the spare objects
 abbrev pub TurnedSpared : Memory → Memory → Turned → Turned → Type 0
 TurnedSpared more memory t (refused cause place) = Unit {0}
@@ -198,9 +205,6 @@ module _ (program : Program) (names : ℕ → ℕ) (objects : Objects) (memory m
   module _ (rest : List Task) (settled : TasksSettled memory rest) where
     ends_here : TasksSettled memory (ends objects ∷ rest)
     ends_here = (made, settled)
-
-    evaluation_here : (tree : Tree) (use_of : Use) → UseSettled memory use_of → TasksSettled memory rest → TaskSettled memory (evaluation tree use_of)
-    evaluation_here tree use_of h k = (begun_locks memory tree, h)
 
     otherwise : Same (onward objects (ends objects ∷ rest) more) (onward objects (ends objects ∷ rest) memory)
     otherwise = stays (ends objects ∷ rest) ends_here
@@ -286,8 +290,10 @@ module _ (program : Program) (names : ℕ → ℕ) (objects : Objects) (memory m
         → Same (begin_initialiser program objects rest more at kind initialiser trees) (begin_initialiser program objects rest memory at kind initialiser trees)
     initialiser_spared at kind one_expression trees h = one_tree_spared trees _ _ _ _ (λ x. evaluating x (initialises at kind) rest h settled) (stays rest settled)
     initialiser_spared at kind (in_braces items) trees h =
-        let value = value_listed (layout program) kind (count_items items) in
-        let grown = grown_written at.name at.path value more memory has h in
+        let listed_as = value_listed (layout program) kind (count_items items) in
+        let value = listed_as (contents_at memory at) in
+        let same = ap listed_as (sym (same_contents memory more at (same_made memory more has at.name h))) in
+        let grown = subst (λ v. Grown more memory (written more at v) (written memory at value)) same (grown_written at.name at.path value more memory has h) in
         let later = written memory at value in (
           refl,
           refl,
@@ -601,7 +607,7 @@ spared_steps program state later more settled has step = next_spared program ste
 
 -- Whatever a state names at the beginning of a run has been made.
 pub settled_beginnings : (program : Program) (input : List ℕ) (state : State) → Begins program input state → IsSettled state
-settled_beginnings program input state (names, fresh, main, is_main, e) = subst IsSettled (sym e) (start_settled_here names main)
+settled_beginnings program input state (bytes, names, fresh, main, is_main, e) = subst IsSettled (sym e) (start_settled_here names main)
   where
     start_settled_here : (names : ℕ → ℕ) (main : Definition) → IsSettled (start names program main input)
     start_settled_here names main =

@@ -20,7 +20,7 @@ use Rattle.dm_meaning.proofs.MoveLemmas.{lifted_again}
 use Rattle.dm_meaning.proofs.OptionLemmas.{some_is_some}
 use Rattle.dm_meaning.proofs.RunLemmas.{redone}
 use Rattle.dm_meaning.proofs.GrowLemmas.{equal_is, equal_of, differ_is}
-use Rattle.dm_meaning.proofs.MatchLemmas.{may_stand, stands_inside, filled_twice, opened_twice}
+use Rattle.dm_meaning.proofs.MatchLemmas.{may_stand, filled_twice, opened_twice}
 
 -- ---- the expression with arguments in it
 
@@ -112,7 +112,7 @@ mutual
   begun_stands : (change : Called) (arguments : Trees) (tree other : Tree) → Holds change arguments tree other
       → Stands change (given change.added.parameters (map kind_of (listed arguments))) (given change.added.parameters (run_list (all_begun arguments))) tree (begun other)
   begun_stands change arguments (node label kind spans parts) (node other other_kind other_spans others) h =
-      (ap evaluates h.0, h.1, stands_inside change.old other h.2, all_begun_stand change arguments (open_of other) parts others h.3)
+      (ap evaluates h.0, h.1, h.2, all_begun_stand change arguments (open_of other) parts others h.3)
 
   all_begun_stand : (change : Called) (arguments : Trees) (opens : Open) (parts others : Trees) → HoldsBelow change arguments opens parts others
       → StandBelow change (given change.added.parameters (map kind_of (listed arguments))) (given change.added.parameters (run_list (all_begun arguments))) opens parts (all_begun others)
@@ -168,7 +168,7 @@ module _ (change : Called) (d : ℕ) (own : (c : ℕ) → change.rename c ≡ d 
   renamed_elsewhere (object c) = ap (λ b. if b then 1 else 0) (differ_is (change.rename c) d (own c))
   renamed_elsewhere label = refl
 
-  doing_elsewhere : (label : Label) (doing : Doing) → evaluates label ≡ redone change.rename doing → times_here d label ≡ 0
+  pub doing_elsewhere : (label : Label) (doing : Doing) → evaluates label ≡ redone change.rename doing → times_here d label ≡ 0
   doing_elsewhere label (evaluates other) e = ap (times_here d) (ap label_in e) ∙ renamed_elsewhere other
   doing_elsewhere label gives_truth e = absurd (cc)
   doing_elsewhere label gives_value e = absurd (cc)

@@ -303,10 +303,10 @@ module _ (change : Replaced) (replacement : IsReplacement change) where
       }
 
   begins_agrees : (input : List ℕ) (state : State) → Begins (new_of change) input state → (other : State) × Begins change.old input other × StateAgrees change state other
-  begins_agrees input state (names, fresh, main, is_main_here, e) =
+  begins_agrees input state (bytes, names, fresh, main, is_main_here, e) =
       let found = other_main (main_of (new_of change)) (main_of change.old) main (main_agrees change.functions change.old.functions replacement.functions) is_main_here in (
         start names change.old found.0 input,
-        (names, fresh, found.0, found.1, refl),
+        (bytes, names, fresh, found.0, found.1, refl),
         subst (λ s. StateAgrees change s (start names change.old found.0 input)) (sym e) (start_agrees names main found.0 input found.2),
       )
 

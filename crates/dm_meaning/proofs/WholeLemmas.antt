@@ -2,20 +2,20 @@
 --     typed-expression      of an expression
 --     typed-whole      of a statement
 --     typed-declared      of the expressions that declarators have
-use Rattle.std.specs.Prelude.{◌≡◌, ℕ, zero, suc, Bool, true, false, not, ◌&&◌, MatchBool, IsTrue, List, [], ◌∷◌, take, drop, All, Option, Some, None, IsSome, IfSome, slice_get, refl}
-use Rattle.std.proofs.Common.{ap, sym, subst, ◌∙◌}
+use Rattle.std.specs.Prelude.{◌≡◌, ℕ, zero, suc, Bool, true, false, not, ◌&&◌, MatchBool, List, [], ◌∷◌, take, drop, All, Option, Some, None, IsSome, IfSome, slice_get, refl}
+use Rattle.std.proofs.Common.{sym, subst}
 use Rattle.std.proofs.lemmas.Bool.{and_from}
 use Rattle.std.proofs.lemmas.List.Elements.{All-head, All-tail}
 use Rattle.dm_type.specs.CTypes.{CType, void, array}
 use Rattle.dm_tree.proofs.ExpressionLemmas.{IsExpression, AreExpressions, value-expression, constants-expressions, expressions-in, fits-expression}
-use Rattle.dm_tree.specs.Initialisers.{is_fixed, targets, Initialises, AllInitialise, InitialiserFits, FitsEntry, DeclaratorFits, expressions_of, DeclaratorsFit}
-use Rattle.dm_tree.specs.Scenes.{Scene, IsValue, IsStatement, IsConstant, Names}
+use Rattle.dm_tree.specs.Initialisers.{is_fixed, targets, Initialises, AllInitialise, InitialiserFits, FitsEntry, expressions_of, DeclaratorsFit}
+use Rattle.dm_tree.specs.Scenes.{Scene, IsValue, IsStatement}
 use Rattle.dm_tree.specs.Trees.{Declarator, Initialiser, Label, Tree, Trees, node, no_trees, more_trees, label_of, listed, is_statement}
 use Rattle.dm_tree.specs.Trees as label
 use Rattle.dm_tree.specs.TypeNumbers.{all_pass}
-use Rattle.dm_tree.specs.Typing.{IsStart, FitsLoop, FitsReturn, FitsStatement, FitsExpression, Fits, inside, IsWellTyped, AreWellTyped}
+use Rattle.dm_tree.specs.Typing.{IsStart, FitsLoop, FitsStatement, FitsExpression, Fits, inside, IsWellTyped, AreWellTyped}
 use Rattle.dm_tree.specs.Units.{Declaration}
-use Rattle.dm_meaning.specs.Wholes.{is_expression, are_expressions, all_expressions, is_whole_start, first_and, loop_whole, do_whole, whole_by, is_whole, are_whole}
+use Rattle.dm_meaning.specs.Wholes.{is_expression, are_expressions, all_expressions, is_whole_start, loop_whole, whole_by, is_whole, are_whole}
 
 -- ---- expressions
 

@@ -1,25 +1,28 @@
 -- The evaluation of an expression that gives a value keeps its type, and comes to a value and to no lvalue, which was set unless the type is
 -- void.
-use Rattle.std.specs.Prelude.{◌≡◌, refl, ◌⊎◌, ℕ, Bool, true, false, not, ◌&&◌, List, [], ◌∷◌, map, Option, Some, None, ℤ}
+use Rattle.std.specs.Prelude.{◌≡◌, refl, ◌⊎◌, ℕ, Bool, true, false, not, ◌&&◌, List, [], ◌∷◌, ◌++◌, map, Option, Some, None, ℤ}
 use Rattle.std.proofs.Common.{ap, sym, ◌∙◌, subst, inl, inr}
 use Rattle.dm_token.specs.declared.place.Place.{Place}
 use Rattle.dm_int.specs.Operators as operators
 use Rattle.dm_type.specs.CTypes.{CType, void, integer, pointer, array, struct, function as function_type, const, bare}
 use Rattle.dm_tree.specs.Scenes.{is_void}
-use Rattle.dm_tree.specs.Trees.{Label, number, enumerator, read, decay, convert, address, unary, binary, both, either, choose, comma, store, update, count, call, sizeof_tree, sizeof_kind, Tree, Trees, node, no_trees, more_trees, label_of, kind_of}
+use Rattle.dm_tree.specs.Trees.{Label, number, enumerator, read, decay, convert, address, member, unary, binary, both, either, choose, comma, store, update, count, call, sizeof_tree, sizeof_kind, Tree, Trees, node, no_trees, more_trees, label_of, kind_of}
 use Rattle.dm_tree.specs.Units.{Declaration}
 use Rattle.dm_meaning.specs.Among.{IsAmong}
-use Rattle.dm_meaning.specs.Values.{At, Value, unset}
-use Rattle.dm_meaning.specs.Causes.{is_unset}
+use Rattle.dm_meaning.specs.declared.cause.Cause.TheVariants.{Unset}
+use Rattle.dm_meaning.specs.Values.{part, At, Value, unset, part_value}
+use Rattle.dm_meaning.specs.Memory.{or_unset}
+use Rattle.dm_meaning.specs.Causes.{when, is_unset}
 use Rattle.dm_meaning.specs.Primitives.{Answer, answers, stops, refuses, Prim}
 use Rattle.dm_meaning.specs.Programs.{Definition, layout, declaration_of, definition_of}
-use Rattle.dm_meaning.specs.Operations.{Result, of_value, Operand, World, Scene, Did, gives, breaks, ends_with, on_one, convert_bare, Truth, holds, untold, truth_of, truth_in, typed, operate}
+use Rattle.dm_meaning.specs.Operations.{Result, of_value, Operand, World, Scene, Did, gives, breaks, ends_with, plain, on_one, member_of, convert_bare, Truth, holds, untold, truth_of, truth_in, typed, operate}
 use Rattle.dm_meaning.specs.Running.{Doing, evaluates, gives_truth, gives_value, Run, done, to_do, Runs, no_runs, more_runs, begun, all_begun, Hole, here, within, Holes, in_first, filled_in, all_filled_in, locks_in_all, open_parts, operands_in}
 use Rattle.dm_meaning.specs.Expressions.{Move, goes, calls, fails, exits, lifted, as_move, by_truth, on_operand, answered, undefined_called, called, call_step, function_named, nth_run, value_of, both_chosen, either_chosen, operand_chosen, form_step, node_step, own_or_inner, moves, moves_in}
 use Rattle.dm_meaning.specs.Steps.{lacks_value}
-use Rattle.dm_meaning.specs.Called.{gives_value as root_gives_value, Gives, GivesPicked}
+use Rattle.dm_meaning.specs.Called.{gives_value as root_gives_value, Gives, GivesBelow}
 use Rattle.dm_meaning.proofs.AmongLemmas.{among_either, among-map_from}
-use Rattle.dm_meaning.proofs.SetLemmas.{DidSets, typed_set, set_sets, converted_sets, AnswerSets, prim_sets, is_set, operate_sets, number_sets}
+use Rattle.dm_meaning.proofs.ExtendLemmas.{when_false}
+use Rattle.dm_meaning.proofs.SetLemmas.{DidSets, unless_sets, typed_set, set_sets, converted_sets, AnswerSets, prim_sets, is_set, operate_sets, number_sets}
 
 -- ---- what a step of an operator gives
 
@@ -92,10 +95,11 @@ abbrev mutual
   Yields kind (done own result locks) = (own ≡ kind) × (value : Value) × (result ≡ of_value value) × (lacks_value own value ≡ false)
   Yields kind (to_do doing own place parts) = (own ≡ kind) × ((doing_gives doing ≡ true) ⊎ PicksYield kind doing parts)
 
-  -- by an operand that was picked or may be
+  -- by an operand that was picked or may be, or by that of a member
   pub PicksYield : CType → Doing → Runs → Type 0
   PicksYield kind (evaluates choose) (more_runs condition (more_runs second (more_runs third no_runs))) = Yields kind second × Yields kind third
   PicksYield kind (evaluates comma) (more_runs first (more_runs second no_runs)) = Yields kind second
+  PicksYield kind (evaluates (member n)) (more_runs operand no_runs) = (other : CType) × Yields other operand
   PicksYield kind gives_value (more_runs picked no_runs) = Yields kind picked
   PicksYield kind doing parts = ⊥
 
@@ -108,6 +112,7 @@ abbrev mutual
   pub HolesPick : CType → CType → Doing → Holes → Type 0
   HolesPick kind called_kind (evaluates choose) (in_first hole (more_runs second (more_runs third no_runs))) = Yields kind second × Yields kind third
   HolesPick kind called_kind (evaluates comma) (in_first hole (more_runs second no_runs)) = Yields kind second
+  HolesPick kind called_kind (evaluates (member n)) (in_first hole no_runs) = (other : CType) × HoleYields other called_kind hole
   HolesPick kind called_kind gives_value (in_first hole no_runs) = HoleYields kind called_kind hole
   HolesPick kind called_kind doing holes = ⊥
 
@@ -126,6 +131,7 @@ mutual
   filled_pick : (kind called_kind : CType) (doing : Doing) (holes : Holes) (run : Run) → HolesPick kind called_kind doing holes → Yields called_kind run → PicksYield kind doing (all_filled_in holes run)
   filled_pick kind called_kind (evaluates choose) (in_first hole (more_runs second (more_runs third no_runs))) run h k = h
   filled_pick kind called_kind (evaluates comma) (in_first hole (more_runs second no_runs)) run h k = h
+  filled_pick kind called_kind (evaluates (member n)) (in_first hole no_runs) run h k = (h.0, filled_yields h.0 called_kind hole run h.1 k)
   filled_pick kind called_kind gives_value (in_first hole no_runs) run h k = filled_yields kind called_kind hole run h k
   filled_pick kind called_kind doing holes run h k = absurd h
 
@@ -134,26 +140,30 @@ mutual
   begun_yields (node label kind spans parts) (inl e) = (refl, inl e)
   begun_yields (node label kind spans parts) (inr h) = (refl, inr (begun_pick label kind parts h))
 
-  begun_pick : (label : Label) (kind : CType) (parts : Trees) → GivesPicked label kind parts → PicksYield kind (evaluates label) (all_begun parts)
+  begun_pick : (label : Label) (kind : CType) (parts : Trees) → GivesBelow label kind parts → PicksYield kind (evaluates label) (all_begun parts)
   begun_pick choose kind (more_trees condition (more_trees second (more_trees third no_trees))) h =
       (subst (λ t. Yields t (begun second)) h.0 (begun_yields second h.1), subst (λ t. Yields t (begun third)) h.2 (begun_yields third h.3))
   begun_pick comma kind (more_trees first (more_trees second no_trees)) h = subst (λ t. Yields t (begun second)) h.0 (begun_yields second h.1)
+  begun_pick (member n) kind (more_trees operand no_trees) h = (kind_of operand, begun_yields operand h)
   begun_pick label kind parts h = absurd h
 
 -- the forms of which an expression that gives a value is
 abbrev pub may_give : Label → Bool
 may_give choose = true
 may_give comma = true
+may_give (member n) = true
 may_give label = root_gives_value label
 
-picked_may : (label : Label) (kind : CType) (parts : Trees) → GivesPicked label kind parts → may_give label ≡ true
+picked_may : (label : Label) (kind : CType) (parts : Trees) → GivesBelow label kind parts → may_give label ≡ true
 picked_may choose kind parts h = refl
 picked_may comma kind parts h = refl
+picked_may (member n) kind parts h = refl
 picked_may label kind parts h = absurd h
 
 value_may : (label : Label) → root_gives_value label ≡ true → may_give label ≡ true
 value_may choose e = refl
 value_may comma e = refl
+value_may (member n) e = refl
 value_may label e = e
 
 pub given_may : (tree : Tree) → Gives tree → may_give (label_of tree) ≡ true
@@ -327,16 +337,56 @@ module _ (scene : Scene) (world : World) (locks : List At) (kind : CType) where
           subst (MoveYields kind) (sym (g ∙ ap (lifted (to_do gives_value own place) (within gives_value own place)) inner.2)) (kept inner.0 (later inner.0 inner.1))
       from_first x g (inr l) = absurd l
 
+  -- a member of a value that was set
+  member_yields : (n : ℕ) (own picked_kind : CType) (value : Value) → DidYields own (member_of scene world n picked_kind (of_value value))
+  member_yields n own picked_kind value =
+      set_yields own _ (unless_sets (when Unset (is_unset inner)) (plain world inner) (λ e. (inner, refl, when_false Unset (is_unset inner) e)))
+    where
+      inner : Value
+      inner = or_unset (part_value value (part n ∷ []))
+
+  -- the member of what the operand comes to
+  member_on : (n : ℕ) (own : CType) (place : Place) (operand : Run) (other : CType) → own ≡ kind → Yields other operand
+      → ((x : Move Run Hole) → IsAmong x (moves scene world locks operand) → MoveYields other x) → (m : Move Run Hole)
+      → IsAmong m (moves scene world locks (to_do (evaluates (member n)) own place (more_runs operand no_runs))) → MoveYields kind m
+  member_on n own place (done picked_kind result own_locks) other e h later m (inl f) =
+      subst (MoveYields kind) (sym f)
+      (did_yields own place (own_locks ++ []) (member_of scene world n picked_kind result) e
+      (subst (λ r. DidYields own (member_of scene world n picked_kind r)) (sym h.2) (member_yields n own picked_kind h.1)))
+  member_on n own place (done picked_kind result own_locks) other e h later m (inr f) = absurd f
+  member_on n own place (to_do doing picked_kind at parts) other e h later m f =
+      let outer = among-map_from (lifted (to_do (evaluates (member n)) own place) (within (evaluates (member n)) own place)) m _ f in
+      from_first outer.0 outer.2 (among_either outer.0 _ [] outer.1)
+    where
+      kept : (x : Move Run Hole) → MoveYields other x
+          → MoveYields kind (lifted (to_do (evaluates (member n)) own place) (within (evaluates (member n)) own place) (lifted (λ run. more_runs run no_runs) (λ hole. in_first hole no_runs) x))
+      kept (goes after run) k = (e, inr (other, k))
+      kept (calls g arguments called_kind hole) k = (e, inr (other, k))
+      kept (fails cause at_place) k = tt
+      kept (exits status) k = tt
+
+      from_first : (x : Move Runs Holes) → m ≡ lifted (to_do (evaluates (member n)) own place) (within (evaluates (member n)) own place) x
+          → IsAmong x (map (lifted (λ run. more_runs run no_runs) (λ hole. in_first hole no_runs)) (moves scene world locks (to_do doing picked_kind at parts))) ⊎ IsAmong x [] → MoveYields kind m
+      from_first x g (inl l) =
+          let inner = among-map_from (lifted (λ run. more_runs run no_runs) (λ hole. in_first hole no_runs)) x _ l in
+          subst (MoveYields kind) (sym (g ∙ ap (lifted (to_do (evaluates (member n)) own place) (within (evaluates (member n)) own place)) inner.2)) (kept inner.0 (later inner.0 inner.1))
+      from_first x g (inr l) = absurd l
+
+module _ (scene : Scene) (world : World) (locks : List At) where
   mutual
     -- each step keeps what a tree comes to
-    pub move_yields_on : (run : Run) → Yields kind run → (m : Move Run Hole) → IsAmong m (moves scene world locks run) → MoveYields kind m
-    move_yields_on (done own result own_locks) h m k = absurd k
-    move_yields_on (to_do doing own place parts) (e, inl h) m k =
-        own_yields doing own place parts e h (operands_in (open_parts doing) parts) (moves_in scene world locks (open_parts doing) parts) m k
-    move_yields_on (to_do doing own place parts) (e, inr h) m k = pick_yields_on doing own place parts e h m k
+    pub move_yields_on : (kind : CType) (run : Run) → Yields kind run → (m : Move Run Hole) → IsAmong m (moves scene world locks run) → MoveYields kind m
+    move_yields_on kind (done own result own_locks) h m k = absurd k
+    move_yields_on kind (to_do doing own place parts) (e, inl h) m k =
+        own_yields scene world locks kind doing own place parts e h (operands_in (open_parts doing) parts) (moves_in scene world locks (open_parts doing) parts) m k
+    move_yields_on kind (to_do doing own place parts) (e, inr h) m k = pick_yields_on kind doing own place parts e h m k
 
-    pick_yields_on : (doing : Doing) (own : CType) (place : Place) (parts : Runs) → own ≡ kind → PicksYield kind doing parts → (m : Move Run Hole) → IsAmong m (moves scene world locks (to_do doing own place parts)) → MoveYields kind m
-    pick_yields_on (evaluates choose) own place (more_runs condition (more_runs second (more_runs third no_runs))) e h m k = choose_on own place condition second third e h.0 h.1 m k
-    pick_yields_on (evaluates comma) own place (more_runs first (more_runs second no_runs)) e h m k = comma_on own place first second e h m k
-    pick_yields_on gives_value own place (more_runs picked no_runs) e h m k = picked_on own place picked e h (move_yields_on picked h) m k
-    pick_yields_on doing own place parts e h m k = absurd h
+    pick_yields_on : (kind : CType) (doing : Doing) (own : CType) (place : Place) (parts : Runs) → own ≡ kind → PicksYield kind doing parts → (m : Move Run Hole)
+        → IsAmong m (moves scene world locks (to_do doing own place parts)) → MoveYields kind m
+    pick_yields_on kind (evaluates choose) own place (more_runs condition (more_runs second (more_runs third no_runs))) e h m k =
+        choose_on scene world locks kind own place condition second third e h.0 h.1 m k
+    pick_yields_on kind (evaluates comma) own place (more_runs first (more_runs second no_runs)) e h m k = comma_on scene world locks kind own place first second e h m k
+    pick_yields_on kind (evaluates (member n)) own place (more_runs operand no_runs) e h m k =
+        member_on scene world locks kind n own place operand h.0 e h.1 (move_yields_on h.0 operand h.1) m k
+    pick_yields_on kind gives_value own place (more_runs picked no_runs) e h m k = picked_on scene world locks kind own place picked e h (move_yields_on kind picked h) m k
+    pick_yields_on kind doing own place parts e h m k = absurd h

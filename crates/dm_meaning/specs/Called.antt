@@ -3,11 +3,13 @@
 --     Called      the old program, what the new one has, how the numbers of its declarations come of the old ones, and the added function
 --     Agrees change tree other      a tree of the new program and one of the old are the same but for such calls
 --     IsCalling change      the programs are the same but for such calls and the added function
-use Rattle.std.specs.Prelude.{◌≡◌, ◌⊎◌, ℕ, ◌==◌, Bool, true, false, ◌||◌, List, [], ◌∷◌, map, option_map}
+use Rattle.std.specs.List.{list_any}
+use Rattle.std.specs.Prelude.{◌≡◌, ◌⊎◌, ℕ, ◌==◌, Bool, true, false, not, ◌&&◌, ◌||◌, List, [], ◌∷◌, map, option_map}
 use Rattle.dm_type.specs.CTypes.{CType}
-use Rattle.dm_tree.specs.Trees.{Label, number, enumerator, object, function, read, decay, convert, address, unary, binary, both, either, choose, comma, store, update, count, call, sizeof_tree, sizeof_kind, case, return, Spans, Tree, Trees, node, no_trees, more_trees, label_of, kind_of, trees_of, parts_of}
+use Rattle.dm_tree.specs.Trees.{Label, number, enumerator, object, function, read, decay, convert, address, member, unary, binary, both, either, choose, comma, store, update, count, call, sizeof_tree, sizeof_kind, case, return, Spans, Tree, Trees, node, no_trees, more_trees, label_of, kind_of, trees_of, parts_of}
 use Rattle.dm_tree.specs.Units.{Declaration}
 use Rattle.dm_meaning.specs.Programs.{Definition, Static, Program, declaration_of, constant_of}
+use Rattle.dm_meaning.specs.Statements.{is_automatic_declaration}
 use Rattle.dm_meaning.specs.Steps.{is_main}
 use Rattle.dm_meaning.specs.Replaced.{Replaced, relabelled, Zipped, facts_of, StaticAgrees}
 
@@ -48,25 +50,35 @@ gives_value (sizeof_kind type) = true
 gives_value label = false
 
 abbrev mutual
-  -- the expression gives a value and no lvalue: by its own step, or by that of the operands of ?: or the comma that may be picked, which have
-  -- its type (6.5.15p4, 6.5.17p2)
+  -- the expression gives a value and no lvalue: by its own step, or because operands do, which are that of a member (6.5.2.3p3) and those of ?:
+  -- and the comma that may be picked; these have its type (6.5.15p4, 6.5.17p2)
   pub Gives : Tree → Type 0
-  Gives (node label kind spans parts) = (gives_value label ≡ true) ⊎ GivesPicked label kind parts
+  Gives (node label kind spans parts) = (gives_value label ≡ true) ⊎ GivesBelow label kind parts
 
-  pub GivesPicked : Label → CType → Trees → Type 0
-  GivesPicked choose kind (more_trees condition (more_trees second (more_trees third no_trees))) =
+  pub GivesBelow : Label → CType → Trees → Type 0
+  GivesBelow (member n) kind (more_trees operand no_trees) = Gives operand
+  GivesBelow choose kind (more_trees condition (more_trees second (more_trees third no_trees))) =
       (kind_of second ≡ kind) × Gives second × (kind_of third ≡ kind) × Gives third
-  GivesPicked comma kind (more_trees first (more_trees second no_trees)) = (kind_of second ≡ kind) × Gives second
-  GivesPicked label kind parts = ⊥
+  GivesBelow comma kind (more_trees first (more_trees second no_trees)) = (kind_of second ≡ kind) × Gives second
+  GivesBelow label kind parts = ⊥
 
 -- an object of static storage duration that the program defines
 abbrev pub is_static_number : List Static → ℕ → Bool
 is_static_number [] d = false
 is_static_number (static ∷ statics) d = static.declared == d || is_static_number statics d
 
--- the name of another object may mean another one in another function
+-- a parameter of a function
+abbrev pub is_parameter : List Definition → ℕ → Bool
+is_parameter functions d = list_any (λ (definition : Definition). list_any (λ p. p == d) definition.parameters) functions
+
+-- an object that no function has as one of its own: neither a parameter nor one of automatic storage duration (6.2.4p5)
+abbrev pub is_nowhere_local : Program → ℕ → Bool
+is_nowhere_local program d = not (is_automatic_declaration (declaration_of program d)) && not (is_parameter program.functions d)
+
+-- Each function means the same by the name of an object of static storage duration, whether the program defines that object or not; that of
+-- another object may mean another one in another function.
 abbrev pub means_the_same : Program → Label → Bool
-means_the_same program (object d) = is_static_number program.statics d
+means_the_same program (object d) = is_static_number program.statics d || is_nowhere_local program d
 means_the_same program label = true
 
 abbrev mutual

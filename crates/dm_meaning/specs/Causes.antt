@@ -2,16 +2,15 @@
 --     earliest causes      the first in the table's order
 --     read_causes, store_causes      those of an access (6.3.2.1p2, 6.5p2, 6.5p7, 6.2.4p2, 6.7.3p6)
 --     pointer_causes, moved_causes, ..      those of pointers
-use Rattle.std.specs.Prelude.{ℕ, nat_le, Bool, true, false, not, ◌&&◌, ◌||◌, List, [], ◌∷◌, ◌++◌, Option, Some, None, Result, Ok, Err, is_none, ℤ, pos, if◌then◌else◌}
+use Rattle.std.specs.Prelude.{ℕ, nat_le, Bool, true, false, not, ◌&&◌, ◌||◌, List, [], ◌∷◌, ◌++◌, Option, Some, None, is_none, ℤ, pos, if◌then◌else◌}
 use Rattle.dm_int.specs.declared.Fault.{Fault}
 use Rattle.dm_int.specs.declared.Fault.TheVariants.{Overflow as TooGreat, Zero, Shift as BadShift}
 use Rattle.dm_int.specs.Operators.{int_eq}
-use Rattle.dm_type.specs.CTypes.{CType, bare}
-use Rattle.dm_type.specs.Alike.{are_compatible}
+use Rattle.dm_type.specs.CTypes.{CType}
 use Rattle.dm_meaning.specs.declared.cause.Cause.{Cause}
 use Rattle.dm_meaning.specs.declared.cause.Cause.TheVariants.{Overflow, Division, Shift, Conflict, Null, Bounds, Pointer as Order, Life, Unset, OtherType, Const, NoValue, External}
 use Rattle.dm_meaning.specs.Values.{Name, elsewhere, Path, At, Pointer, null, to, Value, integer_value, pointer_value, parts, unset, same_name, overlaps_any}
-use Rattle.dm_meaning.specs.Objects.{Layout, Reached, object_of, outside, foreign, unknown, moved, distance}
+use Rattle.dm_meaning.specs.Objects.{Layout, Reached, object_of, outside, foreign, unknown, agree_without_const, moved, distance}
 use Rattle.dm_meaning.specs.Memory.{Memory, Block, look, reached, contents_at, lives, may_be_written}
 
 -- the order of the table of causes
@@ -50,10 +49,6 @@ fault_cause TooGreat = Overflow
 fault_cause Zero = Division
 fault_cause BadShift = Shift
 
-abbrev pub fault_causes : Result ℤ Fault → List Cause
-fault_causes (Ok number) = []
-fault_causes (Err fault) = fault_cause fault ∷ []
-
 -- ---- accesses
 
 abbrev pub is_outside : Reached → Bool
@@ -64,7 +59,7 @@ is_outside unknown = false
 
 -- an object of another type than that of the access; const apart, types are compared by compatibility
 abbrev pub is_other : CType → Reached → Bool
-is_other access (object_of type fixed) = not (are_compatible (bare type) (bare access))
+is_other access (object_of type fixed) = not (agree_without_const type access)
 is_other access outside = false
 is_other access foreign = true
 is_other access unknown = false
@@ -94,9 +89,10 @@ access_causes layout memory locks access at =
     ++ absence_causes memory at.name
     ++ when OtherType (is_other access (reached layout memory at))
 
--- a member of an object is named, by way of an lvalue of this type: the object has to be there (6.2.4p2), and of that type (6.5.2.3p3, 6.5p7)
-abbrev pub member_causes : Layout → Memory → CType → At → List Cause
-member_causes layout memory access at = absence_causes memory at.name ++ when OtherType (is_other access (reached layout memory at))
+-- An object is gone into by way of an lvalue of this type, whose member is named or which decays: the object has to be there (6.2.4p2), and
+-- of that type (6.3.2.1p3, 6.5.2.3p3, 6.5p7).
+abbrev pub entry_causes : Layout → Memory → CType → At → List Cause
+entry_causes layout memory access at = absence_causes memory at.name ++ when OtherType (is_other access (reached layout memory at))
 
 -- a scalar that was never set
 abbrev pub is_unset_object : Value → Reached → Bool

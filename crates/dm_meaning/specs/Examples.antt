@@ -3,18 +3,20 @@
 use Rattle.std.specs.Prelude.{ℕ, zero, suc, true, false, List, [], ◌∷◌, ◌++◌, replicate, Option, Some, None, option_map, pos, codes}
 use Rattle.dm_token.specs.declared.place.Place.{Place}
 use Rattle.dm_token.specs.declared.place.Span.{Span}
-use Rattle.dm_int.specs.declared.Kind.TheVariants.{Char, Int}
+use Rattle.dm_int.specs.declared.Kind.TheVariants.{Char, Int, ULong}
 use Rattle.dm_int.specs.declared.Op.{Op}
 use Rattle.dm_int.specs.declared.Op.TheVariants.{Add, Sub, Mul, Div, Less, Equal}
 use Rattle.dm_type.specs.declared.shape.Shape.TheVariants.{Integer as IntegerShape}
 use Rattle.dm_type.specs.CTypes.{CType, void, integer, pointer, array, struct, function as function_type, const, no_types, more_types}
 use Rattle.dm_type.specs.Layouts.{contained}
 use Rattle.dm_type.specs.Tables.{Table, with_struct, with_content}
-use Rattle.dm_tree.specs.declared.unit.Sort.TheVariants.{Object, Function}
+use Rattle.dm_tree.specs.declared.unit.Sort.TheVariants.{Object, Function, Enumerator}
 use Rattle.dm_tree.specs.declared.unit.Linkage.TheVariants.{External as ExternalLinkage, Absent}
-use Rattle.dm_tree.specs.Trees.{Label, number, literal, object, function, read, decay, convert, address, follow, member, binary, both, choose, comma, store, update, count, call, block, declare, full, if_statement, switch, case, default, while_loop, do_loop, for_loop, break, continue, return, Tree, node, trees, Initialiser, one_expression, in_braces, no_items, more_items}
+use Rattle.dm_tree.specs.Trees.{Label, number, enumerator, literal, object, function, read, decay, convert, address, follow, member, binary, both, choose, comma, store, update, count, call, sizeof_tree, block, declare, full, if_statement, switch, case, default, while_loop, do_loop, for_loop, break, continue, return, Tree, node, trees, Initialiser, one_expression, in_braces, no_items, more_items}
 use Rattle.dm_tree.specs.Units.{Declaration, External, declares, defines_function, TypedUnit}
 use Rattle.dm_meaning.specs.Machines.{Standing}
+use Rattle.dm_meaning.specs.Replaced.{Replaced}
+use Rattle.dm_meaning.specs.ReplacedUnits.{change_of}
 use Rattle.dm_meaning.specs.Called.{Called}
 use Rattle.dm_meaning.specs.Programs.{Definition, Program}
 use Rattle.dm_meaning.specs.Units.{program_of}
@@ -592,3 +594,109 @@ calling_six_unit = unit (of_function (codes "six") int_of_nothing ∷ []) (defin
 abbrev pub beyond_six : ℕ → ℕ
 beyond_six zero = 0
 beyond_six (suc d) = suc (suc d)
+
+-- const void f(void) { } int main(void) { f(); return 0; }
+abbrev pub const_void : Program
+const_void = program (of_function (codes "f") (function_type (const void) no_types) ∷ [])
+    (defined 1 [] [] ∷ defined 0 [] (statement (called 0 1 void []) ∷ returned (constant 0) ∷ []) ∷ [])
+
+-- int puts(const char *s); extern char t[3]; const char *p = t; int main(void) { puts(p); return 0; }
+abbrev text : CType
+text = pointer (const (integer Char))
+
+abbrev pub put_elsewhere : Program
+put_elsewhere =
+    program (of_function (codes "puts") (function_type int (more_types text no_types)) ∷ fixed (codes "t") (array (integer Char) (Some 3)) ∷ fixed (codes "p") text ∷ [])
+    (external 3 (Some one_expression) (tree 0 convert text (tree 0 decay (pointer (integer Char)) (named (array (integer Char) (Some 3)) 2 ∷ []) ∷ []) ∷ []) ∷
+    defined 0 [] (statement (called 7 1 int (value_at 0 text (named text 3) ∷ [])) ∷ returned (constant 0) ∷ []) ∷ [])
+
+-- a row of two, and an element of one: pointer[index]
+abbrev row : CType
+row = array int (Some 2)
+
+abbrev rows : CType
+rows = array row (Some 2)
+
+abbrev in_row : CType → ℕ → Tree → ℕ → Tree
+in_row kind n pointed index = tree 0 follow kind (tree 0 (binary Add) (pointer kind) (tree n decay (pointer kind) (pointed ∷ []) ∷ constant index ∷ []) ∷ [])
+
+abbrev cell : ℕ → ℕ → ℕ → Tree
+cell d m n = in_row int 0 (in_row row 0 (named rows d) m) n
+
+-- int m[2][2] = { { m[1][0] = 3, 5 }, { m[1][0] } }; return m[1][n];
+abbrev pub listed_again : ℕ → Program
+listed_again n = alone (local (codes "m") rows ∷ [])
+    (declared_with 1 (Some (in_braces (more_items (in_braces (more_items one_expression (more_items one_expression no_items))) (more_items (in_braces (more_items one_expression no_items)) no_items))))
+    (assigned 0 int (cell 1 1 0) (constant 3) ∷ constant 5 ∷ value_at 0 int (cell 1 1 0) ∷ []) ∷
+    returned (value_at 0 int (cell 1 1 n)) ∷ [])
+
+-- int m[2][2] = { { 1, 2 }, { 3, 4 } }; const int (*p)[2] = (const int (*)[2])m; return (*(p + 1))[0];
+abbrev const_row : CType
+const_row = array (const int) (Some 2)
+
+abbrev pub const_rows : Program
+const_rows = alone (local (codes "m") rows ∷ local (codes "p") (pointer const_row) ∷ [])
+    (declared_with 1 (Some (in_braces (more_items (in_braces (more_items one_expression (more_items one_expression no_items))) (more_items (in_braces (more_items one_expression (more_items one_expression no_items))) no_items))))
+    (constant 1 ∷ constant 2 ∷ constant 3 ∷ constant 4 ∷ []) ∷
+    declared_as 2 (tree 0 convert (pointer const_row) (tree 0 decay (pointer row) (named rows 1 ∷ []) ∷ [])) ∷
+    returned (value_at 0 int (in_row (const int) 0 (tree 0 follow const_row (tree 0 (binary Add) (pointer const_row) (value_at 0 (pointer const_row) (named (pointer const_row) 2) ∷ constant 1 ∷ []) ∷ [])) 0)) ∷ [])
+
+-- int i = 1; int (*p)[2] = (void *)&i; return (*p)[0];
+abbrev pub array_over_int : Program
+array_over_int = alone (local (codes "i") int ∷ local (codes "p") (pointer row) ∷ [])
+    (declared_as 1 (constant 1) ∷
+    declared_as 2 (tree 0 convert (pointer row) (tree 0 convert (pointer void) (tree 0 address (pointer int) (named int 1 ∷ []) ∷ []) ∷ [])) ∷
+    returned (value_at 0 int (in_row int 7 (tree 0 follow row (value_at 0 (pointer row) (named (pointer row) 2) ∷ [])) 0)) ∷ [])
+
+-- enum { SIX = 6 }; int main(void) { return SIX; }
+abbrev pub six : Tree
+six = tree 0 (enumerator 1) int []
+
+abbrev named_six : Declaration
+named_six = record { name = codes "SIX"; sort = Enumerator (pos 6); kind = int; linkage = Absent; place = at 0 }
+
+abbrev pub enumerated_unit : TypedUnit
+enumerated_unit = unit (named_six ∷ []) (record { span = no_span; constants = constant 6 ∷ []; form = declares [] [] } ∷ defined 0 [] (returned six ∷ []) ∷ [])
+
+-- the change between its program and that of `return 3 * 2;`
+abbrev pub enumerating_six : Replaced
+enumerating_six = change_of types enumerated_unit six_unit beyond_six
+
+-- struct { int a; int b; } f(void) { struct { .. } s = { 4, 5 }; return s; } extern int e[3]; int main(void) { return f().a + (int)sizeof e; }
+abbrev pair_of_nothing : CType
+pair_of_nothing = function_type (struct 0) no_types
+
+abbrev giving_pair : ℕ → ℕ → External
+giving_pair f s = defined f []
+    (declared_with s (Some (in_braces (more_items one_expression (more_items one_expression no_items)))) (constant 4 ∷ constant 5 ∷ []) ∷ returned (value_at 0 (struct 0) (named (struct 0) s)) ∷ [])
+
+abbrev pub first_of : ℕ → Tree
+first_of f = tree 0 (member 0) int (called 0 f (struct 0) [] ∷ [])
+
+abbrev pub size_of : ℕ → Tree
+size_of d = tree 0 convert int (tree 0 sizeof_tree (integer ULong) (named (array int (Some 3)) d ∷ []) ∷ [])
+
+abbrev pub beside_size : ℕ → Tree → Tree
+beside_size d operand = operated 0 Add operand (size_of d)
+
+abbrev pub sized_member : Program
+sized_member = program (of_function (codes "f") pair_of_nothing ∷ local (codes "s") (struct 0) ∷ fixed (codes "e") (array int (Some 3)) ∷ [])
+    (giving_pair 1 2 ∷ defined 0 [] (returned (beside_size 3 (first_of 1)) ∷ []) ∷ [])
+
+-- .. int sized(int x) { return x + (int)sizeof e; } int main(void) { return sized(f().a); }
+abbrev pub called_sized : Program
+called_sized =
+    program (of_function (codes "sized") int_of_int ∷ local (codes "x") int ∷ of_function (codes "f") pair_of_nothing ∷ local (codes "s") (struct 0) ∷ fixed (codes "e") (array int (Some 3)) ∷ [])
+    (defined 1 (2 ∷ []) (returned (beside_size 5 (reading 2)) ∷ []) ∷ giving_pair 3 4 ∷ defined 0 [] (returned (called_one (first_of 3)) ∷ []) ∷ [])
+
+-- the change between the two
+abbrev pub calling_sized : Called
+calling_sized = record {
+  old = sized_member;
+  declared = called_sized.declared;
+  functions = called_sized.functions;
+  statics = called_sized.statics;
+  rename = beyond_main;
+  added = record { function = 1; parameters = 2 ∷ []; body = tree 9 block void (returned (beside_size 5 (reading 2)) ∷ []) };
+  body = beside_size 5 (reading 2);
+}

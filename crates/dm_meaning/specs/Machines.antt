@@ -2,8 +2,9 @@
 --     Standing      whether a state goes on, has ended, or is undefined
 --     Machine      states, how runs begin, and steps
 --     Goes machine n s t      n steps lead from s to t
+--     RunsTo, RunsWithin      a run on an input leads to a state in so many steps, or in at most so many
 --     Ends, IsWrong, IsUnfinished      what a run on an input may come to
-use Rattle.std.specs.Prelude.{◌≡◌, ℕ, zero, suc, List}
+use Rattle.std.specs.Prelude.{◌≡◌, ℕ, zero, suc, ◌≤◌, List}
 use Rattle.dm_token.specs.declared.place.Place.{Place}
 use Rattle.dm_meaning.specs.declared.cause.Cause.{Cause}
 
@@ -37,6 +38,13 @@ pub record RunsTo (machine : Machine) (input : List ℕ) (n : ℕ) (t : machine.
   pub start : machine.State
   pub begins : machine.Begins input start
   pub goes : Goes machine n start t
+
+-- A run on an input leads to a state in so many steps, or in fewer where it has ended there.
+pub record RunsWithin (machine : Machine) (input : List ℕ) (n : ℕ) (t : machine.State) : Type 0 where
+  pub taken : ℕ
+  pub run : RunsTo machine input taken t
+  pub few : taken ≤ n
+  pub all : machine.standing t ≡ going → taken ≡ n
 
 -- some run on the input ends with this output and status
 abbrev pub Ends : Machine → List ℕ → List ℕ → ℕ → Type 0

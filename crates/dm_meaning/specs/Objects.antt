@@ -3,6 +3,7 @@
 --     part_at layout type path      what a path leads to
 --     byte_of layout type path      its first byte, from the object's
 --     moved layout type target path count      the path that many elements further on
+--     agree_without_const a b      the types are compatible, const apart
 --     all_unset, all_zero      the first values of objects (6.7.9p10)
 use Rattle.std.specs.Prelude.{ℕ, zero, suc, ◌+◌, ◌*◌, nat_lt, nat_le, Bool, true, false, ◌||◌, List, [], ◌∷◌, map, replicate, Option, Some, None, option_map, slice_get, ℤ, pos, negsuc, ◌+ℤ◌, ◌-ℤ◌, ◌==◌, if◌then◌else◌}
 use Rattle.dm_int.specs.Operators.{int_eq}
@@ -58,6 +59,22 @@ part_at layout fixed type [] = object_of (bare type) (fixed || is_const type)
 part_at layout fixed type (past ∷ path) = outside
 part_at layout fixed type (part n ∷ path) = from_part (element layout (bare type) n) (λ inner. part_at layout (fixed || is_const type) inner path)
 
+-- ---- types, const apart
+
+-- The type without const. That of an array is the const of its elements (6.7.3p9).
+abbrev pub unqualified : CType → CType
+unqualified void = void
+unqualified (integer kind) = integer kind
+unqualified (pointer type) = pointer type
+unqualified (array type length) = array (unqualified type) length
+unqualified (struct number) = struct number
+unqualified (function result parameters) = function result parameters
+unqualified (const type) = unqualified type
+
+-- the types are compatible, const apart
+abbrev pub agree_without_const : CType → CType → Bool
+agree_without_const a b = are_compatible (unqualified a) (unqualified b)
+
 -- ---- bytes
 
 -- the first byte of a part, and the part's type
@@ -100,12 +117,12 @@ alone (suc n) = past ∷ []
 
 -- move within an array of one whose element has this type
 abbrev pub moved_alone : CType → CType → ℕ → ℤ → Option Path
-moved_alone type target index count = if are_compatible (bare type) (bare target) then option_map alone (up_to 1 (pos index +ℤ count)) else None
+moved_alone type target index count = if agree_without_const type target then option_map alone (up_to 1 (pos index +ℤ count)) else None
 
 -- move within the array that this type is, from an element
 abbrev pub moved_along : CType → CType → ℕ → ℤ → Option Path
 moved_along (array type (Some length)) target n count =
-    if are_compatible (bare type) (bare target) then option_map (λ index. part index ∷ []) (up_to length (pos n +ℤ count)) else None
+    if agree_without_const type target then option_map (λ index. part index ∷ []) (up_to length (pos n +ℤ count)) else None
 moved_along type target n count = None
 
 abbrev pub is_array : CType → Bool
@@ -141,12 +158,12 @@ apart_within true inner = inner
 apart_within false inner = None
 
 abbrev pub distance_between : CType → CType → ℕ → ℕ → Path → Path → Option ℤ → Option ℤ
-distance_between (array type length) target m n [] [] inner = if are_compatible (bare type) (bare target) then Some (apart m n) else None
+distance_between (array type length) target m n [] [] inner = if agree_without_const type target then Some (apart m n) else None
 distance_between whole target m n p q inner = apart_within (m == n) inner
 
 -- an object as an array of one of the target type
 abbrev pub distance_alone : CType → CType → ℕ → ℕ → Option ℤ
-distance_alone type target m n = if are_compatible (bare type) (bare target) then Some (apart m n) else None
+distance_alone type target m n = if agree_without_const type target then Some (apart m n) else None
 
 -- How many elements of the target type lie between two paths into an object, if both lead to elements of one array, or one past its end.
 abbrev pub distance : Layout → CType → CType → Path → Path → Option ℤ

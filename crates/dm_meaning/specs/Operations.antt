@@ -25,7 +25,7 @@ use Rattle.dm_meaning.specs.Values.{Name, numbered, literal_of, part, Path, At, 
 use Rattle.dm_meaning.specs.Objects.{Layout, byte_of}
 use Rattle.dm_meaning.specs.Programs.{Program, layout, declaration_of}
 use Rattle.dm_meaning.specs.Memory.{Memory, Block, look, contents_at, or_unset, written}
-use Rattle.dm_meaning.specs.Causes.{earliest, when, fault_cause, member_causes, read_causes, store_causes, update_causes, use_causes, follow_causes, moved_pointer, moved_causes, pointer_distance, distance_causes, order_causes, is_null, is_unset}
+use Rattle.dm_meaning.specs.Causes.{earliest, when, fault_cause, entry_causes, read_causes, store_causes, update_causes, use_causes, follow_causes, moved_pointer, moved_causes, pointer_distance, distance_causes, order_causes, is_null, is_unset}
 
 -- what evaluating an expression gives (6.5p1)
 pub data Result : Type 0 where
@@ -175,7 +175,11 @@ member_value world value = unless (when Unset (is_unset value)) (plain world val
 abbrev pub member_of : Scene → World → ℕ → CType → Result → Did
 member_of scene world n kind (of_value value) = member_value world (or_unset (part_value value (part n ∷ [])))
 member_of scene world n kind (designates at) =
-    unless (member_causes (layout scene.program) world.memory kind at) (gives world (designates (part_of at n)) [])
+    unless (entry_causes (layout scene.program) world.memory kind at) (gives world (designates (part_of at n)) [])
+
+-- an array becomes a pointer to its first element (6.3.2.1p3), where there is an array of that type
+abbrev pub decayed : Scene → World → CType → At → Did
+decayed scene world kind at = unless (entry_causes (layout scene.program) world.memory kind at) (plain world (pointer_value (to (part_of at 0))))
 
 -- 0 for a null pointer and 1 for any other, as a truth value of an integer type
 abbrev pub truth_in : CType → Bool → Value
@@ -400,7 +404,7 @@ operate scene world locks (literal bytes unit) kind operands = gives world (desi
 operate scene world locks (object d) kind operands = designated world (object_named scene.objects d)
 operate scene world locks (function d) kind operands = plain world unset
 operate scene world locks read kind operands = on_one operands (λ a. on_place a.result (read_at scene world locks kind))
-operate scene world locks decay kind operands = on_one operands (λ a. on_place a.result (λ at. plain world (pointer_value (to (part_of at 0)))))
+operate scene world locks decay kind operands = on_one operands (λ a. on_place a.result (decayed scene world a.kind))
 operate scene world locks convert kind operands = on_one operands (λ a. convert_to world kind a.result)
 operate scene world locks address kind operands = on_one operands (λ a. on_place a.result (λ at. plain world (pointer_value (to at))))
 operate scene world locks follow kind operands = on_one operands (λ a. on_value a.result (followed world))

@@ -61,9 +61,9 @@ text_at layout memory (suc most) at =
     unless_cause (earliest (read_causes layout memory [] (integer Char) at)) (contents_at memory at)
     (text_on (moved_pointer layout memory (integer Char) (to at) (pos 1)) (text_at layout memory most))
 
--- a string has no more characters than its object has bytes
+-- a string has no more characters than its object has bytes; that an object isn't there shows at the first one
 abbrev pub most_in : Layout → Option Block → ℕ
-most_in layout None = 0
+most_in layout None = 1
 most_in layout (Some block) = layout.size block.kind
 
 abbrev pub written_line : Result (List ℕ) Cause → List ℕ → List ℕ → Answer

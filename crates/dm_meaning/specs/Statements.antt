@@ -14,8 +14,8 @@ use Rattle.dm_tree.specs.Trees.{Label, block, declare, full, if_statement, switc
 use Rattle.dm_tree.specs.Units.{Declaration}
 use Rattle.dm_meaning.specs.declared.cause.Cause.{Cause}
 use Rattle.dm_meaning.specs.Values.{Name, numbered, literal_of, At, Value, integer_value, parts, unset, values, parts_in}
-use Rattle.dm_meaning.specs.Objects.{Layout, inner_type, all_unset, all_zero, zero_of}
-use Rattle.dm_meaning.specs.Memory.{Memory, new_block, literal_block, written, killed}
+use Rattle.dm_meaning.specs.Objects.{Layout, inner_type, all_zero, zero_of}
+use Rattle.dm_meaning.specs.Memory.{Memory, new_block, literal_block, contents_at, written, killed}
 use Rattle.dm_meaning.specs.Programs.{Program, layout, declaration_of, constant_of}
 use Rattle.dm_meaning.specs.Operations.{Result, of_value, designates, Objects, object_named, whole, part_of, Truth, holds, untold, truth_of}
 use Rattle.dm_meaning.specs.Running.{begun}
@@ -243,16 +243,17 @@ abbrev pub count_items : Initialisers → ℕ
 count_items no_items = 0
 count_items (more_items item items) = suc (count_items items)
 
--- the parts with an initialiser are unset until it is evaluated, the others are 0 (6.7.9p19, p21)
-abbrev pub value_listed : Layout → CType → ℕ → Value
-value_listed layout kind n = parts (values (take n (parts_in (all_unset layout kind)) ++ drop n (parts_in (all_zero layout kind))))
+-- the value of an object when a list with so many items begins: the parts without an initialiser become 0, and the others stay as they are
+-- until they are stored (6.7.9p19, p21)
+abbrev pub value_listed : Layout → CType → ℕ → Value → Value
+value_listed layout kind n value = parts (values (take n (parts_in value) ++ drop n (parts_in (all_zero layout kind))))
 
 abbrev pub begin_initialiser : Program → Objects → List Task → Memory → At → CType → Initialiser → List Tree → Turned
 begin_initialiser program objects rest memory at kind one_expression trees =
     on_one_tree trees (λ tree. onward objects (evaluation tree (initialises at kind) ∷ rest) memory) (onward objects rest memory)
 begin_initialiser program objects rest memory at kind (in_braces items) expressions =
     onward objects (part_tasks (layout program) at kind 0 items expressions ++ rest)
-    (written memory at (value_listed (layout program) kind (count_items items)))
+    (written memory at (value_listed (layout program) kind (count_items items) (contents_at memory at)))
 
 -- a character of a string literal, as an element of an array
 abbrev pub as_element : CType → Value → Value

@@ -1,10 +1,10 @@
 -- The steps of a state: the one definition of what may happen next (5.1.2.3).
 --     next names program state      the states that a step may lead to, where new objects get these names
 --     Step program state other      a step may lead from one state to another
-use Rattle.std.specs.Prelude.{ℕ, suc, Bool, true, false, not, ◌&&◌, List, [], ◌∷◌, ◌++◌, map, length, Option, Some, None, pos, bytes_eq, codes, if◌then◌else◌}
+use Rattle.std.specs.Prelude.{ℕ, suc, Bool, false, not, ◌&&◌, List, [], ◌∷◌, ◌++◌, map, length, Option, Some, None, pos, bytes_eq, codes, if◌then◌else◌}
 use Rattle.dm_token.specs.declared.place.Place.{Place}
 use Rattle.dm_int.specs.declared.Kind.TheVariants.{Int}
-use Rattle.dm_type.specs.CTypes.{CType, void, function as function_type, bare}
+use Rattle.dm_type.specs.CTypes.{CType, function as function_type, bare}
 use Rattle.dm_tree.specs.Scenes.{is_void}
 use Rattle.dm_tree.specs.Trees.{parts_of}
 use Rattle.dm_tree.specs.Units.{Declaration}
@@ -94,7 +94,7 @@ is_main None = false
 is_main (Some declaration) = bytes_eq declaration.name (codes "main")
 
 abbrev pub gives_nothing : CType → Bool
-gives_nothing (function_type void parameters) = true
+gives_nothing (function_type result parameters) = is_void (bare result)
 gives_nothing type = false
 
 abbrev pub body_place : Option Definition → Place → Place

@@ -2,7 +2,7 @@
 --     program_of table unit      what the machine needs of a unit
 --     start names program main input      the state at the beginning of a run
 --     machine_of program      its machine
-use Rattle.std.specs.Prelude.{◌≡◌, ℕ, suc, ◌+◌, ◌==◌, Bool, true, false, not, ◌&&◌, List, [], ◌∷◌, ◌++◌, map, length, take, drop, Option, Some, None, ℤ, pos, is_some, if◌then◌else◌}
+use Rattle.std.specs.Prelude.{◌≡◌, ℕ, suc, ◌<◌, ◌+◌, ◌==◌, Bool, true, false, not, ◌&&◌, List, [], ◌∷◌, ◌++◌, map, length, take, drop, Option, Some, None, ℤ, pos, is_some, All, if◌then◌else◌}
 use Rattle.dm_int.specs.declared.Kind.TheVariants.{Int}
 use Rattle.dm_int.specs.declared.Op.{Op}
 use Rattle.dm_int.specs.Kinds as kinds
@@ -256,10 +256,14 @@ main_in program (definition ∷ definitions) =
 abbrev pub main_of : Program → Option Definition
 main_of program = main_in program program.functions
 
+-- an input is a list of bytes
+abbrev pub AreBytes : List ℕ → Type 0
+AreBytes input = All (λ byte. byte < 256) input
+
 -- a run of the program on an input may begin so: new objects may take any names
 abbrev pub Begins : Program → List ℕ → State → Type 0
 Begins program input state =
-    (names : ℕ → ℕ) × IsFresh names [] × (main : Definition) × (main_of program ≡ Some main) × (state ≡ start names program main input)
+    AreBytes input × (names : ℕ → ℕ) × IsFresh names [] × (main : Definition) × (main_of program ≡ Some main) × (state ≡ start names program main input)
 
 -- the machine of a program
 abbrev pub machine_of : Program → Machine

@@ -11,7 +11,11 @@ ghost use Rattle.dm_meaning.specs.Called.{new_of, IsCalling};
 ghost use Rattle.dm_meaning.specs.CalledWith.{IsCallingWith};
 ghost use Rattle.dm_meaning.specs.CalledWithAll.{IsCallingWithAll};
 ghost use Rattle.dm_meaning.specs.Refinement.{Refines};
-ghost use Rattle.dm_meaning.specs.Units.{machine_of, program_of};
+ghost use Rattle.dm_meaning.specs.Replaced as replaced;
+ghost use Rattle.dm_meaning.specs.Replaced.{IsReplacement};
+ghost use Rattle.dm_meaning.specs.ReplacedUnits.{IsUnitReplacement};
+ghost use Rattle.dm_meaning.specs.States.{State};
+ghost use Rattle.dm_meaning.specs.Units.{Begins, machine_of, program_of};
 ghost use Rattle.dm_meaning.specs.Examples as examples;
 ghost use Rattle.dm_meaning.specs.Examples.{at, by_choice};
 
@@ -76,6 +80,21 @@ pub fn objects_have_first_values()
     ensures beyond { by_choice 0 60 [] (examples.listed 3) ≡ Some (undefined Bounds (at 8), []) }
     ensures fixed { by_choice 0 60 [] examples.fixed_object ≡ Some (exited 3, []) }
     ensures text { by_choice 0 60 [] examples.put_text ≡ Some (exited 0, codes "hi" ++ 10 ∷ []) }
+    // a list leaves what was stored in its parts before it began, and gives 0 to those that it lacks
+    ensures kept { by_choice 0 120 [] (examples.listed_again 0) ≡ Some (exited 3, []) }
+    ensures lacking { by_choice 0 120 [] (examples.listed_again 1) ≡ Some (exited 0, []) }
+{}
+
+/// The const of a result, and that of the elements of a row, makes no other type of it (6.7.3, 6.9.1p12).
+pub fn const_makes_no_other_type()
+    ensures result { by_choice 0 60 [] examples.const_void ≡ Some (exited 0, []) }
+    ensures rows { by_choice 0 120 [] examples.const_rows ≡ Some (exited 3, []) }
+{}
+
+/// A run begins on bytes alone.
+pub fn inputs_are_bytes()
+    ensures byte { by_choice 0 60 (255 ∷ 1 ∷ []) examples.two_readers ≡ Some (exited 254, []) }
+    ensures beyond { (state : State) → Begins examples.two_readers (256 ∷ []) state → ⊥ }
 {}
 
 /// Division by 0, overflow, the end of a function without the value that it is to return, a call of one that isn't defined, and
@@ -88,6 +107,10 @@ pub fn other_causes_are_met_at_their_nodes()
     ensures constant { by_choice 0 60 [] examples.stored_const ≡ Some (undefined Const (at 7), []) }
     // a member of what is no struct, even if it has such a part (6.5p7)
     ensures other_type { by_choice 0 60 [] examples.struct_over_array ≡ Some (undefined OtherType (at 7), []) }
+    // an array that decays where there is none
+    ensures no_array { by_choice 0 60 [] examples.array_over_int ≡ Some (undefined OtherType (at 7), []) }
+    // the text of an object that the unit doesn't define
+    ensures elsewhere { by_choice 0 60 [] examples.put_elsewhere ≡ Some (undefined External (at 7), []) }
 {}
 
 /// Each call has objects of its own but for static ones, and `exit` ends all. A store by a call is no conflict with its caller
@@ -186,4 +209,25 @@ pub fn units_with_calls_without_arguments_refine()
     ensures written { by_choice 0 60 [] (program_of examples.types examples.six_unit) ≡ Some (exited 6, []) }
     ensures called { by_choice 0 60 [] (program_of examples.types examples.calling_six_unit) ≡ Some (exited 6, []) }
     ensures refines { Refines (machine_of (program_of examples.types examples.calling_six_unit)) (machine_of (program_of examples.types examples.six_unit)) }
+{}
+
+/// A program in which an enumerator stands in place of a constant expression meets each premise of `enumerated_refines`, and its
+/// unit each one of `units_refine`.
+pub fn enumerators_refine()
+    ensures constant { by_choice 0 60 [] (program_of examples.types examples.six_unit) ≡ Some (exited 6, []) }
+    ensures enumerated { by_choice 0 60 [] (program_of examples.types examples.enumerated_unit) ≡ Some (exited 6, []) }
+    ensures new { replaced.new_of examples.enumerating_six ≡ program_of examples.types examples.enumerated_unit }
+    ensures premises { IsReplacement examples.enumerating_six }
+    ensures refines { Refines (machine_of (replaced.new_of examples.enumerating_six)) (machine_of examples.enumerating_six.old) }
+    ensures unit_premises { IsUnitReplacement examples.types examples.enumerated_unit examples.six_unit examples.beyond_six }
+    ensures units_refine { Refines (machine_of (program_of examples.types examples.enumerated_unit)) (machine_of (program_of examples.types examples.six_unit)) }
+{}
+
+/// A member of what a function returns may be an argument, and the expression may name an object that the program doesn't define.
+pub fn calls_with_a_member_and_an_undefined_object_refine()
+    ensures sized { by_choice 0 90 [] examples.sized_member ≡ Some (exited 16, []) }
+    ensures called { by_choice 0 90 [] examples.called_sized ≡ Some (exited 16, []) }
+    ensures new { new_of examples.calling_sized ≡ examples.called_sized }
+    ensures premises { IsCallingWithAll examples.calling_sized }
+    ensures refines { Refines (machine_of examples.called_sized) (machine_of examples.sized_member) }
 {}

@@ -1,9 +1,10 @@
-ghost use Rattle.std.specs.Prelude.{◌≡◌, ◌⊎◌, ℕ, List};
+ghost use Rattle.std.specs.Prelude.{◌≡◌, ◌⊎◌, ℕ, List, Some, length};
 ghost use Rattle.dm_meaning.specs.Among.{IsAmong};
-ghost use Rattle.dm_meaning.specs.Machines.{going};
+ghost use Rattle.dm_meaning.specs.Machines.{going, RunsWithin};
 ghost use Rattle.dm_meaning.specs.MoreObjects.{IsSettled, Spared, with_memory};
 ghost use Rattle.dm_meaning.specs.Refinement.{Refines};
 ghost use Rattle.dm_meaning.specs.Replaced.{Replaced, new_of, IsReplacement};
+ghost use Rattle.dm_meaning.specs.Choices.{run_by};
 ghost use Rattle.dm_meaning.specs.Called as called;
 ghost use Rattle.dm_meaning.specs.Called.{Called, IsCalling};
 ghost use Rattle.dm_meaning.specs.CalledUnits.{IsUnitCalling, IsUnitCallingWith, IsUnitCallingWithAll};
@@ -24,7 +25,7 @@ ghost use Rattle.dm_meaning.specs.Primitives.{Prim};
 ghost use Rattle.dm_meaning.specs.Lifetimes.{IsAlive, numbers_of};
 ghost use Rattle.dm_meaning.specs.States.{State};
 ghost use Rattle.dm_meaning.specs.Steps.{Step};
-ghost use Rattle.dm_meaning.specs.Units.{Begins, machine_of, program_of};
+ghost use Rattle.dm_meaning.specs.Units.{AreBytes, Begins, machine_of, program_of};
 ghost use Rattle.dm_meaning.specs.ReplacedUnits.{IsUnitReplacement};
 ghost use Rattle.dm_tree.specs.Units.{TypedUnit};
 ghost use Rattle.dm_type.specs.Tables.{Table};
@@ -44,6 +45,13 @@ pub fn inner_steps()
 /// The locks of a part of an expression are among those of the whole.
 pub fn inner_locks()
     ensures { (hole : Hole) (run : Run) (lock : At) → IsAmong lock (locks_in run) → IsAmong lock (locks_in (filled_in hole run)) }
+{}
+
+/// What a run has come to by choices, one for each step, is what a run of the machine has come to: by as many steps where it
+/// hasn't ended, and by no more where it has.
+pub fn chosen_runs()
+    ensures { (program : Program) (choices input : List ℕ) (state : State) → AreBytes input → run_by program choices input ≡ Some state
+        → RunsWithin (machine_of program) input (length choices) state }
 {}
 
 /// Each program refines itself.
@@ -117,7 +125,8 @@ pub fn extended_answers()
 
 /// A program in which calls of an added function without parameters, whose body is one `return` of an expression, stand in
 /// place of the expression, at any places in any functions, refines the program with the expression. The expression gives a
-/// value and names no objects but those of static storage duration, and the values of `case` labels stay the same.
+/// value and names no objects but those of static storage duration, which the program may define or not, and the values of
+/// `case` labels stay the same.
 pub fn called_refines()
     ensures { (change : Called) → IsCalling change → Refines (machine_of (called.new_of change)) (machine_of change.old) }
 {}
@@ -137,8 +146,9 @@ pub fn settled_beginnings()
 /// A program in which calls of an added function with one parameter, whose body is one `return` of an expression, stand in
 /// place of the expression with the argument in place of the parameter, at any places in any functions, refines the program
 /// with the expression. The expression gives a value, reads the parameter once, and first, below its outermost operator, and
-/// names no other objects but those of static storage duration. The argument gives a value of another type than void; it may
-/// have effects, and calls of the added function in it. The values of `case` labels stay the same.
+/// names no other objects but those of static storage duration, which the program may define or not. The argument gives a value
+/// of another type than void; it may have effects, and calls of the added function in it. The values of `case` labels stay the
+/// same.
 pub fn called_with_refines()
     ensures { (change : Called) (parameter : ℕ) → IsCallingWith change parameter → Refines (machine_of (called.new_of change)) (machine_of change.old) }
 {}
@@ -162,9 +172,9 @@ pub fn called_with_units_refine()
 /// A program in which calls of an added function, whose body is one `return` of an expression, stand in place of the expression
 /// with the arguments in place of the parameters, at any places in any functions, refines the program with the expression. The
 /// function has any number of parameters, none among them. The expression gives a value, reads each parameter once, and first,
-/// and names no other objects but those of static storage duration; it may be a parameter and nothing else. The arguments give
-/// values of other types than void; they may have effects, and calls of the added function in them, and are evaluated in any
-/// order. The values of `case` labels stay the same.
+/// and names no other objects but those of static storage duration, which the program may define or not; it may be a parameter
+/// and nothing else. The arguments give values of other types than void; they may have effects, and calls of the added function
+/// in them, and are evaluated in any order. The values of `case` labels stay the same.
 pub fn called_with_all_refines()
     ensures { (change : Called) → IsCallingWithAll change → Refines (machine_of (called.new_of change)) (machine_of change.old) }
 {}

@@ -1,6 +1,6 @@
 //! Why an access to an object may be undefined (6.3.2.1p2, 6.5p2, 6.5p7, 6.2.4p2, 6.7.3p6).
 
-ghost use Rattle.std.specs.Prelude.{◌≡◌, ◌+◌, ◌||◌, ◌&&◌, ◌++◌, not, Some, All, map};
+ghost use Rattle.std.specs.Prelude.{◌≡◌, ◌+◌, ◌||◌, ◌&&◌, ◌++◌, not, Some, map};
 ghost use Rattle.dm_type.specs.Tables.{IsId, Table, type_of};
 ghost use Rattle.dm_meaning.specs.declared.cause.Cause.TheVariants.{Bounds, Conflict, Const, OtherType, Unset};
 ghost use Rattle.dm_meaning.specs.Causes as table;
@@ -12,7 +12,7 @@ ghost use Rattle.dm_value.specs.Places.{view_of_at, view_of_name};
 
 use crate::blocks::Blocks;
 use crate::literal;
-use dm_layout::{Layout, Reached, bare, is_char, is_text};
+use dm_layout::{Layout, Reached, agree_without_const, is_char, is_text};
 use dm_meaning::Cause;
 use dm_type::TypeId;
 use dm_value::{At, Name, sooner, when};
@@ -71,9 +71,9 @@ fn is_other(layout: &Layout, access: TypeId, reached: &Reached) -> bool
 {
     let types = layout.types();
     match reached {
-        Reached::Object(kind, _) => !types.compatible(bare(types, *kind), bare(types, access)),
-        Reached::Text(length) => !is_text(types, bare(types, access), *length),
-        Reached::Character => !is_char(types, bare(types, access)),
+        Reached::Object(kind, _) => !agree_without_const(types, *kind, access),
+        Reached::Text(length) => !is_text(types, access, *length),
+        Reached::Character => !is_char(types, access),
         Reached::Foreign => true,
         Reached::Outside | Reached::Unknown => false,
     }
@@ -135,11 +135,12 @@ fn not_writable(blocks: &Blocks, name: &Name, reached: &Reached) -> Option<Cause
     )
 }
 
-/// Why naming a member of a place as one of an object of this type is undefined, if it is: the object isn't there, or is of another type.
-pub fn to_member(layout: &Layout, blocks: &Blocks, access: TypeId, at: &At) -> Option<Cause>
+/// Why going into a place as an object of this type is undefined, as where a member of it is named or it decays: the object isn't
+/// there, or is of another type.
+pub fn to_enter(layout: &Layout, blocks: &Blocks, access: TypeId, at: &At) -> Option<Cause>
     requires access { IsId layout.now access }
     requires known { AreKnown layout.now blocks.now }
-    ensures { result ≡ table.earliest (table.member_causes (laid_out layout.now) (view_of_blocks layout.now blocks.now)
+    ensures { result ≡ table.earliest (table.entry_causes (laid_out layout.now) (view_of_blocks layout.now blocks.now)
         (type_of layout.now access) (view_of_at at.now)) }
 {
     let reached = reached_at(layout, blocks, at);

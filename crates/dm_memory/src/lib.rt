@@ -9,7 +9,7 @@ mod literal;
 mod pointers;
 mod uses;
 
-pub use access::{to_member, to_read, to_store, to_update};
+pub use access::{to_enter, to_read, to_store, to_update};
 pub use blocks::{Block, Blocks};
 pub use compare::{are_equal, byte_pointed, pointer_distance, to_compare, to_subtract};
 pub use pointers::{byte_at, distance_at, kind_of, moved_pointer, to_move};

@@ -30,6 +30,7 @@ pub fn kind_of(layout: &Layout, blocks: &Blocks, name: &Name) -> Option<ObjectTy
     requires { AreKnown layout.now blocks.now }
     ensures { IsKindOf layout.now result (look (view_of_blocks layout.now blocks.now) (view_of_name name.now)) }
 {
+    // Only the contract speaks of the types, which the layout holds.
     let _ = layout;
     match name {
         Name::Numbered(number) => {

@@ -11,7 +11,7 @@ use Rattle.dm_tree.specs.declared.tree.Core as q
 use Rattle.dm_tree.specs.declared.tree.Form.{Form}
 use Rattle.dm_tree.specs.declared.tree.Form.TheVariants as form
 use Rattle.dm_tree.specs.Trees as label
-use Rattle.dm_tree.specs.Trees.{Label, both, either, choose, comma, call, sizeof_tree, Tree, trees, is_statement, label_of}
+use Rattle.dm_tree.specs.Trees.{Label, both, either, choose, comma, call, sizeof_tree, trees, is_statement, label_of}
 use Rattle.dm_tree.specs.TypeNumbers.{are_known, are_known_in_form}
 use Rattle.dm_tree.specs.Views.{Opened, opened, opened_form, view, node_of}
 use Rattle.dm_tree.proofs.ViewLemmas.{view-core, are_known-core, opened-Both, are_known-Both, opened-Either, are_known-Either, opened-Choose, are_known-Choose, opened-Comma, are_known-Comma, opened-Convert, opened-SizeofTree}
@@ -20,7 +20,7 @@ use Rattle.dm_meaning.specs.Operations.{World, Scene, Objects, of_value, truth_i
 use Rattle.dm_meaning.specs.Operations as operations
 use Rattle.dm_meaning.specs.Programs.{or_zero}
 use Rattle.dm_meaning.specs.Running as running
-use Rattle.dm_meaning.specs.Running.{Run, done, gives_truth, gives_value, Runs, Hole, begun, all_begun, locks_in_all, open_of, only_first, nothing}
+use Rattle.dm_meaning.specs.Running.{Run, done, gives_truth, gives_value, Runs, Hole, begun, locks_in_all, open_of, only_first, nothing}
 use Rattle.dm_meaning.specs.Values.{At}
 use Rattle.dm_operate.specs.declared.evaluation.Operand.{Operand}
 use Rattle.dm_operate.specs.Evaluations.{asks_names, view_of_operand}
@@ -36,7 +36,8 @@ use Rattle.dm_expression.proofs.NodeLemmas.{filled-locks}
 use Rattle.dm_expression.proofs.PutLemmas.{arity-open}
 use Rattle.dm_expression.proofs.NodeLemmas as nodes
 use Rattle.dm_move.specs.declared.step.Step.{Step}
-use Rattle.dm_move.specs.Steps.{locks_all, scene_with, view_of_step, AreOperands, IsFormStep, IsStep, OperandFits}
+use Rattle.dm_frame.specs.Tasks.{ExpressionFits}
+use Rattle.dm_move.specs.Steps.{locks_all, scene_with, view_of_step, AreOperands, IsFormStep, IsStep}
 use Rattle.dm_move.specs.Ways.{is_operated, slots_in, IsOperated}
 use Rattle.dm_move.proofs.SettleLemmas.{waits-truth, waits-value}
 
@@ -117,9 +118,6 @@ module _ (table : Table) (scene : Scene) (world : World) (held : List At) (kind 
       ap (on-truth (operand_chosen kind place (parts-of f))) (sym are.same)
       ∙ ap (λ (one : Opened). form_step scene world held one.label kind place (parts-of f) (map as_operand own)) (sym (ap (opened_form table) is ∙ opened-Choose table a b c))
 
-  abbrev slots-choose : Core → Core → Slots
-  slots-choose b c = operand (closed (begun (view table b)) (closed (begun (view table c)) no_slots))
-
   pub second-choose : (f : Form) (a b c : Core) → f ≡ form.Choose a b c → AreOperands table results (slots_in (opened_form table f)) own → nth_run 1 (parts-of f) ≡ begun (view table b)
   second-choose f a b c is are =
       second-part (slots_in (opened_form table f)) (closed (begun (view table c)) no_slots) (begun (view table b)) own (ap slots_in (ap (opened_form table) is ∙ opened-Choose table a b c)) are.all
@@ -184,7 +182,7 @@ not-first : (a b : Bool) → IsTrue (not a && b) → a ≡ false
 not-first true b h = absurd (cc)
 not-first false b h = refl
 
-pub few-operands : (table : Table) (core : Core) (results : List Operand) (own : List Evaluated) → OperandFits table core → IsOperated (opened_form table (out-Core core).form)
+pub few-operands : (table : Table) (core : Core) (results : List Operand) (own : List Evaluated) → ExpressionFits table core → IsOperated (opened_form table (out-Core core).form)
     → AreOperands table results (slots_in (opened_form table (out-Core core).form)) own → length results ≤ 2
 few-operands table core results own fits is are =
     let one = opened_form table (out-Core core).form in
@@ -252,29 +250,29 @@ expression-form types core one is h =
     subst (λ (one : Opened). IsTrue (is_expression (node_of one (type_of types (out-Core core).kind) (out-Core core).inner (out-Core core).outer (out-Core core).place))) is
     (subst (λ tree. IsTrue (is_expression tree)) (view-core types core) h)
 
-module _ (table : Table) (core : Core) (fits : OperandFits table core) where
-  pub fits-both : (a b : Core) → (out-Core core).form ≡ form.Both a b → OperandFits table b
+module _ (table : Table) (core : Core) (fits : ExpressionFits table core) where
+  pub fits-both : (a b : Core) → (out-Core core).form ≡ form.Both a b → ExpressionFits table b
   fits-both a b is =
       let n = length table.shapes in (
         (and_parts _ _ (sym (are_known-Both n a b) ∙ (ap (are_known_in_form n) (sym is) ∙ known-form n core fits.0))).1,
         λ types. (and_parts _ _ (and_parts _ _ (expression-form types core _ (ap (opened_form types) is ∙ opened-Both types a b) (fits.1 types))).1).0,
       )
 
-  pub fits-either : (a b : Core) → (out-Core core).form ≡ form.Either a b → OperandFits table b
+  pub fits-either : (a b : Core) → (out-Core core).form ≡ form.Either a b → ExpressionFits table b
   fits-either a b is =
       let n = length table.shapes in (
         (and_parts _ _ (sym (are_known-Either n a b) ∙ (ap (are_known_in_form n) (sym is) ∙ known-form n core fits.0))).1,
         λ types. (and_parts _ _ (and_parts _ _ (expression-form types core _ (ap (opened_form types) is ∙ opened-Either types a b) (fits.1 types))).1).0,
       )
 
-  pub fits-comma : (a b : Core) → (out-Core core).form ≡ form.Comma a b → OperandFits table b
+  pub fits-comma : (a b : Core) → (out-Core core).form ≡ form.Comma a b → ExpressionFits table b
   fits-comma a b is =
       let n = length table.shapes in (
         (and_parts _ _ (sym (are_known-Comma n a b) ∙ (ap (are_known_in_form n) (sym is) ∙ known-form n core fits.0))).1,
         λ types. (and_parts _ _ (and_parts _ _ (expression-form types core _ (ap (opened_form types) is ∙ opened-Comma types a b) (fits.1 types))).1).0,
       )
 
-  pub fits-choose : (a b c : Core) → (out-Core core).form ≡ form.Choose a b c → OperandFits table b × OperandFits table c
+  pub fits-choose : (a b c : Core) → (out-Core core).form ≡ form.Choose a b c → ExpressionFits table b × ExpressionFits table c
   fits-choose a b c is =
       let n = length table.shapes in
       let known = and_parts _ _ (and_parts _ _ (sym (are_known-Choose n a b c) ∙ (ap (are_known_in_form n) (sym is) ∙ known-form n core fits.0))).1 in

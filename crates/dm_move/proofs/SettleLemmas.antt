@@ -35,20 +35,19 @@ use Rattle.dm_expression.specs.declared.expression.Expression.{Expression}
 use Rattle.dm_expression.specs.declared.waiting.Doing.TheVariants.{GivesTruth, GivesValue}
 use Rattle.dm_expression.specs.declared.waiting.Waiting.{Waiting}
 use Rattle.dm_expression.specs.Given.{lock_list, with_lock, without}
-use Rattle.dm_expression.specs.Standing.{viewed, Lacks, Stands}
+use Rattle.dm_expression.specs.Standing.{Stands}
 use Rattle.dm_expression.specs.Waiting.{view_of_waiting, waiting_of, AreWaiting, AreWaitingExpressions, AreWaitingKnown, IsPut}
-use Rattle.dm_expression.proofs.LeaveLemmas.{locks-given, locks-released, own-size, first-size}
+use Rattle.dm_expression.proofs.LeaveLemmas.{locks-given, locks-released, own-size}
 use Rattle.dm_expression.proofs.StandLemmas.{given, picked, waiting-truth, waiting-value}
 use Rattle.dm_frame.specs.declared.task.Use.{Use}
-use Rattle.dm_frame.specs.Tasks.{view_of_use, UseFits}
+use Rattle.dm_frame.specs.Tasks.{view_of_use, ExpressionFits, UseFits}
 use Rattle.dm_state.specs.declared.full.Ongoing.{Ongoing}
 use Rattle.dm_state.specs.declared.running.Running.{Running}
 use Rattle.dm_state.specs.Standing.{see, world_of, AreFit, Fits, IsUnder}
 use Rattle.dm_state.specs.Turns.{state_with}
-use Rattle.dm_state.specs.Views.{back_locks, front_locks, hole_in_one}
+use Rattle.dm_state.specs.Views.{front_locks, hole_in_one}
 use Rattle.dm_state.proofs.FitLemmas.{fit-both, fit-first, fit-second, run-under}
 use Rattle.dm_move.specs.Settling.{gap, own_locks, rest_locks, state_before, GoesOn, IsLacking}
-use Rattle.dm_move.specs.Steps.{OperandFits}
 
 abbrev pub Both : Type 0
 Both = List (Item Operand Waiting) × List (Item Operand Waiting)
@@ -93,16 +92,6 @@ fit-put table (Waits one count ∷ put) (postfix.waiting other ∷ others) waits
     (known.0, λ types. (expressions types).0, fit-put table put others waits.2 known.1 (λ types. (expressions types).1))
 
 -- ---- the expression
-
--- without the locks of the operands those in front of the place are there
-pub room-released : (before middle : Expression Operand At) (locks : ℕ) → weight_in before.row.0 + locks ≤ length before.locks.items → middle.row ≡ before.row
-    → middle.locks.items ≡ without (weight_in before.row.0) locks before.locks.items → weight_in middle.row.0 + 0 ≤ length middle.locks.items
-room-released before middle locks room row held =
-    let at = weight_in before.row.0 in
-    let a = ap (λ (row : Both). weight_in row.0) row in
-    let b = ap length held ∙ length-append (take at before.locks.items) (drop (at + locks) before.locks.items) in
-    let c = first-size at locks before.locks.items room in
-    omega (arith, a, b, c)
 
 module _ (table : Table) (before : Expression Operand At) (locks : ℕ) (room : weight_in before.row.0 + locks ≤ length before.locks.items) (lacking : IsLacking table before locks) where
   abbrev front : List At
@@ -171,7 +160,7 @@ module _ (table : Table) (before : Expression Operand At) (locks : ℕ) (room : 
       (picked (see table) table before.row after.row front rest (gap table before locks) outer inner doing kind place opens is lacking.lacks
       (subst (λ (row : Both). IsPut inner (put-in outer row) after.row) middle_row put))
 
-  pub fits-picked : (middle after : Expression Operand At) (outer : Waiting) (inner : Core) → OperandFits table outer.node.now → OperandFits table inner → middle.row ≡ before.row
+  pub fits-picked : (middle after : Expression Operand At) (outer : Waiting) (inner : Core) → ExpressionFits table outer.node.now → ExpressionFits table inner → middle.row ≡ before.row
       → IsPut inner (put-in outer middle.row) after.row → Fits table after
   fits-picked middle after outer inner outer_fits inner_fits middle_row put =
       let waits = put.waits table in
@@ -185,34 +174,6 @@ module _ (table : Table) (before : Expression Operand At) (locks : ℕ) (room : 
       whole put =
           ap₂ (λ (xs ys : List (Item Operand Waiting)). (xs, ys)) (put.in_front ∙ ap (λ (row : Both). row.0) middle_row)
           (put.behind ∙ ap (λ (row : Both). put.put ++ Waits outer 1 ∷ row.1) middle_row)
-
-  -- the tree without the node
-  front-left : (middle : Expression Operand At) → middle.row ≡ before.row → middle.locks.items ≡ front ++ rest → front_locks middle ≡ front
-  front-left middle row held =
-      ap₂ (λ (row : Both) (l : List At). take (weight_in row.0) l) row held ∙ take-front (weight_in before.row.0) front rest lacking.lacks.first_weighed
-
-  back-left : (middle : Expression Operand At) → middle.row ≡ before.row → middle.locks.items ≡ front ++ rest → back_locks middle ≡ rest
-  back-left middle row held =
-      ap₂ (λ (row : Both) (l : List At). drop (weight_in row.0) l) row held ∙ drop-front (weight_in before.row.0) front rest lacking.lacks.first_weighed
-
-  abbrev hole-with : Both → List At → List At → Hole
-  hole-with row first last = postfix.hole_of (viewed (see table) table first row.0) (viewed (see table) table last row.1)
-
-  pub hole-left : (middle : Expression Operand At) → middle.row ≡ before.row → middle.locks.items ≡ without (weight_in before.row.0) locks before.locks.items
-      → hole_in_one table middle ≡ gap table before locks
-  hole-left middle row held =
-      let all = released middle held in
-      ap (λ (row : Both). hole-with row (front_locks middle) (back_locks middle)) row
-      ∙ ap₂ (λ (first last : List At). hole-with before.row first last) (front-left middle row all) (back-left middle row all)
-
-  pub lacks-left : (middle : Expression Operand At) → middle.row ≡ before.row → middle.locks.items ≡ without (weight_in before.row.0) locks before.locks.items
-      → Lacks (see table) table middle.row (front_locks middle) (back_locks middle) (hole_in_one table middle)
-  lacks-left middle row held =
-      let all = released middle held in
-      subst (λ (hole : Hole). Lacks (see table) table middle.row (front_locks middle) (back_locks middle) hole) (sym (hole-left middle row held))
-      (subst (λ (first : List At). Lacks (see table) table middle.row first (back_locks middle) (gap table before locks)) (sym (front-left middle row all))
-      (subst (λ (last : List At). Lacks (see table) table middle.row front last (gap table before locks)) (sym (back-left middle row all))
-      (subst (λ (row : Both). Lacks (see table) table row front rest (gap table before locks)) (sym row) lacking.lacks)))
 
   pub fits-left : (middle : Expression Operand At) → middle.row ≡ before.row → Fits table middle
   fits-left middle row = subst (λ (row : Both). AreFit table (row.0 ++ row.1)) (sym row) lacking.fits

@@ -3,13 +3,13 @@
 --                                                         this world
 --     Keeps before after step      a step that gives no result changes nothing
 --     StepFits source step      what it goes on with is of the program
-use Rattle.std.specs.Prelude.{◌≡◌, List, [], ◌∷◌, ◌++◌, length, map, Some, IsTrue}
+use Rattle.std.specs.Prelude.{◌≡◌, List, [], ◌∷◌, ◌++◌, length, map, Some}
 use Rattle.dm_token.specs.declared.place.Place.{Place}
 use Rattle.dm_type.specs.CTypes.{CType}
 use Rattle.dm_type.specs.Tables.{Table, type_of}
 use Rattle.dm_tree.specs.declared.tree.Core.{Core, out-Core}
-use Rattle.dm_tree.specs.TypeNumbers.{are_known}
 use Rattle.dm_tree.specs.Views.{opened_form, view}
+use Rattle.dm_frame.specs.Tasks.{ExpressionFits}
 use Rattle.dm_meaning.specs.Expressions.{Move, goes, calls, fails, exits, form_step, going_on, unlocked}
 use Rattle.dm_meaning.specs.Operations.{Objects, Scene, World}
 use Rattle.dm_meaning.specs.Programs.{definition_of}
@@ -22,7 +22,7 @@ use Rattle.dm_postfix.specs.Reductions.{as_operand, filled, step_at}
 use Rattle.dm_program.specs.Functions.{view_of_function, FunctionFits}
 use Rattle.dm_program.specs.Sources.{Source, meant}
 use Rattle.dm_expression.specs.declared.waiting.Waiting.{Waiting}
-use Rattle.dm_expression.specs.Waiting.{is_expression, view_of_waiting}
+use Rattle.dm_expression.specs.Waiting.{view_of_waiting}
 use Rattle.dm_value.specs.Views.{view_of_value}
 use Rattle.dm_move.specs.Ways.{slots_in}
 use Rattle.dm_move.specs.declared.step.Step.{Step}
@@ -52,13 +52,10 @@ Keeps before after (Releases value) = Unit {0}
 Keeps before after (Tests operand) = Unit {0}
 Keeps before after (Picks operand) = Unit {0}
 
--- an operand that is evaluated next
-abbrev pub OperandFits : Table → Core → Type 0
-OperandFits table tree = IsTrue (are_known (length table.shapes) tree) × ((types : Table) → IsTrue (is_expression (view types tree)))
-
+-- an operand that is evaluated next is an expression of the table's types
 abbrev pub StepFits : Source → Step → Type 0
-StepFits source (Tests operand) = OperandFits source.table operand.now
-StepFits source (Picks operand) = OperandFits source.table operand.now
+StepFits source (Tests operand) = ExpressionFits source.table operand.now
+StepFits source (Picks operand) = ExpressionFits source.table operand.now
 StepFits source (Calls function arguments) = (definition_of (meant source) function.number ≡ Some (view_of_function source.table function)) × FunctionFits source function
 StepFits source (Gives result lock) = Unit {0}
 StepFits source (Releases value) = Unit {0}

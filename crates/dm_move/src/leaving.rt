@@ -11,12 +11,11 @@ ghost use Rattle.dm_operate.specs.Evaluations.{view_of_evaluation, view_of_lock}
 ghost use Rattle.dm_postfix.specs.Postfix.{no_slots, node_of, operand as slot};
 ghost use Rattle.dm_row.specs.Counts.{weight_in};
 ghost use Rattle.dm_expression.specs.Waiting.{is_expression, view_of_waiting};
-ghost use Rattle.dm_frame.specs.Tasks.{UseFits};
+ghost use Rattle.dm_frame.specs.Tasks.{ExpressionFits, UseFits};
 ghost use Rattle.dm_state.specs.Fits.{LacksCall};
 ghost use Rattle.dm_state.specs.Views.{hole_in_one};
 ghost use Rattle.dm_value.specs.Places.{view_of_at};
 ghost use Rattle.dm_move.specs.Settling.{gap, own_locks, GoesOn, IsLacking};
-ghost use Rattle.dm_move.specs.Steps.{OperandFits};
 
 use dm_expression::Waiting;
 use dm_operate::Operand;
@@ -69,7 +68,7 @@ pub(crate) fn pick<'a>(
     requires room { weight_in ongoing.old.expression.row.0 + locks ≤ length ongoing.old.expression.locks.items }
     requires operand { (types : Table) → IsTrue (is_expression (view types operand.now)) }
     ensures { (table : Table) (doing : AnyDoing) (kind : CType) (place : Place) → IsLacking table ongoing.old.expression locks → UseFits table ongoing.old.use_of
-        → OperandFits table waiting.entry.node.now → OperandFits table operand.now → open_parts doing ≡ every → view_of_waiting table waiting.entry ≡ node_of doing kind place (slot no_slots)
+        → ExpressionFits table waiting.entry.node.now → ExpressionFits table operand.now → open_parts doing ≡ every → view_of_waiting table waiting.entry ≡ node_of doing kind place (slot no_slots)
         → OnOk result (GoesOn table ongoing.old ongoing.new (filled_in (gap table ongoing.old.expression locks) (going_on doing kind place (begun (view table operand.now))))) }
 {
     ongoing.expression.release(locks)?;

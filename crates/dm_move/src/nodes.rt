@@ -22,7 +22,8 @@ ghost use Rattle.dm_expression.specs.Taken.{results_of};
 ghost use Rattle.dm_state.specs.Standing.{world_of};
 ghost use Rattle.dm_value.specs.Places.{view_of_at};
 ghost use Rattle.dm_move.specs.Operands.{AreKnownResults};
-ghost use Rattle.dm_move.specs.Steps.{view_of_step, IsFormStep, IsStep, Keeps, OperandFits, StepFits};
+ghost use Rattle.dm_frame.specs.Tasks.{ExpressionFits};
+ghost use Rattle.dm_move.specs.Steps.{view_of_step, IsFormStep, IsStep, Keeps, StepFits};
 
 use crate::calls::call;
 use crate::names::{enumerator, named};
@@ -58,7 +59,7 @@ pub(crate) fn take_step<'a>(
     operands: Results<Operand>,
 ) -> Result<Step<'a>, Memory>
     requires known { AreKnown program.now.table blocks.old }
-    requires node { OperandFits program.now.table node.node.now }
+    requires node { ExpressionFits program.now.table node.node.now }
     requires operands { AreKnownResults program.now.table (results_of operands) }
     ensures step { IfOk result (IsStep program.now statics.now objects.now (map view_of_at locks.now) node.entry (results_of operands)
         (world_of program.now.table blocks.old streams.old) (world_of program.now.table blocks.new streams.new)) }
@@ -108,7 +109,7 @@ fn evaluate<'a>(
     operands: Results<Operand>,
 ) -> Result<Step<'a>, Memory>
     requires known { AreKnown program.now.table blocks.old }
-    requires node { OperandFits program.now.table node.now }
+    requires node { ExpressionFits program.now.table node.now }
     requires operands { AreKnownResults program.now.table (results_of operands) }
     ensures step { IfOk result (IsFormStep program.now statics.now objects.now (map view_of_at locks.now) node.now (results_of operands)
         (world_of program.now.table blocks.old streams.old) (world_of program.now.table blocks.new streams.new)) }

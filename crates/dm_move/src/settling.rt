@@ -12,14 +12,14 @@ ghost use Rattle.dm_meaning.specs.Steps.{moved};
 ghost use Rattle.dm_program.specs.Sources.{meant};
 ghost use Rattle.dm_row.specs.Counts.{weight_in};
 ghost use Rattle.dm_frame.specs.Frames.{tasks_of};
-ghost use Rattle.dm_frame.specs.Tasks.{view_of_use, UseFits};
+ghost use Rattle.dm_frame.specs.Tasks.{view_of_use, ExpressionFits, UseFits};
 ghost use Rattle.dm_state.specs.declared.full.Ongoing.{Ongoing as AnyOngoing};
 ghost use Rattle.dm_state.specs.Fits.{RunningFits};
 ghost use Rattle.dm_state.specs.Standing.{world_of};
 ghost use Rattle.dm_state.specs.Turns.{IsLeft};
 ghost use Rattle.dm_value.specs.Places.{view_of_at};
 ghost use Rattle.dm_move.specs.Settling.{gap, own_locks, state_before, GoesOn, IsLacking};
-ghost use Rattle.dm_move.specs.Steps.{view_of_step, Keeps, OperandFits, StepFits};
+ghost use Rattle.dm_move.specs.Steps.{view_of_step, Keeps, StepFits};
 
 use crate::leaving::{give, give_unlocked, leave, pick};
 use crate::step::Step;
@@ -46,7 +46,7 @@ pub(crate) fn settle<'a>(
     requires use_of { UseFits program.now.table ongoing.use_of }
     requires room { weight_in ongoing.expression.row.0 + locks ≤ length ongoing.expression.locks.items }
     requires lacking { IsLacking program.now.table ongoing.expression locks }
-    requires node { OperandFits program.now.table node.now }
+    requires node { ExpressionFits program.now.table node.now }
     requires step { StepFits program.now step }
     ensures { (tasks : List states.Task) (before : World) → Keeps before (world_of program.now.table running.old.blocks running.old.streams) step.entry
         → IfOk result (λ turn. IsLeft program.now.table turn running.new

@@ -13,7 +13,8 @@ ghost use Rattle.dm_memory.specs.Truths.{view_of_truth};
 ghost use Rattle.dm_operate.specs.Evaluations.{view_of_evaluation, view_of_operand};
 ghost use Rattle.dm_expression.specs.Taken.{results_of};
 ghost use Rattle.dm_program.specs.Sources.{Source};
-ghost use Rattle.dm_move.specs.Steps.{view_of_step, Keeps, OperandFits, StepFits};
+ghost use Rattle.dm_frame.specs.Tasks.{ExpressionFits};
+ghost use Rattle.dm_move.specs.Steps.{view_of_step, Keeps, StepFits};
 
 use crate::operands::only;
 use crate::step::Step;
@@ -61,7 +62,7 @@ pub(crate) fn both<'a>(
     ensures step { (place : Place) (locks : List values.At) (world : World) (parts : Runs) → nth_run 1 parts ≡ begun (view layout.now second.now)
         → view_of_step layout.now (type_of layout.now kind) place locks world result ≡ by_truth world place (view_of_truth truth) (both_chosen (type_of layout.now kind) place parts) }
     ensures keeps { (world : World) → Keeps world world result }
-    ensures fits { (source : Source) → OperandFits source.table second.now → StepFits source result }
+    ensures fits { (source : Source) → ExpressionFits source.table second.now → StepFits source result }
 {
     match truth {
         Ok(true) => Step::Tests(second),
@@ -81,7 +82,7 @@ pub(crate) fn either<'a>(
     ensures step { (place : Place) (locks : List values.At) (world : World) (parts : Runs) → nth_run 1 parts ≡ begun (view layout.now second.now)
         → view_of_step layout.now (type_of layout.now kind) place locks world result ≡ by_truth world place (view_of_truth truth) (either_chosen (type_of layout.now kind) place parts) }
     ensures keeps { (world : World) → Keeps world world result }
-    ensures fits { (source : Source) → OperandFits source.table second.now → StepFits source result }
+    ensures fits { (source : Source) → ExpressionFits source.table second.now → StepFits source result }
 {
     match truth {
         Ok(true) => Step::Releases(truth_value(layout, kind, true)),
@@ -96,7 +97,7 @@ pub(crate) fn choice<'a>(second: &'a Core, third: &'a Core, truth: Result<bool, 
         → nth_run 2 parts ≡ begun (view table third.now)
         → view_of_step table (type_of table kind) place locks world result ≡ by_truth world place (view_of_truth truth) (operand_chosen (type_of table kind) place parts) }
     ensures keeps { (world : World) → Keeps world world result }
-    ensures fits { (source : Source) → OperandFits source.table second.now → OperandFits source.table third.now → StepFits source result }
+    ensures fits { (source : Source) → ExpressionFits source.table second.now → ExpressionFits source.table third.now → StepFits source result }
 {
     match truth {
         Ok(true) => Step::Picks(second),

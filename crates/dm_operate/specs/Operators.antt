@@ -10,7 +10,7 @@ use Rattle.dm_operate.specs.declared.operator.Operator.TheVariants as operator
 use Rattle.dm_operate.specs.declared.operator.Leaf.{Leaf}
 use Rattle.dm_operate.specs.declared.operator.Leaf.TheVariants.{Number, Literal, Function, SizeofKind}
 use Rattle.dm_operate.specs.declared.operator.OnPlace.{OnPlace}
-use Rattle.dm_operate.specs.declared.operator.OnPlace.TheVariants.{Read, Decay, Address, Count}
+use Rattle.dm_operate.specs.declared.operator.OnPlace.TheVariants.{Read, Address, Count}
 use Rattle.dm_operate.specs.declared.operator.OnValue.{OnValue}
 use Rattle.dm_operate.specs.declared.operator.OnValue.TheVariants.{Follow, Unary}
 
@@ -49,13 +49,13 @@ StandsOnValue (Unary sign) own = own ≡ label.unary sign
 
 abbrev pub StandsOnPlace : OnPlace → Label → Type 0
 StandsOnPlace Read own = own ≡ label.read
-StandsOnPlace Decay own = own ≡ label.decay
 StandsOnPlace Address own = own ≡ label.address
 StandsOnPlace (Count plus before) own = own ≡ label.count plus before
 
 abbrev pub Stands : Table → Operator → Label → Type 0
 Stands table (operator.Leaf leaf) own = StandsLeaf table leaf own
 Stands table operator.Convert own = own ≡ label.convert
+Stands table operator.Decay own = own ≡ label.decay
 Stands table (operator.Member n) own = own ≡ label.member n
 Stands table (operator.Value one) own = StandsOnValue one own
 Stands table (operator.Place one) own = StandsOnPlace one own
@@ -71,6 +71,7 @@ IsKnownLeaf table leaf = Unit {0}
 abbrev pub IsKnownOperator : Table → Operator → Type 0
 IsKnownOperator table (operator.Leaf leaf) = IsKnownLeaf table leaf
 IsKnownOperator table operator.Convert = Unit {0}
+IsKnownOperator table operator.Decay = Unit {0}
 IsKnownOperator table (operator.Member n) = Unit {0}
 IsKnownOperator table (operator.Value one) = Unit {0}
 IsKnownOperator table (operator.Place one) = Unit {0}

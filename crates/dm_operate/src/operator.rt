@@ -15,6 +15,7 @@ use dm_type::{TypeId, Types};
 pub enum Operator {
     Leaf(Leaf),
     Convert,
+    Decay,
     Member(u32),
     Value(OnValue),
     Place(OnPlace),
@@ -45,7 +46,6 @@ pub enum OnValue {
 #[derive(Clone, Copy)]
 pub enum OnPlace {
     Read,
-    Decay,
     Address,
     Count { plus: bool, before: bool },
 }
@@ -56,6 +56,7 @@ pub(crate) fn operator_of(types: &Types, form: &Form) -> Result<Operator, Memory
     ensures stands { IfOk result (λ operator. Stands types.now operator (opened_form types.now form.now).label) }
     ensures known { IfOk result (IsKnownOperator types.now) }
 {
+    // Only the contract speaks of the types.
     let _ = types;
     match form {
         Form::Number(value) => Ok(Operator::Leaf(Leaf::Number(*value))),
@@ -63,11 +64,11 @@ pub(crate) fn operator_of(types: &Types, form: &Form) -> Result<Operator, Memory
         Form::Function(_) => Ok(Operator::Leaf(Leaf::Function)),
         Form::SizeofKind(kind, _) => Ok(Operator::Leaf(Leaf::SizeofKind(*kind))),
         Form::Convert(_, _) => Ok(Operator::Convert),
+        Form::Decay(_) => Ok(Operator::Decay),
         Form::Member(_, number) => Ok(Operator::Member(*number)),
         Form::Follow(_) => Ok(Operator::Value(OnValue::Follow)),
         Form::Unary(sign, _) => Ok(Operator::Value(OnValue::Unary(*sign))),
         Form::Read(_) => Ok(Operator::Place(OnPlace::Read)),
-        Form::Decay(_) => Ok(Operator::Place(OnPlace::Decay)),
         Form::Address(_) => Ok(Operator::Place(OnPlace::Address)),
         Form::Count {
             plus,

@@ -16,7 +16,7 @@ ghost use Rattle.dm_value.specs.Views.{view_of_value};
 ghost use Rattle.dm_memory.specs.declared.blocks.Block.{Block};
 ghost use Rattle.dm_memory.specs.Blocks.{AreKnown};
 ghost use Rattle.dm_operate.specs.declared.operator.Operator.TheVariants as variant;
-ghost use Rattle.dm_operate.specs.Evaluations.{asks_names, view_of_did, view_of_evaluation, view_of_operand, view_of_operands, AreKnownOperands, Does};
+ghost use Rattle.dm_operate.specs.Evaluations.{asks_names, view_of_did, view_of_evaluation, view_of_operands, AreKnownOperands, Does};
 ghost use Rattle.dm_operate.specs.Operators.{IsKnownLeaf, IsKnownOperator, Stands, StandsLeaf, StandsOnPlace, StandsOnValue};
 
 use crate::conversions::convert;
@@ -87,6 +87,7 @@ fn performed(
             Some(a) => Ok(convert(layout, blocks, kind, a.result)),
             None => Ok(Did::ill()),
         },
+        Operator::Decay => on_decay(alloc, layout, blocks, kind, operands),
         Operator::Member(number) => on_member(alloc, layout, blocks, kind, number, operands),
         Operator::Value(own) => on_value(layout, blocks, kind, own, operands),
         Operator::Place(own) => on_place(alloc, layout, blocks, locks, kind, own, operands),
@@ -99,6 +100,27 @@ fn performed(
             drop(operands);
             Ok(Did::ill())
         }
+    }
+}
+
+/// The step of an array that decays, whatever its operands are.
+fn on_decay(
+    alloc: Global,
+    layout: &Layout,
+    blocks: &Blocks,
+    kind: TypeId,
+    operands: Operands,
+) -> Result<Did, Memory>
+    requires kind { IsId layout.now kind }
+    requires known { AreKnown layout.now blocks.now }
+    requires operands { AreKnownOperands layout.now operands }
+    ensures { (label : Label) (locks : List values.At) → Stands layout.now variant.Decay label → asks_names label ≡ false
+        → IfOk result (λ did. Does layout.now blocks.now blocks.now did (λ scene world. operations.operate scene world locks
+        label (type_of layout.now kind) (view_of_operands layout.now operands))) }
+{
+    match operands.into_one() {
+        Some(a) => Ok(decay(alloc, layout, blocks, &a)?),
+        None => Ok(Did::ill()),
     }
 }
 
@@ -300,7 +322,6 @@ fn perform_on_place(
 {
     match own {
         OnPlace::Read => Ok(read(alloc, layout, blocks, locks, kind, &at)?),
-        OnPlace::Decay => Ok(decay(alloc, &at)?),
         OnPlace::Address => Ok(address(alloc, at)?),
         OnPlace::Count { plus, before } => Ok(count(
             alloc, layout, blocks, locks, kind, plus, before, at,

@@ -13,7 +13,7 @@ ghost use Rattle.dm_operate.specs.Evaluations.{view_of_did, view_of_evaluation, 
 use crate::evaluation::{Did, Evaluation, Operand};
 use dm_layout::Layout;
 use dm_meaning::Cause;
-use dm_memory::{Blocks, to_follow, to_member, to_read};
+use dm_memory::{Blocks, to_enter, to_follow, to_read};
 use dm_token::{Memory, Text};
 use dm_type::TypeId;
 use dm_value::{At, Name, Part, Pointer, Value};
@@ -68,13 +68,26 @@ pub(crate) fn address(alloc: Global, at: At) -> Result<Did, Memory>
 }
 
 /// A pointer to the first element of an array (6.3.2.1p3).
-pub(crate) fn decay(alloc: Global, at: &At) -> Result<Did, Memory>
-    ensures { (world : World) → IfOk result (λ did. view_of_did world did
-        ≡ operations.plain world (values.pointer_value (values.to (operations.part_of (view_of_at at.now) 0)))) }
+pub(crate) fn decay(
+    alloc: Global,
+    layout: &Layout,
+    blocks: &Blocks,
+    operand: &Operand,
+) -> Result<Did, Memory>
+    requires kind { IsId layout.now operand.now.kind }
+    requires known { AreKnown layout.now blocks.now }
+    ensures { IfOk result (λ did. Does layout.now blocks.now blocks.now did (λ scene world.
+        operations.on_place (view_of_evaluation operand.now.result) (operations.decayed scene world (type_of layout.now operand.now.kind)))) }
 {
-    let first = at.part(alloc, 0)?;
-    let did = address(alloc, first)?;
-    Ok(did)
+    match &operand.result {
+        Evaluation::Value(_) => Ok(Did::ill()),
+        Evaluation::Object(at) => {
+            let cause = to_enter(layout, blocks, operand.kind, at);
+            let first = at.part(alloc, 0)?;
+            let pointer = address(alloc, first)?;
+            Ok(Did::unless(cause, pointer))
+        }
+    }
 }
 
 /// The object to which a pointer points (6.5.3.2p4).
@@ -121,7 +134,7 @@ pub(crate) fn member(
             Ok(member_value(inner))
         }
         Evaluation::Object(at) => {
-            let cause = to_member(layout, blocks, operand.kind, at);
+            let cause = to_enter(layout, blocks, operand.kind, at);
             let part = at.part(alloc, number)?;
             Ok(Did::unless(cause, Did::object(part)))
         }

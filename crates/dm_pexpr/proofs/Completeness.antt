@@ -39,7 +39,7 @@ expr-high (tree.conditional span first second third) = omega arith
 expr-high (tree.assign span left operator right) = omega arith
 expr-high (tree.comma span parts) = omega arith
 
-more-depth : (n depth : ℕ) → n ≤ suc depth → n ≤ depth + 1
+pub more-depth : (n depth : ℕ) → n ≤ suc depth → n ≤ depth + 1
 more-depth n depth h = omega (arith, h)
 
 pub complete : (source : Source) (depth : ℕ) → ReadsParts source (lower source depth) depth

@@ -1,6 +1,7 @@
 -- Declarators that are put together of parts.
 use Rattle.std.proofs.Common.{◌≡◌, ◌≤◌, ◌<◌, ℕ, zero, suc, ◌+◌, ◌-◌, Bool, true, false, not, ◌&&◌, List, [], ◌∷◌, ◌++◌, length, map, Option, Some, None, nat_le, refl, sym, ap, ◌∙◌, arith, lit≤, append_assoc, length-append, if◌then◌else◌}
 use Rattle.std.proofs.lemmas.List.{append-nil}
+use Rattle.dm_token.specs.Limits.{greatest_height}
 use Rattle.dm_syn.specs.declared.declared.Declared.{Declared}
 use Rattle.dm_syn.specs.declared.symbol.Symbol.TheVariants as symbol
 use Rattle.dm_syn.specs.declared.expression.Expr.{Expr}
@@ -16,17 +17,19 @@ use Rattle.dm_syn.specs.Heights.{above, is_absent, pointers_node, declarator_hei
 use Rattle.dm_syn.specs.Scopes.{expr_declares, declarator_declares, direct_declares}
 use Rattle.dm_syn.specs.Views as view
 use Rattle.dm_pexpr.specs.declared.part.Part.{Part}
-use Rattle.dm_pexpr.specs.Parsing.{limit, checked, checked_direct, where_true, span_of, declarator_with, enclosed_from, sized_from, function_from, consts, pointers, all_turns}
+use Rattle.dm_pexpr.specs.Parsing.{checked, checked_direct, where_true, span_of, declarator_with, enclosed_from, sized_from, function_from, consts, pointers, all_turns}
+use Rattle.dm_pexpr.specs.Counted.{most_counted}
 use Rattle.dm_pexpr.specs.Parts.{IsPart, Gives, Passes, an_expr, a_declarator, a_direct, parameters_from}
 use Rattle.dm_pexpr.proofs.Expressions.{holds, if-true, if-false, both-tests}
 use Rattle.dm_pexpr.proofs.PartLemmas.{made-gives, part-is, part-of}
 use Rattle.dm_pexpr.proofs.TypeViewLemmas.{view-shaped, view-absent, view-declared, view-enclosed, view-array, view-sized, view-function}
+use Rattle.dm_pexpr.proofs.TestLemmas.{fails}
 
 -- pointers and what stands behind them
 pub declarator-made : (source : Source) (before now : List Declared) (first : ℕ) (stars : List ℕ) (found : Option (Part Direct)) (part : Part Direct) (wanted : Option tree.Direct) → found ≡ Some part
     → Gives (a_direct source (pointers_after first stars)) source before now found wanted
-    → (height : ℕ) (made : Option (Part Declarator)) → (part.height < 1000 → height ≡ pointers_node stars part.height)
-    → made ≡ (if nat_le height limit then Some (record { tree = record { span = record { first = first; after = part.after }; pointers = stars; direct = part.tree }; height = height; after = part.after }) else None)
+    → (height : ℕ) (made : Option (Part Declarator)) → (part.height < most_counted → height ≡ pointers_node stars part.height)
+    → made ≡ (if nat_le height greatest_height then Some (record { tree = record { span = record { first = first; after = part.after }; pointers = stars; direct = part.tree }; height = height; after = part.after }) else None)
     → Gives (a_declarator source) source before now made (declarator_with first stars wanted)
 unfolding declarator_height declarator_declares
 declarator-made source before now first stars found part wanted there given height made high node =
@@ -62,23 +65,20 @@ enclosed-test source before now found part wanted there given =
     ∙ ap (λ ns. where_true (not (is_absent v) && is (symbol_in source ns (declarator_span v).after) symbol.RightParen) (checked_direct (tree.enclosed v))) (sym g.scoped)
     ∙ ap (λ n. where_true (not (is_absent v) && is (symbol_in source now n) symbol.RightParen) (checked_direct (tree.enclosed v))) (sym g.ends)
 
-refused : {A : Type 0} (test : Bool) (found : Option A) → test ≡ false → where_true test found ≡ None
-refused test found h = ap (λ it. where_true it found) h
-
 first-fails : (one other : Bool) → one ≡ true → (not one && other) ≡ false
 first-fails one other h = ap (λ it. not it && other) h
 
 pub enclosed-absent : (source : Source) (before now : List Declared) (found : Option (Part Declarator)) (part : Part Declarator) (wanted : Option tree.Declarator) → found ≡ Some part
     → Gives (a_declarator source) source before now found wanted → is_absent (view.declarator part.tree) ≡ true → enclosed_from source before wanted ≡ None
 enclosed-absent source before now found part wanted there given absent =
-    enclosed-test source before now found part wanted there given ∙ refused _ _ (first-fails _ _ absent)
+    enclosed-test source before now found part wanted there given ∙ fails _ _ (first-fails _ _ absent)
 
 pub enclosed-made : (source : Source) (before now : List Declared) (start : ℕ) (found : Option (Part Declarator)) (part : Part Declarator) (wanted : Option tree.Declarator) → found ≡ Some part
     → Gives (a_declarator source) source before now found wanted → is_absent (view.declarator part.tree) ≡ false
     → (after height : ℕ) (boxed : Declarator) (made : Option (Part Direct))
     → Passes (is (symbol_in source now part.after) symbol.RightParen) part.after (length source.tokens) (Some after)
-    → boxed ≡ part.tree → (part.height < 1000 → height ≡ part.height + 1)
-    → made ≡ (if nat_le height limit then Some (record { tree = direct.Paren boxed; height = height; after = after }) else None)
+    → boxed ≡ part.tree → (part.height < most_counted → height ≡ part.height + 1)
+    → made ≡ (if nat_le height greatest_height then Some (record { tree = direct.Paren boxed; height = height; after = after }) else None)
     → Gives (a_direct source start) source before now made (enclosed_from source before wanted)
 unfolding direct_height direct_declares
 enclosed-made source before now start found part wanted there given present after height boxed made passes same high node =
@@ -93,8 +93,8 @@ enclosed-made source before now start found part wanted there given present afte
 pub array-made : (source : Source) (before now : List Declared) (start : ℕ) (inner : Part Direct) (read : Option tree.Direct)
     → IsPart (a_direct source start) source before now inner read
     → (after height : ℕ) (boxed : Direct) (made : Option (Part Direct)) → after ≤ length source.tokens → after ≡ inner.after + 2
-    → boxed ≡ inner.tree → (inner.height < 1000 → height ≡ inner.height + 1)
-    → made ≡ (if nat_le height limit then Some (record { tree = direct.Array boxed None; height = height; after = after }) else None)
+    → boxed ≡ inner.tree → (inner.height < most_counted → height ≡ inner.height + 1)
+    → made ≡ (if nat_le height greatest_height then Some (record { tree = direct.Array boxed None; height = height; after = after }) else None)
     → Gives (a_direct source start) source before now made (checked_direct (tree.array (view.direct inner.tree)))
 unfolding direct_height direct_declares
 array-made source before now start inner read k after height boxed made within next same high node =
@@ -116,8 +116,8 @@ pub sized-made : (source : Source) (before names now : List Declared) (start : �
     → IsPart (a_direct source start) source before names inner read → Gives (an_expr source) source names now found wanted
     → (after height : ℕ) (one : Direct) (other : Expr) (made : Option (Part Direct))
     → Passes (is (symbol_in source now part.after) symbol.RightBracket) part.after (length source.tokens) (Some after)
-    → one ≡ inner.tree → other ≡ part.tree → (inner.height < 1000 → part.height < 1000 → height ≡ above inner.height part.height)
-    → made ≡ (if nat_le height limit then Some (record { tree = direct.Array one (Some other); height = height; after = after }) else None)
+    → one ≡ inner.tree → other ≡ part.tree → (inner.height < most_counted → part.height < most_counted → height ≡ above inner.height part.height)
+    → made ≡ (if nat_le height greatest_height then Some (record { tree = direct.Array one (Some other); height = height; after = after }) else None)
     → Gives (a_direct source start) source before now made (sized_from source names (view.direct inner.tree) wanted)
 unfolding direct_height direct_declares
 sized-made source before names now start inner read found part wanted there k given after height one other made passes same alike high node =
@@ -136,8 +136,8 @@ pub function-made : (source : Source) (before now within : List Declared) (start
     → IsPart (a_direct source start) source before now inner read → at ≡ inner.after + 1 → IsPart (parameters_from source at) source now within part wanted
     → (after height : ℕ) (boxed : Direct) (made : Option (Part Direct))
     → Passes (is (symbol_in source within part.after) symbol.RightParen) part.after (length source.tokens) (Some after)
-    → boxed ≡ inner.tree → (inner.height < 1000 → part.height < 1000 → height ≡ above inner.height part.height)
-    → made ≡ (if nat_le height limit then Some (record { tree = direct.Function boxed part.tree; height = height; after = after }) else None)
+    → boxed ≡ inner.tree → (inner.height < most_counted → part.height < most_counted → height ≡ above inner.height part.height)
+    → made ≡ (if nat_le height greatest_height then Some (record { tree = direct.Function boxed part.tree; height = height; after = after }) else None)
     → Gives (a_direct source start) source before now made (function_from source now at (view.direct inner.tree) wanted)
 unfolding direct_height direct_declares
 function-made source before now within start at inner read part wanted k next g after height boxed made passes same high node =

@@ -1,6 +1,7 @@
 -- Well-formed type names and declarators are read from their tokens, where what reads their parts does so.
 use Rattle.std.proofs.Common.{◌≡◌, ℕ, zero, suc, ◌+◌, ◌<◌, ◌≤◌, Bool, true, false, not, ◌&&◌, ◌||◌, List, [], ◌∷◌, ◌++◌, Option, Some, None, IsSome, refl, sym, ap, ◌∙◌, subst, arith, length, append_assoc}
 use Rattle.dm_token.specs.declared.place.Span.{Span}
+use Rattle.dm_token.specs.Limits.{greatest_height}
 use Rattle.dm_syn.specs.declared.declared.Declared.{Declared}
 use Rattle.dm_syn.specs.declared.symbol.Symbol.{Symbol}
 use Rattle.dm_syn.specs.declared.symbol.Symbol.TheVariants as symbol
@@ -12,11 +13,12 @@ use Rattle.dm_syn.specs.Spans.{expr_span, type_name_span, specifiers_span, decla
 use Rattle.dm_syn.specs.Scopes.{declarator_name, direct_name, expr_declares, type_name_declares, specifiers_declares, declarator_declares, direct_declares, parameter_declares, parameters_declares}
 use Rattle.dm_syn.specs.Heights.{expr_height, type_name_height, specifiers_height, specifier_height, declarator_height, direct_height, parameters_height, parameter_height, named_node, is_absent}
 use Rattle.dm_syn.specs.Grammar.{level, Types, no_type, IsExpr, IsTypeName, IsSpecifiers, AreWords, IsSpecifier, IsDeclarator, IsDirect, ArePointers, AreConsts, AreParameters, AreMoreParameters, IsParameter, IsNotEmpty, MayBeEnclosed}
-use Rattle.dm_pexpr.specs.Parsing.{Parts, Shape, named, abstract, of_parameter, limit, span_of, checked, all_turns, and_then, suffix_kind, type_name_of, type_name_from, type_name_with, consts, pointers, parameter_of, parameter_from, parameter_with, prepend_parameter, more_parameters_from, more_parameters, parameters_of, enclosed_from, encloses, takes_name, core, sized_from, function_from, array_of, function_of, suffixed, declarator_with, declarator_behind, declarator_of}
+use Rattle.dm_pexpr.specs.Parsing.{Parts, Shape, named, abstract, of_parameter, span_of, checked, all_turns, and_then, suffix_kind, type_name_of, type_name_from, type_name_with, consts, pointers, parameter_of, parameter_from, parameter_with, prepend_parameter, more_parameters_from, more_parameters, parameters_of, enclosed_from, encloses, takes_name, core, sized_from, function_from, array_of, function_of, suffixed, declarator_with, declarator_behind, declarator_of}
 use Rattle.dm_pexpr.proofs.Positions.{parameter-on, present}
 use Rattle.dm_pexpr.proofs.SymbolLemmas.{seen-word, stops-none, front-no-bracket}
 use Rattle.dm_pexpr.proofs.SpecifierSymbols.{follows_specifiers, follows_declarator, declarator-specifiers, declarator-no-star, declarator-no-const, declarator-no-bracket, declarator-no-paren, declarator-no-name, identifier-follows, identifier-no-star, identifier-no-const, identifier-begins, identifier-no-paren, specifier-no-right-paren, word-begins, follows-alike}
 use Rattle.dm_pexpr.proofs.Expressions.{Follows, fits, holds, it-is, fronts, if-true, if-false, both-tests}
+use Rattle.dm_pexpr.proofs.TestLemmas.{first-no, second-no}
 
 -- whether a declarator of this shape is a parameter's
 abbrev pub of_a_parameter : Shape → Bool
@@ -32,12 +34,12 @@ HasShape of_parameter name = Unit {0}
 
 -- the trees of at most this height are read
 pub record ReadsParts (source : Source) (parts : Parts) (depth : ℕ) : Type 0 where
-  pub expr : (least : ℕ) (names : List Declared) (expr : Expr) → IsExpr source names expr → least ≤ level source expr → expr_height expr ≤ depth → expr_height expr ≤ limit
+  pub expr : (least : ℕ) (names : List Declared) (expr : Expr) → IsExpr source names expr → least ≤ level source expr → expr_height expr ≤ depth → expr_height expr ≤ greatest_height
       → Follows source least (expr_declares source expr ++ names) (expr_span expr).after → parts.expr least names (expr_span expr).first ≡ Some expr
-  pub specifiers : (names : List Declared) (it : Specifiers) → IsSpecifiers source names it → specifiers_height it ≤ depth → specifiers_height it ≤ limit
+  pub specifiers : (names : List Declared) (it : Specifiers) → IsSpecifiers source names it → specifiers_height it ≤ depth → specifiers_height it ≤ greatest_height
       → follows_specifiers (symbol_in source (specifiers_declares source it ++ names) (specifiers_span it).after) ≡ true → parts.specifiers names (specifiers_span it).first ≡ Some it
   pub declarator : (shape : Shape) (names : List Declared) (it : Declarator) → IsDeclarator source names (of_a_parameter shape) it → HasShape shape (declarator_name it)
-      → 1 ≤ depth → declarator_height it ≤ depth → declarator_height it ≤ limit
+      → 1 ≤ depth → declarator_height it ≤ depth → declarator_height it ≤ greatest_height
       → follows_declarator (symbol_in source (declarator_declares source it ++ names) (declarator_span it).after) ≡ true → parts.declarator shape names (declarator_span it).first ≡ Some it
 
 -- what holds of the symbol at a direct declarator
@@ -54,20 +56,6 @@ direct-symbol source (tree.sized direct length) names flag at P h behind bracket
     direct-symbol source direct names flag at P h.0 (subst P (sym h.1) bracket) bracket paren identifier
 direct-symbol source (tree.function direct parameters) names flag at P h behind bracket paren identifier =
     direct-symbol source direct names flag at P h.0 (subst P (sym h.1) paren) bracket paren identifier
-
--- and where it has no name
-nameless-symbol : (source : Source) (direct : Direct) (names : List Declared) (flag : Bool) (at : ℕ) (P : Symbol → Type 0) → IsDirect source names flag at direct → direct_name direct ≡ None
-    → P (symbol_in source (direct_declares source direct ++ names) (direct_after at direct)) → P symbol.LeftBracket → P symbol.LeftParen → P (symbol_in source names at)
-unfolding IsDirect direct_declares
-nameless-symbol source tree.absent names flag at P h none behind bracket paren = behind
-nameless-symbol source (tree.declared name) names flag at P h none behind bracket paren = absurd (cc)
-nameless-symbol source (tree.enclosed declarator) names flag at P h none behind bracket paren = subst P (sym h.0) paren
-nameless-symbol source (tree.array direct) names flag at P h none behind bracket paren =
-    nameless-symbol source direct names flag at P h.0 none (subst P (sym h.1) bracket) bracket paren
-nameless-symbol source (tree.sized direct length) names flag at P h none behind bracket paren =
-    nameless-symbol source direct names flag at P h.0 none (subst P (sym h.1) bracket) bracket paren
-nameless-symbol source (tree.function direct parameters) names flag at P h none behind bracket paren =
-    nameless-symbol source direct names flag at P h.0 none (subst P (sym h.1) paren) bracket paren
 
 -- what a declarator begins with may stand behind specifiers
 pub declarator-begins : (source : Source) (names : List Declared) (flag : Bool) (it : Declarator) → IsDeclarator source names flag it
@@ -139,30 +127,23 @@ Free source of_parameter names at =
     (is_identifier (symbol_in source names at) ≡ false)
     × ((is (symbol_in source names at) symbol.LeftParen && encloses of_parameter (symbol_in source names (at + 1))) ≡ false)
 
-first-fails : (one other : Bool) → one ≡ false → (one && other) ≡ false
-first-fails one other h = ap (λ (it : Bool). it && other) h
-
 -- where it is no parenthesis and no name
 free-of : (source : Source) (shape : Shape) (names : List Declared) (at : ℕ) → is_identifier (symbol_in source names at) ≡ false → is (symbol_in source names at) symbol.LeftParen ≡ false
     → Free source shape names at
 free-of source named names at i p = tt
-free-of source abstract names at i p = first-fails _ _ p
-free-of source of_parameter names at i p = (i, first-fails _ _ p)
+free-of source abstract names at i p = first-no _ _ p
+free-of source of_parameter names at i p = (i, first-no _ _ p)
 
 either-way : (one other : Bool) → other ≡ true → not (one || other) ≡ false
 either-way true other h = refl
 either-way false other h = ap not h
 
-second-fails : (one other : Bool) → other ≡ false → (one && other) ≡ false
-second-fails true other h = h
-second-fails false other h = refl
-
 -- where it is the parenthesis of a parameter list
 free-list : (source : Source) (shape : Shape) (names : List Declared) (at : ℕ) → symbol_in source names at ≡ symbol.LeftParen
     → not (is (symbol_in source names (at + 1)) symbol.RightParen || begins_specifiers (symbol_in source names (at + 1))) ≡ false → Free source shape names at
 free-list source named names at p l = tt
-free-list source abstract names at p l = second-fails _ _ l
-free-list source of_parameter names at p l = (ap is_identifier p, second-fails _ _ l)
+free-list source abstract names at p l = second-no _ _ l
+free-list source of_parameter names at p l = (ap is_identifier p, second-no _ _ l)
 
 -- specifiers begin with one
 specifier-begins : (source : Source) (names : List Declared) (at : ℕ) (types : Types) (it : Specifier) → IsSpecifier source names at types it → begins_specifiers (symbol_in source names at) ≡ true
@@ -273,7 +254,7 @@ pointers-read source (count ∷ others) (suc turns) names at h t s c =
 
 module _ (source : Source) (parts : Parts) (depth : ℕ) (reads : ReadsParts source parts depth) where
   -- type names
-  pub name-read : (names : List Declared) (it : TypeName) → IsTypeName source names it → type_name_height it ≤ depth → type_name_height it ≤ limit
+  pub name-read : (names : List Declared) (it : TypeName) → IsTypeName source names it → type_name_height it ≤ depth → type_name_height it ≤ greatest_height
       → follows_declarator (symbol_in source (type_name_declares source it ++ names) (type_name_span it).after) ≡ true
       → type_name_of source parts names (type_name_span it).first ≡ Some it
   unfolding IsTypeName type_name_height type_name_declares type_name_of
@@ -284,7 +265,7 @@ module _ (source : Source) (parts : Parts) (depth : ℕ) (reads : ReadsParts sou
       (subst (λ (at : ℕ). follows_declarator (symbol_in source ((declarator_declares source declarator ++ specifiers_declares source specifiers) ++ names) at) ≡ true) h.5 f) in
       let high : 1 ≤ specifiers_height specifiers = specifiers-high source names specifiers h.1 in
       let low : (specifiers_height specifiers ≤ depth) × (declarator_height declarator ≤ depth) = named-within (specifiers_height specifiers) declarator depth d in
-      let lower : (specifiers_height specifiers ≤ limit) × (declarator_height declarator ≤ limit) = named-within (specifiers_height specifiers) declarator limit l in
+      let lower : (specifiers_height specifiers ≤ greatest_height) × (declarator_height declarator ≤ greatest_height) = named-within (specifiers_height specifiers) declarator greatest_height l in
       ap (type_name_from source parts names span.first) (ap (parts.specifiers names) (sym h.0)
       ∙ reads.specifiers names specifiers h.1 low.0 lower.0
       (subst (λ (at : ℕ). follows_specifiers (symbol_in source (specifiers_declares source specifiers ++ names) at) ≡ true) h.2
@@ -294,7 +275,7 @@ module _ (source : Source) (parts : Parts) (depth : ℕ) (reads : ReadsParts sou
       ∙ ap (λ (after : ℕ). Some (tree.type_name (span_of span.first after) specifiers declarator)) (sym h.5)
 
   -- parameters
-  parameter-read : (names : List Declared) (it : Parameter) → IsParameter source names it → parameter_height it ≤ depth → parameter_height it ≤ limit
+  parameter-read : (names : List Declared) (it : Parameter) → IsParameter source names it → parameter_height it ≤ depth → parameter_height it ≤ greatest_height
       → follows_declarator (symbol_in source (parameter_declares source it ++ names) (parameter_span it).after) ≡ true
       → parameter_of source parts names (parameter_span it).first ≡ Some it
   unfolding IsParameter parameter_height parameter_of
@@ -304,7 +285,7 @@ module _ (source : Source) (parts : Parts) (depth : ℕ) (reads : ReadsParts sou
       (subst (λ (at : ℕ). follows_declarator (symbol_in source (parameter_declares source (tree.parameter span specifiers declarator) ++ names) at) ≡ true) h.4 f) in
       let high : 1 ≤ specifiers_height specifiers = specifiers-high source names specifiers h.1 in
       let low : (specifiers_height specifiers ≤ depth) × (declarator_height declarator ≤ depth) = named-within (specifiers_height specifiers) declarator depth d in
-      let lower : (specifiers_height specifiers ≤ limit) × (declarator_height declarator ≤ limit) = named-within (specifiers_height specifiers) declarator limit l in
+      let lower : (specifiers_height specifiers ≤ greatest_height) × (declarator_height declarator ≤ greatest_height) = named-within (specifiers_height specifiers) declarator greatest_height l in
       ap (parameter_from source parts names span.first) (ap (parts.specifiers names) (sym h.0)
       ∙ reads.specifiers names specifiers h.1 low.0 lower.0
       (subst (λ (at : ℕ). follows_specifiers (symbol_in source (specifiers_declares source specifiers ++ names) at) ≡ true) h.2
@@ -321,7 +302,7 @@ module _ (source : Source) (parts : Parts) (depth : ℕ) (reads : ReadsParts sou
   parameters-follow (tree.more_parameters first others) names at h e = ap follows_declarator h.0
 
   more-parameters-read : (it : Parameters) (turns : ℕ) (names : List Declared) (at : ℕ) → AreMoreParameters source names at it
-      → parameters_height it ≤ depth → parameters_height it ≤ limit → length source.tokens < at + turns
+      → parameters_height it ≤ depth → parameters_height it ≤ greatest_height → length source.tokens < at + turns
       → symbol_in source (parameters_declares source it ++ names) (parameters_after at it) ≡ symbol.RightParen → more_parameters source parts turns names at ≡ Some it
   unfolding AreMoreParameters parameters_height more_parameters
   more-parameters-read tree.no_parameters zero names at h d l t e = refl
@@ -340,7 +321,7 @@ module _ (source : Source) (parts : Parts) (depth : ℕ) (reads : ReadsParts sou
       (omega (arith, t, h.1, parameter-on source names first h.2)) ends)
 
   parameters-read : (it : Parameters) (names : List Declared) (at : ℕ) → AreParameters source names at it
-      → parameters_height it ≤ depth → parameters_height it ≤ limit
+      → parameters_height it ≤ depth → parameters_height it ≤ greatest_height
       → symbol_in source (parameters_declares source it ++ names) (parameters_after at it) ≡ symbol.RightParen → parameters_of source parts names at ≡ Some it
   unfolding AreParameters parameters_height parameters_of
   parameters-read tree.no_parameters names at h d l e = if-true _ _ _ (it-is (symbol_in source names at) symbol.RightParen e)
@@ -358,19 +339,19 @@ module _ (source : Source) (parts : Parts) (depth : ℕ) (reads : ReadsParts sou
   -- reading a direct declarator comes to where this much is read, with enough turns left
   DirectGrows : Shape → List Declared → ℕ → Direct → Type 0
   DirectGrows shape names at direct =
-      (turns : ℕ) × (limit ≤ turns + direct_height direct)
-      × (and_then (suffixed source parts names at limit) (core source parts shape names at) ≡ suffixed source parts names at turns direct)
+      (turns : ℕ) × (greatest_height ≤ turns + direct_height direct)
+      × (and_then (suffixed source parts names at greatest_height) (core source parts shape names at) ≡ suffixed source parts names at turns direct)
 
   from-core : (shape : Shape) (names : List Declared) (at : ℕ) (direct : Direct) → core source parts shape names at ≡ Some direct → DirectGrows shape names at direct
   unfolding DirectGrows
-  from-core shape names at direct e = (limit, omega arith, ap (and_then (suffixed source parts names at limit)) e)
+  from-core shape names at direct e = (greatest_height, omega arith, ap (and_then (suffixed source parts names at greatest_height)) e)
 
   -- one more array
-  array-turn : (turns : ℕ) (names : List Declared) (at : ℕ) (direct next : Direct) → limit ≤ turns + direct_height direct
+  array-turn : (turns : ℕ) (names : List Declared) (at : ℕ) (direct next : Direct) → greatest_height ≤ turns + direct_height direct
       → symbol_in source (direct_declares source direct ++ names) (direct_after at direct) ≡ symbol.LeftBracket
       → array_of source parts (direct_declares source direct ++ names) (direct_after at direct + 1) direct ≡ Some next
-      → direct_height direct + 1 ≤ direct_height next → direct_height next ≤ limit
-      → (less : ℕ) × (limit ≤ less + direct_height next) × (suffixed source parts names at turns direct ≡ suffixed source parts names at less next)
+      → direct_height direct + 1 ≤ direct_height next → direct_height next ≤ greatest_height
+      → (less : ℕ) × (greatest_height ≤ less + direct_height next) × (suffixed source parts names at turns direct ≡ suffixed source parts names at less next)
   unfolding suffixed
   array-turn zero names at direct next enough s e higher low = absurd (omega (arith, enough, higher, low))
   array-turn (suc turns) names at direct next enough s e higher low = (
@@ -380,11 +361,11 @@ module _ (source : Source) (parts : Parts) (depth : ℕ) (reads : ReadsParts sou
   )
 
   -- one more function
-  function-turn : (turns : ℕ) (names : List Declared) (at : ℕ) (direct next : Direct) → limit ≤ turns + direct_height direct
+  function-turn : (turns : ℕ) (names : List Declared) (at : ℕ) (direct next : Direct) → greatest_height ≤ turns + direct_height direct
       → symbol_in source (direct_declares source direct ++ names) (direct_after at direct) ≡ symbol.LeftParen
       → function_of source parts (direct_declares source direct ++ names) (direct_after at direct + 1) direct ≡ Some next
-      → direct_height direct + 1 ≤ direct_height next → direct_height next ≤ limit
-      → (less : ℕ) × (limit ≤ less + direct_height next) × (suffixed source parts names at turns direct ≡ suffixed source parts names at less next)
+      → direct_height direct + 1 ≤ direct_height next → direct_height next ≤ greatest_height
+      → (less : ℕ) × (greatest_height ≤ less + direct_height next) × (suffixed source parts names at turns direct ≡ suffixed source parts names at less next)
   unfolding suffixed
   function-turn zero names at direct next enough s e higher low = absurd (omega (arith, enough, higher, low))
   function-turn (suc turns) names at direct next enough s e higher low = (
@@ -397,7 +378,7 @@ module _ (source : Source) (parts : Parts) (depth : ℕ) (reads : ReadsParts sou
   array-grows : (shape : Shape) (names : List Declared) (at : ℕ) (direct next : Direct) → DirectGrows shape names at direct
       → symbol_in source (direct_declares source direct ++ names) (direct_after at direct) ≡ symbol.LeftBracket
       → array_of source parts (direct_declares source direct ++ names) (direct_after at direct + 1) direct ≡ Some next
-      → direct_height direct + 1 ≤ direct_height next → direct_height next ≤ limit → DirectGrows shape names at next
+      → direct_height direct + 1 ≤ direct_height next → direct_height next ≤ greatest_height → DirectGrows shape names at next
   unfolding DirectGrows
   array-grows shape names at direct next grows s e higher low =
       let more = array-turn grows.0 names at direct next grows.1 s e higher low in (more.0, more.1, grows.2 ∙ more.2)
@@ -405,7 +386,7 @@ module _ (source : Source) (parts : Parts) (depth : ℕ) (reads : ReadsParts sou
   function-grows : (shape : Shape) (names : List Declared) (at : ℕ) (direct next : Direct) → DirectGrows shape names at direct
       → symbol_in source (direct_declares source direct ++ names) (direct_after at direct) ≡ symbol.LeftParen
       → function_of source parts (direct_declares source direct ++ names) (direct_after at direct + 1) direct ≡ Some next
-      → direct_height direct + 1 ≤ direct_height next → direct_height next ≤ limit → DirectGrows shape names at next
+      → direct_height direct + 1 ≤ direct_height next → direct_height next ≤ greatest_height → DirectGrows shape names at next
   unfolding DirectGrows
   function-grows shape names at direct next grows s e higher low =
       let more = function-turn grows.0 names at direct next grows.1 s e higher low in (more.0, more.1, grows.2 ∙ more.2)
@@ -424,7 +405,7 @@ module _ (source : Source) (parts : Parts) (depth : ℕ) (reads : ReadsParts sou
   name-core of_parameter names at name s i = if-true _ _ _ i
 
   no-name-first : (shape : Shape) (names : List Declared) (at : ℕ) → symbol_in source names at ≡ symbol.LeftParen → (takes_name shape && is_identifier (symbol_in source names at)) ≡ false
-  no-name-first shape names at p = second-fails _ _ (ap is_identifier p)
+  no-name-first shape names at p = second-no _ _ (ap is_identifier p)
 
   not-empty : (it : Declarator) → IsNotEmpty it → is_absent it ≡ false
   not-empty (tree.shaped span [] tree.absent) h = absurd h
@@ -453,7 +434,7 @@ module _ (source : Source) (parts : Parts) (depth : ℕ) (reads : ReadsParts sou
   core-enclosed shape names at p e = if-false _ _ _ (no-name-first shape names at p) ∙ if-true _ _ _ (both-tests _ _ (it-is _ symbol.LeftParen p) e)
 
   direct-grows : (shape : Shape) (direct : Direct) (names : List Declared) (at : ℕ) → IsDirect source names (of_a_parameter shape) at direct → HasShape shape (direct_name direct)
-      → direct_height direct ≤ depth + 1 → direct_height direct ≤ limit
+      → direct_height direct ≤ depth + 1 → direct_height direct ≤ greatest_height
       → Free source shape (direct_declares source direct ++ names) (direct_after at direct) → DirectGrows shape names at direct
   unfolding IsDirect direct_declares direct_height array_of function_of
   direct-grows shape tree.absent names at h s d l f = from-core shape names at tree.absent (nothing-read shape names at s f)
@@ -505,7 +486,7 @@ module _ (source : Source) (parts : Parts) (depth : ℕ) (reads : ReadsParts sou
 
   -- A well-formed declarator is the one that is read.
   pub declarator-read : (shape : Shape) (names : List Declared) (it : Declarator) → IsDeclarator source names (of_a_parameter shape) it → HasShape shape (declarator_name it)
-      → declarator_height it ≤ depth + 1 → declarator_height it ≤ limit
+      → declarator_height it ≤ depth + 1 → declarator_height it ≤ greatest_height
       → follows_declarator (symbol_in source (declarator_declares source it ++ names) (declarator_span it).after) ≡ true
       → declarator_of source parts shape names (declarator_span it).first ≡ Some it
   unfolding IsDeclarator declarator_declares declarator_of DirectGrows
@@ -513,7 +494,7 @@ module _ (source : Source) (parts : Parts) (depth : ℕ) (reads : ReadsParts sou
       let follow : follows_declarator (symbol_in source (direct_declares source direct ++ names) (direct_after (pointers_after span.first stars) direct)) ≡ true =
       subst (λ (at : ℕ). follows_declarator (symbol_in source (direct_declares source direct ++ names) at) ≡ true) h.2 f in
       let grown : DirectGrows shape names (pointers_after span.first stars) direct =
-      direct-grows shape direct names (pointers_after span.first stars) h.1 s (direct-low stars direct (depth + 1) span d) (direct-low stars direct limit span l)
+      direct-grows shape direct names (pointers_after span.first stars) h.1 s (direct-low stars direct (depth + 1) span d) (direct-low stars direct greatest_height span l)
       (free-of source shape _ _ (declarator-no-name _ follow) (declarator-no-paren _ follow)) in
       ap (declarator_behind source parts shape names span.first)
       (pointers-read source stars (all_turns source) names span.first h.0 (omega arith)
@@ -526,7 +507,7 @@ module _ (source : Source) (parts : Parts) (depth : ℕ) (reads : ReadsParts sou
 
   -- In front of a function's body, a well-formed declarator with a name is the one that is read.
   pub declarator-before-body : (names : List Declared) (it : Declarator) → IsDeclarator source names false it → IsSome (declarator_name it)
-      → declarator_height it ≤ depth + 1 → declarator_height it ≤ limit
+      → declarator_height it ≤ depth + 1 → declarator_height it ≤ greatest_height
       → symbol_in source (declarator_declares source it ++ names) (declarator_span it).after ≡ symbol.LeftBrace
       → declarator_of source parts named names (declarator_span it).first ≡ Some it
   unfolding IsDeclarator declarator_declares declarator_of DirectGrows
@@ -534,7 +515,7 @@ module _ (source : Source) (parts : Parts) (depth : ℕ) (reads : ReadsParts sou
       let brace : symbol_in source (direct_declares source direct ++ names) (direct_after (pointers_after span.first stars) direct) ≡ symbol.LeftBrace =
       subst (λ (at : ℕ). symbol_in source (direct_declares source direct ++ names) at ≡ symbol.LeftBrace) h.2 b in
       let grown : DirectGrows named names (pointers_after span.first stars) direct =
-      direct-grows named direct names (pointers_after span.first stars) h.1 s (direct-low stars direct (depth + 1) span d) (direct-low stars direct limit span l) tt in
+      direct-grows named direct names (pointers_after span.first stars) h.1 s (direct-low stars direct (depth + 1) span d) (direct-low stars direct greatest_height span l) tt in
       ap (declarator_behind source parts named names span.first)
       (pointers-read source stars (all_turns source) names span.first h.0 (omega arith)
       (direct-symbol source direct names false (pointers_after span.first stars) (λ (it : Symbol). is it symbol.Star ≡ false) h.1 (it-is-not _ symbol.LeftBrace symbol.Star brace refl) refl refl identifier-no-star)

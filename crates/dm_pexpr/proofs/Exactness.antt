@@ -1,5 +1,6 @@
 -- What is read at a place is the well-formed tree there.
 use Rattle.std.proofs.Common.{◌≡◌, ℕ, Bool, true, false, List, Option, Some, None, refl, ap, ◌∙◌, subst, if◌then◌else◌}
+use Rattle.dm_token.specs.Limits.{greatest_height}
 use Rattle.dm_syn.specs.declared.declared.Declared.{Declared}
 use Rattle.dm_syn.specs.Sources.{Source}
 use Rattle.dm_syn.specs.Trees.{Expr, TypeName}
@@ -17,38 +18,38 @@ let-through : {A : Type 0} (test : Bool) (one it : A) → (if test then Some one
 let-through true one it h = (refl, inside one it h)
 let-through false one it h = absurd (cc)
 
-whole-found : (source : Source) (names : List Declared) (at : ℕ) (found : Option Expr) (it : Expr) → (lower source 512).expr 0 names at ≡ found
+whole-found : (source : Source) (names : List Declared) (at : ℕ) (found : Option Expr) (it : Expr) → (lower source greatest_height).expr 0 names at ≡ found
     → whole_expression source names found ≡ Some it → IsExpression source names at it
 whole-found source names at None it e h = absurd (cc)
 whole-found source names at (Some expr) it e h =
     let passed = let-through _ expr it h in
     let tests = both-hold _ _ passed.0 in
-    let formed = (all-formed source 512).expr 0 names at expr e in
+    let formed = (all-formed source greatest_height).expr 0 names at expr e in
     let read : IsExpression source names at expr = record { formed = formed.0; begins = formed.1; low = le-from _ _ tests.0; closed = tests.1 } in
     subst (IsExpression source names at) passed.1 read
 
 pub expression-found : (source : Source) (names : List Declared) (at : ℕ) (it : Expr) → expression_at source names at ≡ Some it → IsExpression source names at it
-expression-found source names at it h = whole-found source names at ((lower source 512).expr 0 names at) it refl h
+expression-found source names at it h = whole-found source names at ((lower source greatest_height).expr 0 names at) it refl h
 
 pub expression-only : (source : Source) (names : List Declared) (at : ℕ) (it : Expr) → IsExpression source names at it → expression_at source names at ≡ Some it
 expression-only source names at it is =
     ap (whole_expression source names) (expression-read source names at it is)
-    ∙ if-true _ _ _ (both-tests _ _ (le-true (expr_height it) 512 is.low) is.closed)
+    ∙ if-true _ _ _ (both-tests _ _ (le-true (expr_height it) greatest_height is.low) is.closed)
 
-name-found : (source : Source) (names : List Declared) (at : ℕ) (found : Option TypeName) (it : TypeName) → type_name_of source (lower source 512) names at ≡ found
+name-found : (source : Source) (names : List Declared) (at : ℕ) (found : Option TypeName) (it : TypeName) → type_name_of source (lower source greatest_height) names at ≡ found
     → whole_name source names found ≡ Some it → IsClosedName source names at it
 name-found source names at None it e h = absurd (cc)
 name-found source names at (Some name) it e h =
     let passed = let-through _ name it h in
     let tests = both-hold _ _ passed.0 in
-    let formed = name-formed source (lower source 512) (all-formed source 512) names at name e in
+    let formed = name-formed source (lower source greatest_height) (all-formed source greatest_height) names at name e in
     let read : IsClosedName source names at name = record { formed = formed.0; begins = formed.1; low = le-from _ _ tests.0; closed = tests.1 } in
     subst (IsClosedName source names at) passed.1 read
 
 pub type-name-found : (source : Source) (names : List Declared) (at : ℕ) (it : TypeName) → type_name_at source names at ≡ Some it → IsClosedName source names at it
-type-name-found source names at it h = name-found source names at (type_name_of source (lower source 512) names at) it refl h
+type-name-found source names at it h = name-found source names at (type_name_of source (lower source greatest_height) names at) it refl h
 
 pub type-name-only : (source : Source) (names : List Declared) (at : ℕ) (it : TypeName) → IsClosedName source names at it → type_name_at source names at ≡ Some it
 type-name-only source names at it is =
     ap (whole_name source names) (closed-name-read source names at it is)
-    ∙ if-true _ _ _ (both-tests _ _ (le-true (type_name_height it) 512 is.low) is.closed)
+    ∙ if-true _ _ _ (both-tests _ _ (le-true (type_name_height it) greatest_height is.low) is.closed)

@@ -1,6 +1,7 @@
 -- A well-formed expression is read from its tokens, where what reads its parts does so.
 use Rattle.std.proofs.Common.{◌≡◌, ℕ, zero, suc, ◌+◌, ◌<◌, ◌≤◌, Bool, true, false, List, ◌++◌, Option, Some, None, refl, sym, ap, ◌∙◌, subst, arith, length, append_assoc, if◌then◌else◌, ◌&&◌}
 use Rattle.dm_token.specs.declared.place.Span.{Span}
+use Rattle.dm_token.specs.Limits.{greatest_height}
 use Rattle.dm_syn.specs.declared.declared.Declared.{Declared}
 use Rattle.dm_syn.specs.declared.symbol.Symbol.{Symbol}
 use Rattle.dm_syn.specs.declared.symbol.Symbol.TheVariants as symbol
@@ -12,7 +13,7 @@ use Rattle.dm_syn.specs.Spans.{expr_span, exprs_after, type_name_span}
 use Rattle.dm_syn.specs.Scopes.{expr_declares, exprs_declares, type_name_declares}
 use Rattle.dm_syn.specs.Heights.{expr_height, exprs_height, type_name_height}
 use Rattle.dm_syn.specs.Grammar.{level, operator_level, prefix_level, is_assignment, IsExpr, AreArguments, AreMoreExprs, IsTypeName}
-use Rattle.dm_pexpr.specs.Parsing.{Parts, limit, span_of, checked, checked_expr, where_true, more_exprs, more_from, prepend_expr, all_turns, arguments, type_name_of, paren_from, cast_from, cast_with, sizeof_name_from, sizeof_expr_from, prefix_from, Front, a_name, a_constant, a_literal, enclosing, measuring, prefixing, no_front, front_kind, front_of, Suffix, indexing, calling, selecting, following, counting, operating, choosing, assigning, separating, no_suffix, suffix_kind, goes_on, index_from, call_from, binary_from, assign_from, conditional_from, conditional_with, comma_from, turn, and_then, suffix_behind, grown, grown_from, expr_of}
+use Rattle.dm_pexpr.specs.Parsing.{Parts, span_of, checked, checked_expr, where_true, more_exprs, more_from, prepend_expr, all_turns, arguments, type_name_of, paren_from, cast_from, cast_with, sizeof_name_from, sizeof_expr_from, prefix_from, Front, a_name, a_constant, a_literal, enclosing, measuring, prefixing, no_front, front_kind, front_of, Suffix, indexing, calling, selecting, following, counting, operating, choosing, assigning, separating, no_suffix, suffix_kind, goes_on, index_from, call_from, binary_from, assign_from, conditional_from, conditional_with, comma_from, turn, and_then, suffix_behind, grown, grown_from, expr_of}
 use Rattle.dm_pexpr.proofs.Positions.{expr-on, present}
 use Rattle.dm_pexpr.proofs.SymbolLemmas.{suffix-infix, suffix-assignment, front-prefix, seen-infix, seen-assignment, infix-bounds, not-comma, le-true, Stops, stays, stops-higher, stops-nothing, stops-none, both, casts-alike, front-no-paren, front-no-specifier, by-level, left-paren-is}
 
@@ -26,16 +27,16 @@ Ends source names at = suffix_kind (symbol_in source names at) ≡ no_suffix
 
 -- the expressions and the type names of at most this height are read
 pub record ReadsExprs (source : Source) (parts : Parts) (depth : ℕ) : Type 0 where
-  pub expr : (least : ℕ) (names : List Declared) (expr : Expr) → IsExpr source names expr → least ≤ level source expr → expr_height expr ≤ depth → expr_height expr ≤ limit
+  pub expr : (least : ℕ) (names : List Declared) (expr : Expr) → IsExpr source names expr → least ≤ level source expr → expr_height expr ≤ depth → expr_height expr ≤ greatest_height
       → Follows source least (expr_declares source expr ++ names) (expr_span expr).after → parts.expr least names (expr_span expr).first ≡ Some expr
-  pub name : (names : List Declared) (name : TypeName) → IsTypeName source names name → type_name_height name ≤ depth → type_name_height name ≤ limit
+  pub name : (names : List Declared) (name : TypeName) → IsTypeName source names name → type_name_height name ≤ depth → type_name_height name ≤ greatest_height
       → symbol_in source (type_name_declares source name ++ names) (type_name_span name).after ≡ symbol.RightParen
       → type_name_of source parts names (type_name_span name).first ≡ Some name
   pub begins : (names : List Declared) (name : TypeName) → IsTypeName source names name → begins_specifiers (symbol_in source names (type_name_span name).first) ≡ true
 
 -- a tree that isn't too high
-pub fits : {A : Type 0} (height : ℕ) (it : A) → height ≤ limit → checked height it ≡ Some it
-fits height it h = ap (λ (test : Bool). if test then Some it else None) (le-true height limit h)
+pub fits : {A : Type 0} (height : ℕ) (it : A) → height ≤ greatest_height → checked height it ≡ Some it
+fits height it h = ap (λ (test : Bool). if test then Some it else None) (le-true height greatest_height h)
 
 -- a tree that stands where something holds
 pub holds : {A : Type 0} (test : Bool) (found : Option A) → test ≡ true → where_true test found ≡ found
@@ -238,7 +239,7 @@ first-comma source names at first others h = h.0
 module _ (source : Source) (parts : Parts) (depth : ℕ) (reads : ReadsExprs source parts depth) where
   -- expressions with a comma before each
   more-read : (exprs : Exprs) (turns : ℕ) (names : List Declared) (at : ℕ) → AreMoreExprs source names at exprs
-      → exprs_height exprs ≤ depth → exprs_height exprs ≤ limit → length source.tokens < at + turns
+      → exprs_height exprs ≤ depth → exprs_height exprs ≤ greatest_height → length source.tokens < at + turns
       → Ends source (exprs_declares source exprs ++ names) (exprs_after at exprs) → more_exprs source parts turns names at ≡ Some exprs
   unfolding AreMoreExprs exprs_declares exprs_height more_exprs
   more-read tree.no_exprs zero names at h d l t e = refl
@@ -257,7 +258,7 @@ module _ (source : Source) (parts : Parts) (depth : ℕ) (reads : ReadsExprs sou
 
   -- arguments up to the closing parenthesis
   arguments-read : (exprs : Exprs) (names : List Declared) (at : ℕ) → AreArguments source names at exprs
-      → exprs_height exprs ≤ depth → exprs_height exprs ≤ limit
+      → exprs_height exprs ≤ depth → exprs_height exprs ≤ greatest_height
       → symbol_in source (exprs_declares source exprs ++ names) (exprs_after at exprs) ≡ symbol.RightParen → arguments source parts names at ≡ Some exprs
   unfolding AreArguments exprs_declares exprs_height arguments
   arguments-read tree.no_exprs names at h d l e = if-true _ _ _ (it-is (symbol_in source names at) symbol.RightParen e)
@@ -274,25 +275,25 @@ module _ (source : Source) (parts : Parts) (depth : ℕ) (reads : ReadsExprs sou
   -- reading an expression comes to where this much is read, with enough turns left
   Grows : ℕ → List Declared → Expr → Type 0
   Grows least names expr =
-      (turns : ℕ) × (limit ≤ turns + expr_height expr) × (expr_of source parts least names (expr_span expr).first ≡ grown source parts least names turns expr)
+      (turns : ℕ) × (greatest_height ≤ turns + expr_height expr) × (expr_of source parts least names (expr_span expr).first ≡ grown source parts least names turns expr)
 
   -- at the front
   from-front : (least : ℕ) (names : List Declared) (expr : Expr) (kind : Front) → front_kind (symbol_in source names (expr_span expr).first) ≡ kind
       → front_of source parts names (expr_span expr).first kind ≡ Some expr → least ≤ level source expr → Grows least names expr
   unfolding Grows expr_of
   from-front least names expr kind k f h = (
-    limit,
+    greatest_height,
     omega arith,
     ap (grown_from source parts least names) (ap (front_of source parts names (expr_span expr).first) k ∙ f)
         ∙ if-true _ _ _ (le-true least (level source expr) h),
   )
 
   -- one turn
-  one-turn : (turns least : ℕ) (names : List Declared) (left expr : Expr) (kind : Suffix) → limit ≤ turns + expr_height left
+  one-turn : (turns least : ℕ) (names : List Declared) (left expr : Expr) (kind : Suffix) → greatest_height ≤ turns + expr_height left
       → suffix_behind source names left ≡ kind → goes_on least (level source left) kind ≡ true
       → turn source parts (expr_declares source left ++ names) left (expr_span left).after kind ≡ Some expr
-      → expr_height left + 1 ≤ expr_height expr → expr_height expr ≤ limit
-      → (less : ℕ) × (limit ≤ less + expr_height expr) × (grown source parts least names turns left ≡ grown source parts least names less expr)
+      → expr_height left + 1 ≤ expr_height expr → expr_height expr ≤ greatest_height
+      → (less : ℕ) × (greatest_height ≤ less + expr_height expr) × (grown source parts least names turns left ≡ grown source parts least names less expr)
   unfolding grown
   one-turn zero least names left expr kind enough k g t higher low = absurd (omega (arith, enough, higher, low))
   one-turn (suc turns) least names left expr kind enough k g t higher low = (
@@ -306,14 +307,14 @@ module _ (source : Source) (parts : Parts) (depth : ℕ) (reads : ReadsExprs sou
   from-left : (least : ℕ) (names : List Declared) (left expr : Expr) (kind : Suffix) → Grows least names left → (expr_span left).first ≡ (expr_span expr).first
       → suffix_behind source names left ≡ kind → goes_on least (level source left) kind ≡ true
       → turn source parts (expr_declares source left ++ names) left (expr_span left).after kind ≡ Some expr
-      → expr_height left + 1 ≤ expr_height expr → expr_height expr ≤ limit → Grows least names expr
+      → expr_height left + 1 ≤ expr_height expr → expr_height expr ≤ greatest_height → Grows least names expr
   unfolding Grows
   from-left least names left expr kind grows begins k g t higher low =
       let more = one-turn grows.0 least names left expr kind grows.1 k g t higher low in
       (more.0, more.1, ap (expr_of source parts least names) (sym begins) ∙ grows.2 ∙ more.2)
 
   -- every well-formed expression is come to
-  grows : (least : ℕ) (names : List Declared) (expr : Expr) → IsExpr source names expr → least ≤ level source expr → expr_height expr ≤ depth + 1 → expr_height expr ≤ limit
+  grows : (least : ℕ) (names : List Declared) (expr : Expr) → IsExpr source names expr → least ≤ level source expr → expr_height expr ≤ depth + 1 → expr_height expr ≤ greatest_height
       → Follows source (last source expr) (expr_declares source expr ++ names) (expr_span expr).after → Grows least names expr
   unfolding IsExpr expr_height exprs_height expr_declares exprs_declares front_of turn
   grows least names (tree.name span) h at_least d l f =
@@ -495,7 +496,7 @@ module _ (source : Source) (parts : Parts) (depth : ℕ) (reads : ReadsExprs sou
   stopped (suc turns) least names expr h = if-false _ _ _ h
 
   -- A well-formed expression is the one that is read.
-  pub expr-read : (least : ℕ) (names : List Declared) (expr : Expr) → IsExpr source names expr → least ≤ level source expr → expr_height expr ≤ depth + 1 → expr_height expr ≤ limit
+  pub expr-read : (least : ℕ) (names : List Declared) (expr : Expr) → IsExpr source names expr → least ≤ level source expr → expr_height expr ≤ depth + 1 → expr_height expr ≤ greatest_height
       → Follows source least (expr_declares source expr ++ names) (expr_span expr).after → expr_of source parts least names (expr_span expr).first ≡ Some expr
   unfolding Grows
   expr-read least names expr h at_least d l f =

@@ -25,4 +25,5 @@ pub mod ReadLists
 pub mod ReadExprs
 pub mod ReadDeclarators
 pub mod ReadSpecifiers
+pub mod TestLemmas
 pub mod Wholes

@@ -1,5 +1,6 @@
 -- Expressions that are put together of parts.
 use Rattle.std.proofs.Common.{◌≡◌, ◌≤◌, ◌<◌, ℕ, ◌+◌, true, false, List, ◌++◌, length, map, max, Option, Some, None, nat_le, refl, sym, ap, ◌∙◌, arith, lit≤, append_assoc, if◌then◌else◌}
+use Rattle.dm_token.specs.Limits.{greatest_height}
 use Rattle.dm_syn.specs.declared.declared.Declared.{Declared}
 use Rattle.dm_syn.specs.declared.symbol.Symbol.TheVariants as symbol
 use Rattle.dm_syn.specs.declared.expression.Expr.{Expr}
@@ -14,7 +15,8 @@ use Rattle.dm_syn.specs.Heights.{expr_height, exprs_height, type_name_height, ab
 use Rattle.dm_syn.specs.Scopes.{expr_declares, exprs_declares, type_name_declares}
 use Rattle.dm_syn.specs.Views as view
 use Rattle.dm_pexpr.specs.declared.part.Part.{Part}
-use Rattle.dm_pexpr.specs.Parsing.{limit, checked_expr, span_of, paren_from, cast_with, sizeof_name_from, sizeof_expr_from, prefix_from, index_from, call_from, binary_from, assign_from, conditional_with}
+use Rattle.dm_pexpr.specs.Parsing.{checked_expr, span_of, paren_from, cast_with, sizeof_name_from, sizeof_expr_from, prefix_from, index_from, call_from, binary_from, assign_from, conditional_with}
+use Rattle.dm_pexpr.specs.Counted.{most_counted}
 use Rattle.dm_pexpr.specs.Parts.{IsPart, Gives, Passes, an_expr, a_type_name, exprs_from, member_from, comma_node}
 use Rattle.dm_pexpr.proofs.Expressions.{holds}
 use Rattle.dm_pexpr.proofs.PartLemmas.{made-gives, part-of}
@@ -22,7 +24,7 @@ use Rattle.dm_pexpr.proofs.ViewLemmas.{view-paren, view-cast, view-sizeof_name, 
 
 -- what a node of the code is
 abbrev pub made_node : ℕ → ℕ → ℕ → ExprForm → Option (Part Expr)
-made_node first after height it = if nat_le height limit then Some (record { tree = record { span = record { first = first; after = after }; form = it }; height = height; after = after }) else None
+made_node first after height it = if nat_le height greatest_height then Some (record { tree = record { span = record { first = first; after = after }; form = it }; height = height; after = after }) else None
 
 -- the node of an expression
 pub node-gives : (source : Source) (before now : List Declared) (made : Option (Part Expr)) (first after height : ℕ) (it : ExprForm) (whole : tree.Expr) (wanted : Option tree.Expr)
@@ -38,7 +40,7 @@ pub paren-made : (source : Source) (before now : List Declared) (found : Option 
     → Gives (an_expr source) source before now found wanted
     → (first after height : ℕ) (boxed : Expr) (made : Option (Part Expr))
     → Passes (is (symbol_in source now part.after) symbol.RightParen) part.after (length source.tokens) (Some after)
-    → boxed ≡ part.tree → (part.height < 1000 → height ≡ part.height + 1) → made ≡ made_node first after height (form.Paren boxed)
+    → boxed ≡ part.tree → (part.height < most_counted → height ≡ part.height + 1) → made ≡ made_node first after height (form.Paren boxed)
     → Gives (an_expr source) source before now made (paren_from source before first wanted)
 unfolding expr_height expr_declares
 paren-made source before now found part wanted there given first after height boxed made passes same high node =
@@ -56,7 +58,7 @@ pub sizeof-name-made : (source : Source) (before now : List Declared) (found : O
     → Gives (a_type_name source) source before now found wanted
     → (first after height : ℕ) (boxed : TypeName) (made : Option (Part Expr))
     → Passes (is (symbol_in source now part.after) symbol.RightParen) part.after (length source.tokens) (Some after)
-    → boxed ≡ part.tree → (part.height < 1000 → height ≡ part.height + 1) → made ≡ made_node first after height (form.SizeofName boxed)
+    → boxed ≡ part.tree → (part.height < most_counted → height ≡ part.height + 1) → made ≡ made_node first after height (form.SizeofName boxed)
     → Gives (an_expr source) source before now made (sizeof_name_from source before first wanted)
 unfolding expr_height expr_declares
 sizeof-name-made source before now found part wanted there given first after height boxed made passes same high node =
@@ -73,7 +75,7 @@ sizeof-name-made source before now found part wanted there given first after hei
 pub sizeof-expr-made : (source : Source) (before now : List Declared) (found : Option (Part Expr)) (part : Part Expr) (wanted : Option tree.Expr) → found ≡ Some part
     → Gives (an_expr source) source before now found wanted
     → (first height : ℕ) (boxed : Expr) (made : Option (Part Expr))
-    → boxed ≡ part.tree → (part.height < 1000 → height ≡ part.height + 1) → made ≡ made_node first part.after height (form.SizeofExpr boxed)
+    → boxed ≡ part.tree → (part.height < most_counted → height ≡ part.height + 1) → made ≡ made_node first part.after height (form.SizeofExpr boxed)
     → Gives (an_expr source) source before now made (sizeof_expr_from first wanted)
 unfolding expr_height expr_declares
 sizeof-expr-made source before now found part wanted there given first height boxed made same high node =
@@ -88,7 +90,7 @@ sizeof-expr-made source before now found part wanted there given first height bo
 pub prefix-made : (source : Source) (before now : List Declared) (found : Option (Part Expr)) (part : Part Expr) (wanted : Option tree.Expr) → found ≡ Some part
     → Gives (an_expr source) source before now found wanted
     → (first height : ℕ) (boxed : Expr) (made : Option (Part Expr))
-    → boxed ≡ part.tree → (part.height < 1000 → height ≡ part.height + 1) → made ≡ made_node first part.after height (form.Prefix first boxed)
+    → boxed ≡ part.tree → (part.height < most_counted → height ≡ part.height + 1) → made ≡ made_node first part.after height (form.Prefix first boxed)
     → Gives (an_expr source) source before now made (prefix_from first wanted)
 unfolding expr_height expr_declares
 prefix-made source before now found part wanted there given first height boxed made same high node =
@@ -104,7 +106,7 @@ pub index-made : (source : Source) (before names now : List Declared) (left : Pa
     → IsPart (an_expr source) source before names left read → Gives (an_expr source) source names now found wanted
     → (after height : ℕ) (one other : Expr) (made : Option (Part Expr))
     → Passes (is (symbol_in source now part.after) symbol.RightBracket) part.after (length source.tokens) (Some after)
-    → one ≡ left.tree → other ≡ part.tree → (left.height < 1000 → part.height < 1000 → height ≡ above left.height part.height) → made ≡ made_node left.tree.span.first after height (form.Index one other)
+    → one ≡ left.tree → other ≡ part.tree → (left.height < most_counted → part.height < most_counted → height ≡ above left.height part.height) → made ≡ made_node left.tree.span.first after height (form.Index one other)
     → Gives (an_expr source) source before now made (index_from source names (view.expr left.tree) wanted)
 unfolding expr_height expr_declares
 index-made source before names now left read found part wanted there left_is given after height one other made passes same alike high node =
@@ -124,7 +126,7 @@ index-made source before names now left read found part wanted there left_is giv
 pub binary-made : (source : Source) (before names now : List Declared) (left : Part Expr) (read : Option tree.Expr) (found : Option (Part Expr)) (part : Part Expr) (wanted : Option tree.Expr) → found ≡ Some part
     → IsPart (an_expr source) source before names left read → Gives (an_expr source) source names now found wanted
     → (operator height : ℕ) (one other : Expr) (made : Option (Part Expr))
-    → one ≡ left.tree → other ≡ part.tree → (left.height < 1000 → part.height < 1000 → height ≡ above left.height part.height) → made ≡ made_node left.tree.span.first part.after height (form.Binary one operator other)
+    → one ≡ left.tree → other ≡ part.tree → (left.height < most_counted → part.height < most_counted → height ≡ above left.height part.height) → made ≡ made_node left.tree.span.first part.after height (form.Binary one operator other)
     → Gives (an_expr source) source before now made (binary_from (view.expr left.tree) operator wanted)
 unfolding expr_height expr_declares
 binary-made source before names now left read found part wanted there left_is given operator height one other made same alike high node =
@@ -142,7 +144,7 @@ binary-made source before names now left read found part wanted there left_is gi
 pub assign-made : (source : Source) (before names now : List Declared) (left : Part Expr) (read : Option tree.Expr) (found : Option (Part Expr)) (part : Part Expr) (wanted : Option tree.Expr) → found ≡ Some part
     → IsPart (an_expr source) source before names left read → Gives (an_expr source) source names now found wanted
     → (operator height : ℕ) (one other : Expr) (made : Option (Part Expr))
-    → one ≡ left.tree → other ≡ part.tree → (left.height < 1000 → part.height < 1000 → height ≡ above left.height part.height) → made ≡ made_node left.tree.span.first part.after height (form.Assign one operator other)
+    → one ≡ left.tree → other ≡ part.tree → (left.height < most_counted → part.height < most_counted → height ≡ above left.height part.height) → made ≡ made_node left.tree.span.first part.after height (form.Assign one operator other)
     → Gives (an_expr source) source before now made (assign_from (view.expr left.tree) operator wanted)
 unfolding expr_height expr_declares
 assign-made source before names now left read found part wanted there left_is given operator height one other made same alike high node =
@@ -160,7 +162,7 @@ assign-made source before names now left read found part wanted there left_is gi
 pub cast-made : (source : Source) (before names now : List Declared) (left : Part TypeName) (read : Option tree.TypeName) (found : Option (Part Expr)) (part : Part Expr) (wanted : Option tree.Expr) → found ≡ Some part
     → IsPart (a_type_name source) source before names left read → Gives (an_expr source) source names now found wanted
     → (first height : ℕ) (one : TypeName) (other : Expr) (made : Option (Part Expr))
-    → one ≡ left.tree → other ≡ part.tree → (left.height < 1000 → part.height < 1000 → height ≡ above left.height part.height) → made ≡ made_node first part.after height (form.Cast one other)
+    → one ≡ left.tree → other ≡ part.tree → (left.height < most_counted → part.height < most_counted → height ≡ above left.height part.height) → made ≡ made_node first part.after height (form.Cast one other)
     → Gives (an_expr source) source before now made (cast_with first (view.type_name left.tree) wanted)
 unfolding expr_height expr_declares
 cast-made source before names now left read found part wanted there left_is given first height one other made same alike high node =
@@ -178,7 +180,7 @@ pub call-made : (source : Source) (before names now : List Declared) (left : Par
     → IsPart (an_expr source) source before names left read → Gives (exprs_from source at) source names now found wanted
     → (after height : ℕ) (one : Expr) (made : Option (Part Expr))
     → Passes (is (symbol_in source now part.after) symbol.RightParen) part.after (length source.tokens) (Some after)
-    → one ≡ left.tree → (left.height < 1000 → part.height < 1000 → height ≡ above left.height part.height) → made ≡ made_node left.tree.span.first after height (form.Call one part.tree)
+    → one ≡ left.tree → (left.height < most_counted → part.height < most_counted → height ≡ above left.height part.height) → made ≡ made_node left.tree.span.first after height (form.Call one part.tree)
     → Gives (an_expr source) source before now made (call_from source names (view.expr left.tree) at wanted)
 unfolding expr_height expr_declares
 call-made source before names now left read at found part wanted there left_is given after height one made passes same high node =
@@ -198,7 +200,7 @@ call-made source before names now left read at found part wanted there left_is g
 pub choose-made : (source : Source) (before names between now : List Declared) (one two : Part Expr) (read seen : Option tree.Expr) (found : Option (Part Expr)) (part : Part Expr) (wanted : Option tree.Expr) → found ≡ Some part
     → IsPart (an_expr source) source before names one read → IsPart (an_expr source) source names between two seen → Gives (an_expr source) source between now found wanted
     → (height : ℕ) (a b c : Expr) (made : Option (Part Expr))
-    → a ≡ one.tree → b ≡ two.tree → c ≡ part.tree → (one.height < 1000 → max two.height part.height < 1000 → height ≡ above one.height (max two.height part.height)) → made ≡ made_node one.tree.span.first part.after height (form.Conditional a b c)
+    → a ≡ one.tree → b ≡ two.tree → c ≡ part.tree → (one.height < most_counted → max two.height part.height < most_counted → height ≡ above one.height (max two.height part.height)) → made ≡ made_node one.tree.span.first part.after height (form.Conditional a b c)
     → Gives (an_expr source) source before now made (conditional_with (view.expr one.tree) (view.expr two.tree) wanted)
 unfolding expr_height expr_declares
 choose-made source before names between now one two read seen found part wanted there one_is two_is given height a b c made one_same two_same alike high node =
@@ -219,7 +221,7 @@ choose-made source before names between now one two read seen found part wanted 
 pub postfix-made : (source : Source) (before now : List Declared) (left : Part Expr) (read : Option tree.Expr)
     → IsPart (an_expr source) source before now left read
     → (after height : ℕ) (one : Expr) (made : Option (Part Expr))
-    → after ≤ length source.tokens → after ≡ left.after + 1 → one ≡ left.tree → (left.height < 1000 → height ≡ left.height + 1) → made ≡ made_node left.tree.span.first after height (form.Postfix one left.after)
+    → after ≤ length source.tokens → after ≡ left.after + 1 → one ≡ left.tree → (left.height < most_counted → height ≡ left.height + 1) → made ≡ made_node left.tree.span.first after height (form.Postfix one left.after)
     → Gives (an_expr source) source before now made (checked_expr (tree.postfix (span_of (expr_span (view.expr left.tree)).first (left.after + 1)) (view.expr left.tree) left.after))
 unfolding expr_height expr_declares
 postfix-made source before now left read k after height one made within next same high node =
@@ -233,7 +235,7 @@ postfix-made source before now left read k after height one made within next sam
 pub member-made : (source : Source) (before now : List Declared) (left : Part Expr) (read : Option tree.Expr)
     → IsPart (an_expr source) source before now left read
     → (name after height : ℕ) (one : Expr) (made : Option (Part Expr))
-    → Passes (is_identifier (symbol_in source now name)) name (length source.tokens) (Some after) → one ≡ left.tree → (left.height < 1000 → height ≡ left.height + 1) → made ≡ made_node left.tree.span.first after height (form.Member one name)
+    → Passes (is_identifier (symbol_in source now name)) name (length source.tokens) (Some after) → one ≡ left.tree → (left.height < most_counted → height ≡ left.height + 1) → made ≡ made_node left.tree.span.first after height (form.Member one name)
     → Gives (an_expr source) source before now made (member_from source now (view.expr left.tree) name false)
 unfolding expr_height expr_declares
 member-made source before now left read k name after height one made passes same high node =
@@ -247,7 +249,7 @@ member-made source before now left read k name after height one made passes same
 pub arrow-made : (source : Source) (before now : List Declared) (left : Part Expr) (read : Option tree.Expr)
     → IsPart (an_expr source) source before now left read
     → (name after height : ℕ) (one : Expr) (made : Option (Part Expr))
-    → Passes (is_identifier (symbol_in source now name)) name (length source.tokens) (Some after) → one ≡ left.tree → (left.height < 1000 → height ≡ left.height + 1) → made ≡ made_node left.tree.span.first after height (form.Arrow one name)
+    → Passes (is_identifier (symbol_in source now name)) name (length source.tokens) (Some after) → one ≡ left.tree → (left.height < most_counted → height ≡ left.height + 1) → made ≡ made_node left.tree.span.first after height (form.Arrow one name)
     → Gives (an_expr source) source before now made (member_from source now (view.expr left.tree) name true)
 unfolding expr_height expr_declares
 arrow-made source before now left read k name after height one made passes same high node =
@@ -261,7 +263,7 @@ arrow-made source before now left read k name after height one made passes same 
 pub comma-made : (source : Source) (before now : List Declared) (start : ℕ) (found : Option (Part (List Expr))) (part : Part (List Expr)) (wanted : Option tree.Exprs) → found ≡ Some part
     → Gives (exprs_from source start) source before now found wanted
     → (first height : ℕ) (made : Option (Part Expr))
-    → (part.height < 1000 → height ≡ part.height + 1) → made ≡ made_node first part.after height (form.Comma part.tree)
+    → (part.height < most_counted → height ≡ part.height + 1) → made ≡ made_node first part.after height (form.Comma part.tree)
     → Gives (an_expr source) source before now made (comma_node first start wanted)
 unfolding expr_height expr_declares
 comma-made source before now start found part wanted there given first height made high node =

@@ -15,15 +15,11 @@ pub pointers-on : (at : ℕ) (stars : List ℕ) → at ≤ pointers_after at sta
 pointers-on at [] = omega arith
 pointers-on at (consts ∷ others) = omega (arith, pointers-on (at + 1 + consts) others)
 
--- with pointers they go on by one at least
-pub pointers-far : (at : ℕ) (consts : ℕ) (others : List ℕ) → at + 1 ≤ pointers_after at (consts ∷ others)
-pointers-far at consts others = omega (arith, pointers-on (at + 1 + consts) others)
-
 tag-on : (at : ℕ) (tag : Option ℕ) → at ≤ tag_after at tag
 tag-on at None = omega arith
 tag-on at (Some tag) = omega arith
 
-trailing-on : (at : ℕ) (trailing : Bool) → at ≤ trailing_after at trailing
+pub trailing-on : (at : ℕ) (trailing : Bool) → at ≤ trailing_after at trailing
 trailing-on at true = omega arith
 trailing-on at false = omega arith
 
@@ -146,9 +142,6 @@ mutual
       omega (arith, h.0, h.2, h.4, specifiers-on source _ specifiers h.1, declarator-on source _ true declarator h.3)
 
 -- a symbol other than the end stands at a token
-none-is-end : (names : Bool) (it : Symbol) → seen_as (symbol_of_token None) names ≡ it → it ≡ symbol.End
-none-is-end names it h = sym h
-
 pub present : (source : Source) (names : List Declared) (at : ℕ) (it : Symbol) → symbol_in source names at ≡ it → (it ≡ symbol.End → ⊥) → at < length source.tokens
 unfolding symbol_in symbol_at
 present source names at it h differs =

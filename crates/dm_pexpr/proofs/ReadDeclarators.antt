@@ -1,5 +1,6 @@
 -- What reading a declarator comes to, step by step.
 use Rattle.std.proofs.Common.{◌≡◌, ◌<◌, ℕ, zero, suc, ◌+◌, ◌-◌, Bool, true, false, ◌&&◌, ◌||◌, not, List, [], ◌∷◌, ◌++◌, length, drop, map, length-append, Option, Some, None, refl, sym, ap, ◌∙◌, subst, arith, if◌then◌else◌}
+use Rattle.dm_token.specs.Limits.{greatest_height}
 use Rattle.dm_syn.specs.declared.declared.Declared.{Declared}
 use Rattle.dm_syn.specs.declared.symbol.Symbol.TheVariants as symbol
 use Rattle.dm_syn.specs.declared.declaration.Specifiers.{Specifiers}
@@ -12,19 +13,20 @@ use Rattle.dm_syn.specs.Views as view
 use Rattle.dm_syn.specs.Spans.{specifiers_span, parameter_span, parameters_after, pointers_after, direct_after}
 use Rattle.dm_syn.specs.Scopes.{specifiers_declares, parameter_declares, direct_declares}
 use Rattle.dm_pexpr.specs.declared.part.Part.{Part}
-use Rattle.dm_pexpr.specs.Parsing.{Parts, Shape, of_parameter, limit, lower, pointers, all_turns, core, takes_name, encloses, nothing, enclosed_from, array_of, sized_from, checked_direct, function_of, function_from, suffixed, and_then, declarator_of, declarator_with, parameter_of, parameter_from, parameter_with, parameters_of, more_parameters, more_parameters_from, prepend_parameter}
+use Rattle.dm_pexpr.specs.Parsing.{Parts, Shape, of_parameter, lower, pointers, all_turns, core, takes_name, encloses, nothing, enclosed_from, array_of, sized_from, checked_direct, function_of, function_from, suffixed, and_then, declarator_of, declarator_with, parameter_of, parameter_from, parameter_with, parameters_of, more_parameters, more_parameters_from, prepend_parameter}
 use Rattle.dm_pexpr.specs.Parts.{IsPart, the_specifiers, a_direct, a_parameter, parameters_from, direct_from}
 use Rattle.dm_pexpr.proofs.Expressions.{if-true, if-false}
-use Rattle.dm_pexpr.proofs.ReadExprs.{one-deeper, less, read-again, fails}
+use Rattle.dm_pexpr.proofs.ReadExprs.{one-deeper, less, read-again}
+use Rattle.dm_pexpr.proofs.TestLemmas.{fails}
 
 -- a declarator is its pointers with what stands behind them
 pub declarator-deeper : (source : Source) (depth : ℕ) (shape : Shape) (names : List Declared) (at start : ℕ) (stars : List ℕ) → (depth ≡ 0 → ⊥)
     → stars ≡ pointers source names (all_turns source) at → start ≡ pointers_after at stars
-    → declarator_with at stars (and_then (suffixed source (lower source (depth - 1)) names start limit) (core source (lower source (depth - 1)) shape names start)) ≡ (lower source depth).declarator shape names at
+    → declarator_with at stars (and_then (suffixed source (lower source (depth - 1)) names start greatest_height) (core source (lower source (depth - 1)) shape names start)) ≡ (lower source depth).declarator shape names at
 unfolding declarator_of
 declarator-deeper source depth shape names at start stars some are starts =
-    ap (λ n. declarator_with at stars (and_then (suffixed source (lower source (depth - 1)) names n limit) (core source (lower source (depth - 1)) shape names n))) starts
-    ∙ ap (λ all. declarator_with at all (and_then (suffixed source (lower source (depth - 1)) names (pointers_after at all) limit) (core source (lower source (depth - 1)) shape names (pointers_after at all)))) are
+    ap (λ n. declarator_with at stars (and_then (suffixed source (lower source (depth - 1)) names n greatest_height) (core source (lower source (depth - 1)) shape names n))) starts
+    ∙ ap (λ all. declarator_with at all (and_then (suffixed source (lower source (depth - 1)) names (pointers_after at all) greatest_height) (core source (lower source (depth - 1)) shape names (pointers_after at all)))) are
     ∙ sym (ap (λ (parts : Parts). parts.declarator shape names at) (one-deeper source depth some))
 
 -- the innermost part
@@ -61,12 +63,12 @@ array-sized source parts names at direct closed = sym (if-false _ _ _ closed)
 abbrev pub SuffixedFrom : Source → Parts → ℕ → List Declared → List Declared → Part Direct → Option tree.Direct → ℕ → Type 0
 SuffixedFrom source parts start before now direct wanted turns =
     IsPart (a_direct source start) source before now direct (Some (view.direct direct.tree))
-    × (and_then (suffixed source parts before start limit) wanted ≡ suffixed source parts before start turns (view.direct direct.tree))
+    × (and_then (suffixed source parts before start greatest_height) wanted ≡ suffixed source parts before start turns (view.direct direct.tree))
 
 pub suffixed-first : (source : Source) (parts : Parts) (start : ℕ) (before now : List Declared) (direct : Part Direct) (wanted : Option tree.Direct)
-    → IsPart (a_direct source start) source before now direct wanted → SuffixedFrom source parts start before now direct wanted limit
+    → IsPart (a_direct source start) source before now direct wanted → SuffixedFrom source parts start before now direct wanted greatest_height
 suffixed-first source parts start before now direct wanted k =
-    (read-again (a_direct source start) source before now direct wanted k, ap (and_then (suffixed source parts before start limit)) k.read)
+    (read-again (a_direct source start) source before now direct wanted k, ap (and_then (suffixed source parts before start greatest_height)) k.read)
 
 -- what stands behind it, as the code sees it
 seen-behind : (source : Source) (start : ℕ) (before now : List Declared) (direct : Part Direct) (wanted : Option tree.Direct) → IsPart (a_direct source start) source before now direct wanted
@@ -77,7 +79,7 @@ seen-behind source start before now direct wanted k =
 pub suffixed-on : (source : Source) (parts : Parts) (start : ℕ) (before now : List Declared) (direct : Part Direct) (wanted : Option tree.Direct) (turns next : ℕ) (is_array : Bool)
     → SuffixedFrom source parts start before now direct wanted turns → is (symbol_in source now direct.after) symbol.LeftBracket ≡ is_array → is (symbol_in source now direct.after) symbol.LeftParen ≡ not is_array
     → next ≡ direct.after + 1 → (turns ≡ 0 → ⊥)
-    → and_then (suffixed source parts before start limit) wanted ≡ and_then (suffixed source parts before start (turns - 1)) (direct_from source parts is_array now next (view.direct direct.tree))
+    → and_then (suffixed source parts before start greatest_height) wanted ≡ and_then (suffixed source parts before start (turns - 1)) (direct_from source parts is_array now next (view.direct direct.tree))
 unfolding suffixed
 suffixed-on source parts start before now direct wanted turns next true so bracket paren after some =
     let v : tree.Direct = view.direct direct.tree in
@@ -97,7 +99,7 @@ suffixed-on source parts start before now direct wanted turns next false so brac
 
 -- one more turn
 pub suffixed-more : (source : Source) (parts : Parts) (start : ℕ) (before now : List Declared) (whole : Part Direct) (wanted made : Option tree.Direct) (turns : ℕ)
-    → and_then (suffixed source parts before start limit) wanted ≡ and_then (suffixed source parts before start turns) made
+    → and_then (suffixed source parts before start greatest_height) wanted ≡ and_then (suffixed source parts before start turns) made
     → IsPart (a_direct source start) source before now whole made → SuffixedFrom source parts start before now whole wanted turns
 suffixed-more source parts start before now whole wanted made turns goes k =
     (read-again (a_direct source start) source before now whole made k, goes ∙ ap (and_then (suffixed source parts before start turns)) k.read)
@@ -113,7 +115,7 @@ suffixed-done source parts start before (suc turns) direct bracket paren = if-fa
 
 pub suffixed-to : (source : Source) (parts : Parts) (start : ℕ) (before now : List Declared) (direct : Part Direct) (wanted : Option tree.Direct) (turns : ℕ)
     → SuffixedFrom source parts start before now direct wanted turns → is (symbol_in source now direct.after) symbol.LeftBracket ≡ false → is (symbol_in source now direct.after) symbol.LeftParen ≡ false
-    → IsPart (a_direct source start) source before now direct (and_then (suffixed source parts before start limit) wanted)
+    → IsPart (a_direct source start) source before now direct (and_then (suffixed source parts before start greatest_height) wanted)
 suffixed-to source parts start before now direct wanted turns so bracket paren =
     let seen = seen-behind source start before now direct _ so.0 in
     subst (λ (w : Option tree.Direct). IsPart (a_direct source start) source before now direct w)
@@ -122,7 +124,7 @@ suffixed-to source parts start before now direct wanted turns so bracket paren =
 -- too many
 pub suffixed-away : (source : Source) (parts : Parts) (start : ℕ) (before now : List Declared) (direct : Part Direct) (wanted : Option tree.Direct) (turns : ℕ) (is_array : Bool)
     → SuffixedFrom source parts start before now direct wanted turns → is (symbol_in source now direct.after) symbol.LeftBracket ≡ is_array → is (symbol_in source now direct.after) symbol.LeftParen ≡ not is_array → turns ≡ 0
-    → and_then (suffixed source parts before start limit) wanted ≡ None
+    → and_then (suffixed source parts before start greatest_height) wanted ≡ None
 unfolding suffixed
 suffixed-away source parts start before now direct wanted turns is_array so bracket paren none =
     so.1 ∙ ap (λ n. suffixed source parts before start n (view.direct direct.tree)) none

@@ -1,5 +1,6 @@
 -- What reading an expression comes to, step by step.
 use Rattle.std.proofs.Common.{◌≡◌, ◌≤◌, ◌<◌, ℕ, zero, suc, ◌+◌, ◌-◌, Bool, true, false, ◌&&◌, ◌⊎◌, ⊎_elim, List, ◌++◌, length, map, [], Option, Some, None, Result, IfOk, lit≤, refl, sym, ap, ◌∙◌, subst, arith, if◌then◌else◌}
+use Rattle.dm_token.specs.Limits.{greatest_height}
 use Rattle.dm_syn.specs.declared.declared.Declared.{Declared}
 use Rattle.dm_syn.specs.declared.symbol.Symbol.{Symbol}
 use Rattle.dm_syn.specs.declared.symbol.Symbol.TheVariants as symbol
@@ -16,11 +17,12 @@ use Rattle.dm_syn.specs.Heights.{expr_height}
 use Rattle.dm_syn.specs.Scopes.{expr_declares, type_name_declares}
 use Rattle.dm_syn.specs.Grammar.{level, prefix_level}
 use Rattle.dm_pexpr.specs.declared.part.Part.{Part}
-use Rattle.dm_pexpr.specs.Parsing.{Parts, no_parts, limit, lower, span_of, where_true, checked_expr, more_exprs, more_from, prepend_expr, all_turns, arguments, type_name_of, paren_from, cast_from, cast_with, sizeof_name_from, sizeof_expr_from, front_kind, front_of, enclosing, measuring, Front, prefixing, no_front, Suffix, operating, assigning, no_suffix, turn, assign_from, suffix_kind, suffix_behind, goes_on, conditional_from, conditional_with, comma_from, separating, and_then, grown, grown_from, expr_of, specifiers_of, declarator_of}
+use Rattle.dm_pexpr.specs.Parsing.{Parts, no_parts, lower, span_of, where_true, checked_expr, more_exprs, more_from, prepend_expr, all_turns, arguments, type_name_of, paren_from, cast_from, cast_with, sizeof_name_from, sizeof_expr_from, front_kind, front_of, enclosing, measuring, Front, prefixing, no_front, Suffix, operating, assigning, no_suffix, turn, assign_from, suffix_kind, suffix_behind, goes_on, conditional_from, conditional_with, comma_from, separating, and_then, grown, grown_from, expr_of, specifiers_of, declarator_of}
 use Rattle.dm_pexpr.specs.Parts.{Kind, IsPart, Gives, an_expr, a_type_name, exprs_from, behind_all, comma_node, operated_from, prefixed_from, member_from}
 use Rattle.dm_pexpr.proofs.Expressions.{holds, if-true, if-false}
 use Rattle.dm_pexpr.proofs.SymbolLemmas.{le-true, le-false}
 use Rattle.dm_pexpr.proofs.ViewLemmas.{view-name, view-constant, view-literal}
+use Rattle.dm_pexpr.proofs.TestLemmas.{fails}
 
 -- what is given, where what was to be read is written in another way
 pub gives-same : {A T : Type 0} (kind : Kind A T) (source : Source) (before after : List Declared) (found : Option (Part A)) (wanted other : Option T)
@@ -35,10 +37,6 @@ ok-same kind source before after result wanted other same given = subst (λ w. I
 pub nothing-of : {A T : Type 0} (kind : Kind A T) (source : Source) (before after : List Declared) (found : Option (Part A)) (wanted : Option T)
     → found ≡ None → Gives kind source before after found wanted → wanted ≡ None
 nothing-of kind source before after found wanted is given = subst (λ o. Gives kind source before after o wanted) is given
-
--- nothing stands where something doesn't hold
-pub fails : {A : Type 0} (test : Bool) (found : Option A) → test ≡ false → where_true test found ≡ None
-fails test found h = ap (λ (it : Bool). where_true it found) h
 
 -- what a look at a token says
 pub seen-is : (it seen wanted : Symbol) (result found : Bool) → it ≡ seen → result ≡ is it wanted → result ≡ found → is seen wanted ≡ found
@@ -192,7 +190,7 @@ pub read-again : {A T : Type 0} (kind : Kind A T) (source : Source) (before now 
 read-again kind source before now part wanted k = subst (λ w. IsPart kind source before now part w) k.read k
 
 pub grows-first : (source : Source) (parts : Parts) (least : ℕ) (before now : List Declared) (left : Part Expr) (wanted : Option tree.Expr)
-    → IsPart (an_expr source) source before now left wanted → least ≤ level source (view.expr left.tree) → GrowsFrom source parts least before now left wanted limit
+    → IsPart (an_expr source) source before now left wanted → least ≤ level source (view.expr left.tree) → GrowsFrom source parts least before now left wanted greatest_height
 grows-first source parts least before now left wanted left_is low = (
   read-again (an_expr source) source before now left wanted left_is,
   ap (grown_from source parts least before) left_is.read ∙ if-true _ _ _ (le-true least (level source (view.expr left.tree)) low),

@@ -1,5 +1,6 @@
 -- Declarators and specifiers that are read are well formed, where what reads their parts gives well-formed parts.
 use Rattle.std.proofs.Common.{◌≡◌, ℕ, zero, suc, ◌+◌, Bool, true, false, not, ◌&&◌, ◌||◌, ⊎_elim, List, [], ◌∷◌, ◌++◌, Option, Some, None, refl, sym, ap, ◌∙◌, subst, arith, length, if◌then◌else◌}
+use Rattle.dm_token.specs.Limits.{greatest_height}
 use Rattle.dm_syn.specs.declared.declared.Declared.{Declared}
 use Rattle.dm_syn.specs.declared.symbol.Symbol.{Symbol}
 use Rattle.dm_syn.specs.declared.symbol.Symbol.TheVariants as symbol
@@ -11,7 +12,7 @@ use Rattle.dm_syn.specs.Spans.{specifiers_span, declarator_span, parameter_span,
 use Rattle.dm_syn.specs.Scopes.{declarator_name, direct_name, specifiers_declares, direct_declares, parameter_declares}
 use Rattle.dm_syn.specs.Heights.{is_absent}
 use Rattle.dm_syn.specs.Grammar.{IsNotEmpty, MayBeEnclosed, AreConsts, ArePointers, IsSpecifiers, IsDeclarator, IsDirect, AreParameters, AreMoreParameters, IsParameter}
-use Rattle.dm_pexpr.specs.Parsing.{Parts, Shape, named, abstract, of_parameter, limit, all_turns, and_then, consts, pointers, parameter_of, parameter_from, parameter_with, prepend_parameter, more_parameters_from, more_parameters, parameters_of, enclosed_from, encloses, takes_name, nothing, core, sized_from, function_from, array_of, function_of, suffixed, declarator_with, declarator_of}
+use Rattle.dm_pexpr.specs.Parsing.{Parts, Shape, named, abstract, of_parameter, all_turns, and_then, consts, pointers, parameter_of, parameter_from, parameter_with, prepend_parameter, more_parameters_from, more_parameters, parameters_of, enclosed_from, encloses, takes_name, nothing, core, sized_from, function_from, array_of, function_of, suffixed, declarator_with, declarator_of}
 use Rattle.dm_pexpr.proofs.Declarators.{of_a_parameter, HasShape}
 use Rattle.dm_pexpr.proofs.SymbolTests.{is-it}
 use Rattle.dm_pexpr.proofs.Soundness.{GivesFormed, inside, where-some, checked-some, branch, both-hold}
@@ -236,7 +237,7 @@ module _ (source : Source) (parts : Parts) (formed : GivesFormed source parts) w
   declarator-formed shape names at it h =
       declarator-with-formed shape names at (pointers source names (all_turns source) at) _ it (pointers-formed source names (all_turns source) at)
       (λ direct e.
-      let next = direct-taken (suffixed source parts names (pointers_after at (pointers source names (all_turns source) at)) limit) _ direct e in
-      suffixed-formed limit shape names (pointers_after at (pointers source names (all_turns source) at)) next.0 direct
+      let next = direct-taken (suffixed source parts names (pointers_after at (pointers source names (all_turns source) at)) greatest_height) _ direct e in
+      suffixed-formed greatest_height shape names (pointers_after at (pointers source names (all_turns source) at)) next.0 direct
       (core-formed shape names (pointers_after at (pointers source names (all_turns source) at)) next.0 next.1) next.2)
       h

@@ -24,7 +24,7 @@ tag-is : (source : Source) (names : List Declared) (at : ℕ) → IsTag source n
 tag-is source names at = tag-is-if source names at (is_identifier (symbol_in source names at)) refl
 
 -- the comma before a closing brace
-trailing-is : (source : Source) (names : List Declared) (at : ℕ) (test : Bool) → is (symbol_in source names at) symbol.Comma ≡ test → IsTrailing source names at test
+pub trailing-is : (source : Source) (names : List Declared) (at : ℕ) (test : Bool) → is (symbol_in source names at) symbol.Comma ≡ test → IsTrailing source names at test
 trailing-is source names at true t = is-it _ symbol.Comma t
 trailing-is source names at false t = tt
 

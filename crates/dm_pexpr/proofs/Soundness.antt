@@ -1,5 +1,6 @@
 -- What is read is well formed, where what reads its parts gives well-formed parts.
 use Rattle.std.proofs.Common.{◌≡◌, ℕ, zero, suc, ◌+◌, ◌≤◌, Bool, true, false, ◌&&◌, ◌⊎◌, inl, inr, ⊎_elim, List, ◌++◌, Option, Some, None, unwrap_or, refl, sym, ap, ◌∙◌, subst, arith, length, nat_le, if◌then◌else◌}
+use Rattle.dm_token.specs.Limits.{greatest_height}
 use Rattle.dm_syn.specs.declared.declared.Declared.{Declared}
 use Rattle.dm_syn.specs.declared.symbol.Symbol.{Symbol}
 use Rattle.dm_syn.specs.declared.symbol.Symbol.TheVariants as symbol
@@ -10,7 +11,7 @@ use Rattle.dm_syn.specs.Trees as tree
 use Rattle.dm_syn.specs.Spans.{expr_span, exprs_after, type_name_span, specifiers_span, declarator_span}
 use Rattle.dm_syn.specs.Scopes.{declarator_name, expr_declares, type_name_declares, specifiers_declares}
 use Rattle.dm_syn.specs.Grammar.{level, operator_level, prefix_level, is_assignment, IsExpr, AreArguments, AreMoreExprs, IsTypeName, IsSpecifiers, IsDeclarator}
-use Rattle.dm_pexpr.specs.Parsing.{Parts, Shape, abstract, limit, span_of, checked, where_true, more_exprs, more_from, prepend_expr, all_turns, arguments, type_name_of, type_name_from, type_name_with, paren_from, cast_from, cast_with, sizeof_name_from, sizeof_expr_from, prefix_from, Front, a_name, a_constant, a_literal, enclosing, measuring, prefixing, no_front, front_kind, front_of, Suffix, indexing, calling, selecting, following, counting, operating, choosing, assigning, separating, no_suffix, goes_on, index_from, call_from, binary_from, assign_from, conditional_from, conditional_with, comma_from, turn, and_then, suffix_behind, grown, grown_from, expr_of}
+use Rattle.dm_pexpr.specs.Parsing.{Parts, Shape, abstract, span_of, checked, where_true, more_exprs, more_from, prepend_expr, all_turns, arguments, type_name_of, type_name_from, type_name_with, paren_from, cast_from, cast_with, sizeof_name_from, sizeof_expr_from, prefix_from, Front, a_name, a_constant, a_literal, enclosing, measuring, prefixing, no_front, front_kind, front_of, Suffix, indexing, calling, selecting, following, counting, operating, choosing, assigning, separating, no_suffix, goes_on, index_from, call_from, binary_from, assign_from, conditional_from, conditional_with, comma_from, turn, and_then, suffix_behind, grown, grown_from, expr_of}
 use Rattle.dm_pexpr.proofs.Declarators.{of_a_parameter, HasShape}
 use Rattle.dm_pexpr.proofs.SymbolTests.{is-it, FrontIs, front-is, SuffixIs, suffix-is, infix-at, assignment-at}
 
@@ -35,7 +36,7 @@ if-some true one it h = cc
 if-some false one it h = absurd (cc)
 
 pub checked-some : {A : Type 0} (height : ℕ) (one it : A) → checked height one ≡ Some it → one ≡ it
-checked-some height one it h = if-some (nat_le height limit) one it h
+checked-some height one it h = if-some (nat_le height greatest_height) one it h
 
 pub branch : {A : Type 0} (test : Bool) (one other : Option A) (it : A) → (if test then one else other) ≡ Some it → ((test ≡ true) × (one ≡ Some it)) ⊎ ((test ≡ false) × (other ≡ Some it))
 branch true one other it h = inl (refl, h)
@@ -347,7 +348,7 @@ module _ (source : Source) (parts : Parts) (formed : GivesFormed source parts) w
       ⊎_elim
       (λ goes.
       let first = f front refl in
-      let all = grown-formed limit least names front it first.0 (le-from least (level source front) goes.0) goes.1 in
+      let all = grown-formed greatest_height least names front it first.0 (le-from least (level source front) goes.0) goes.1 in
       (all.0, all.1 ∙ first.1, all.2))
       (λ no. absurd (cc no.1))
       (branch (nat_le least (level source front)) _ _ it h)

@@ -116,11 +116,6 @@ identifier-no-const symbol.Identifier h = refl
 identifier-no-const symbol.TypedefName h = refl
 identifier-no-const _ h = cc
 
-pub identifier-no-brace : (it : Symbol) → is_identifier it ≡ true → is it symbol.LeftBrace ≡ false
-identifier-no-brace symbol.Identifier h = refl
-identifier-no-brace symbol.TypedefName h = refl
-identifier-no-brace _ h = cc
-
 pub identifier-no-paren : (it : Symbol) → is_identifier it ≡ true → is it symbol.RightParen ≡ false
 identifier-no-paren symbol.Identifier h = refl
 identifier-no-paren symbol.TypedefName h = refl

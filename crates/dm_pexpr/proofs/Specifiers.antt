@@ -1,5 +1,6 @@
 -- Well-formed specifiers are read from their tokens, where what reads their parts does so.
 use Rattle.std.proofs.Common.{◌≡◌, ℕ, zero, suc, ◌+◌, ◌<◌, ◌≤◌, Bool, true, false, not, ◌&&◌, List, ◌++◌, Option, Some, None, IsSome, refl, sym, ap, ◌∙◌, subst, arith, length, append_assoc}
+use Rattle.dm_token.specs.Limits.{greatest_height}
 use Rattle.dm_syn.specs.declared.declared.Declared.{Declared}
 use Rattle.dm_syn.specs.declared.symbol.Symbol.{Symbol}
 use Rattle.dm_syn.specs.declared.symbol.Symbol.TheVariants as symbol
@@ -11,12 +12,13 @@ use Rattle.dm_syn.specs.Spans.{expr_span, specifiers_span, specifier_after, word
 use Rattle.dm_syn.specs.Scopes.{expr_declares, specifiers_declares, words_declares, specifier_declares, members_declares, member_declares, declarators_declares, declarator_declares, enumerators_declares, enumerator_declares}
 use Rattle.dm_syn.specs.Heights.{specifiers_height, specifier_height, highest_word, words_node, members_height, member_height, declarators_height, enumerators_height, enumerator_height}
 use Rattle.dm_syn.specs.Grammar.{is_specifier_word, Types, no_type, types_behind, IsTag, tag_after, IsTrailing, trailing_after, IsSpecifiers, AreWords, IsSpecifier, AreMembers, IsMember, AreMoreDeclarators, AreMoreEnumerators, IsEnumerator}
-use Rattle.dm_pexpr.specs.Parsing.{Parts, named, limit, span_of, checked, all_turns, Word, plain_word, type_word, name_word, struct_word, enum_word, word_kind, is_one_more, specifier_of, words_of, words_from, prepend_word, specifiers_from, specifiers_of, struct_of, struct_behind, struct_from, checked_specifier, tag_at, members_of, members_from, prepend_member, member_of, member_from, member_behind, member_with, more_declarators, more_declarators_from, prepend_declarator, enum_of, enum_behind, enum_from, enum_with, enum_closed, enumerator_of, valued_from, more_enumerators, more_enumerators_from, prepend_enumerator}
+use Rattle.dm_pexpr.specs.Parsing.{Parts, named, span_of, checked, all_turns, Word, plain_word, type_word, name_word, struct_word, enum_word, word_kind, is_one_more, specifier_of, words_of, words_from, prepend_word, specifiers_from, specifiers_of, struct_of, struct_behind, struct_from, checked_specifier, tag_at, members_of, members_from, prepend_member, member_of, member_from, member_behind, member_with, more_declarators, more_declarators_from, prepend_declarator, enum_of, enum_behind, enum_from, enum_with, enum_closed, enumerator_of, valued_from, more_enumerators, more_enumerators_from, prepend_enumerator}
 use Rattle.dm_pexpr.proofs.Positions.{present, member-on, members-on, declarator-on, specifier-on, enumerator-on}
 use Rattle.dm_pexpr.proofs.SymbolLemmas.{seen-word}
 use Rattle.dm_pexpr.proofs.SpecifierSymbols.{follows_specifiers, follows_declarator, declarator-specifiers, specifiers-no-brace, word-no-brace, identifier-no-right-brace, specifier-no-right-brace, words-end, IsWord, is_plain, is_type, word-is, takes-struct, takes-enum, ends_item, ends-alike, ends-stops, ends-no-equals, plain-more}
 use Rattle.dm_pexpr.proofs.Expressions.{fits, holds, it-is, if-true, if-false, both-tests}
 use Rattle.dm_pexpr.proofs.Declarators.{ReadsParts, declarator-begins, specifiers-begin, it-is-not}
+use Rattle.dm_pexpr.proofs.TestLemmas.{second-no}
 
 -- a keyword among specifiers is seen as it stands
 word-seen : (source : Source) (names : List Declared) (at : ℕ) → is_specifier_word (symbol_at source at) ≡ true → symbol_in source names at ≡ symbol_at source at
@@ -58,10 +60,6 @@ unfolding AreWords words_declares
 next-no-brace source tree.no_words names at types h f = specifiers-no-brace _ f
 next-no-brace source (tree.more_words first others) names at types h f = specifier-no-brace source names at types first h.0
 
-second-no : (one other : Bool) → other ≡ false → (one && other) ≡ false
-second-no true other h = h
-second-no false other h = refl
-
 -- the tag at a place is seen
 tag-seen : (source : Source) (names : List Declared) (at : ℕ) (tag : Option ℕ) → IsTag source names at tag → symbol_in source names (tag_after at tag) ≡ symbol.LeftBrace
     → tag_at source names at ≡ tag
@@ -77,7 +75,7 @@ module _ (source : Source) (parts : Parts) (depth : ℕ) (reads : ReadsParts sou
   declarators-follow (tree.more_declarators first others) names at h e = ap follows_declarator h.0
 
   more-declarators-read : (it : Declarators) (turns : ℕ) (names : List Declared) (at : ℕ) → AreMoreDeclarators source names at it → 1 ≤ depth
-      → declarators_height it ≤ depth → declarators_height it ≤ limit → length source.tokens < at + turns
+      → declarators_height it ≤ depth → declarators_height it ≤ greatest_height → length source.tokens < at + turns
       → symbol_in source (declarators_declares source it ++ names) (declarators_after at it) ≡ symbol.Semicolon → more_declarators source parts turns names at ≡ Some it
   unfolding AreMoreDeclarators declarators_declares declarators_height more_declarators
   more-declarators-read tree.no_declarators zero names at h some d l t e = refl
@@ -96,7 +94,7 @@ module _ (source : Source) (parts : Parts) (depth : ℕ) (reads : ReadsParts sou
       (omega (arith, t, h.1, declarator-on source names false first h.2)) ends)
 
   -- members
-  member-read : (names : List Declared) (it : Member) → IsMember source names it → 1 ≤ depth → member_height it ≤ depth → member_height it ≤ limit
+  member-read : (names : List Declared) (it : Member) → IsMember source names it → 1 ≤ depth → member_height it ≤ depth → member_height it ≤ greatest_height
       → member_of source parts names (member_span it).first ≡ Some it
   unfolding IsMember member_height declarators_height member_of
   member-read names (tree.members span specifiers tree.no_declarators) h some d l = absurd h
@@ -123,7 +121,7 @@ module _ (source : Source) (parts : Parts) (depth : ℕ) (reads : ReadsParts sou
       ap (λ (at : ℕ). begins_specifiers (symbol_in source names at)) (sym h.0) ∙ specifiers-begin source names specifiers h.1
 
   members-read : (it : Members) (turns : ℕ) (names : List Declared) (at : ℕ) → AreMembers source names at it → 1 ≤ depth
-      → members_height it ≤ depth → members_height it ≤ limit → length source.tokens < at + turns
+      → members_height it ≤ depth → members_height it ≤ greatest_height → length source.tokens < at + turns
       → symbol_in source (members_declares source it ++ names) (members_after at it) ≡ symbol.RightBrace → members_of source parts turns names at ≡ Some it
   unfolding AreMembers members_declares members_height members_of
   members-read tree.no_members zero names at h some d l t e =
@@ -149,7 +147,7 @@ module _ (source : Source) (parts : Parts) (depth : ℕ) (reads : ReadsParts sou
       (omega (arith, t, h.0, member-on source names first h.1)) ends)
 
   -- enumerators
-  enumerator-read : (names : List Declared) (it : Enumerator) → IsEnumerator source names it → enumerator_height it ≤ depth → enumerator_height it ≤ limit
+  enumerator-read : (names : List Declared) (it : Enumerator) → IsEnumerator source names it → enumerator_height it ≤ depth → enumerator_height it ≤ greatest_height
       → ends_item (symbol_in source (enumerator_declares source it ++ names) (enumerator_span it).after) ≡ true
       → enumerator_of source parts names (enumerator_span it).first ≡ Some it
   unfolding IsEnumerator enumerator_height enumerator_of
@@ -201,7 +199,7 @@ module _ (source : Source) (parts : Parts) (depth : ℕ) (reads : ReadsParts sou
   enumerator-first names (tree.valued span name value) h = ap (λ (at : ℕ). is_identifier (symbol_in source names at)) (sym h.0) ∙ h.1
 
   more-enumerators-read : (it : Enumerators) (turns : ℕ) (names : List Declared) (at : ℕ) (trailing : Bool) → AreMoreEnumerators source names at it
-      → enumerators_height it ≤ depth → enumerators_height it ≤ limit → length source.tokens < at + turns
+      → enumerators_height it ≤ depth → enumerators_height it ≤ greatest_height → length source.tokens < at + turns
       → EndsEnum (enumerators_declares source it ++ names) (enumerators_after at it) trailing → more_enumerators source parts turns names at ≡ Some it
   unfolding AreMoreEnumerators enumerators_declares enumerators_height more_enumerators
   more-enumerators-read tree.no_enumerators zero names at trailing h d l t e = refl
@@ -241,7 +239,7 @@ module _ (source : Source) (parts : Parts) (depth : ℕ) (reads : ReadsParts sou
   name-one-more types e = ap (λ (these : Types). is_one_more these name_word) e
 
   specifier-read : (names : List Declared) (at : ℕ) (types : Types) (it : Specifier) → IsSpecifier source names at types it
-      → specifier_height it ≤ depth + 1 → specifier_height it ≤ limit
+      → specifier_height it ≤ depth + 1 → specifier_height it ≤ greatest_height
       → is (symbol_in source (specifier_declares source it ++ names) (specifier_after at it)) symbol.LeftBrace ≡ false → SpecifierRead names at types it
   unfolding IsSpecifier specifier_height members_height enumerators_height specifier_declares enumerators_declares specifier_of struct_of enum_of SpecifierRead EndsEnum
   specifier-read names at types (tree.keyword word) h d l b = keyword-read names at types word h.0 h.1 (word-is (symbol_at source at) types h.1 h.2)
@@ -299,7 +297,7 @@ module _ (source : Source) (parts : Parts) (depth : ℕ) (reads : ReadsParts sou
       )
 
   words-read : (it : Words) (turns : ℕ) (names : List Declared) (at : ℕ) (types : Types) → AreWords source names at types it
-      → highest_word it ≤ depth + 1 → highest_word it ≤ limit → length source.tokens < at + turns
+      → highest_word it ≤ depth + 1 → highest_word it ≤ greatest_height → length source.tokens < at + turns
       → follows_specifiers (symbol_in source (words_declares source it ++ names) (words_after at it)) ≡ true → words_of source parts turns names at types ≡ Some it
   unfolding AreWords words_declares highest_word words_of SpecifierRead
   words-read tree.no_words zero names at types h d l t f = if-false _ _ _ (words-end types _ h f)
@@ -324,14 +322,14 @@ module _ (source : Source) (parts : Parts) (depth : ℕ) (reads : ReadsParts sou
   highest-low (tree.more_words first (tree.more_words second others)) most h = omega (arith, h)
 
   -- Well-formed specifiers are those that are read.
-  pub specifiers-read : (names : List Declared) (it : Specifiers) → IsSpecifiers source names it → specifiers_height it ≤ depth + 1 → specifiers_height it ≤ limit
+  pub specifiers-read : (names : List Declared) (it : Specifiers) → IsSpecifiers source names it → specifiers_height it ≤ depth + 1 → specifiers_height it ≤ greatest_height
       → follows_specifiers (symbol_in source (specifiers_declares source it ++ names) (specifiers_span it).after) ≡ true
       → specifiers_of source parts names (specifiers_span it).first ≡ Some it
   unfolding IsSpecifiers specifiers_height specifiers_declares specifiers_of
   specifiers-read names (tree.listed span tree.no_words) h d l f = absurd h
   specifiers-read names (tree.listed span (tree.more_words first others)) h d l f =
       ap (specifiers_from span.first) (words-read (tree.more_words first others) (all_turns source) names span.first no_type h.0
-      (highest-low (tree.more_words first others) (depth + 1) d) (highest-low (tree.more_words first others) limit l) (omega arith)
+      (highest-low (tree.more_words first others) (depth + 1) d) (highest-low (tree.more_words first others) greatest_height l) (omega arith)
       (subst (λ (at : ℕ). follows_specifiers (symbol_in source (words_declares source (tree.more_words first others) ++ names) at) ≡ true) h.1 f))
       ∙ ap (λ (after : ℕ). checked (specifiers_height (tree.listed (span_of span.first after) (tree.more_words first others))) (tree.listed (span_of span.first after) (tree.more_words first others))) (sym h.1)
       ∙ fits _ _ l

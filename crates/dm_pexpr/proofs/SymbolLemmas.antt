@@ -24,10 +24,6 @@ pub front-prefix : (it : Symbol) (level : ℕ) → prefix_level it ≡ Some leve
 front-prefix symbol.Identifier level h = cc
 front-prefix _ level h = cc
 
-pub begins-prefix : (it : Symbol) (level : ℕ) → prefix_level it ≡ Some level → begins_specifiers it ≡ false
-begins-prefix symbol.Identifier level h = cc
-begins-prefix _ level h = cc
-
 pub seen-infix : (it : Symbol) (names : Bool) (level : ℕ) → infix_level it ≡ Some level → seen_as it names ≡ it
 seen-infix symbol.Identifier names level h = cc
 seen-infix _ names level h = refl

@@ -1,6 +1,7 @@
 -- Type names and specifiers that are put together of parts.
 use Rattle.std.proofs.Common.{◌≡◌, ◌≤◌, ◌<◌, ℕ, zero, suc, ◌+◌, Bool, true, false, List, [], ◌∷◌, ◌++◌, length, map, Option, Some, None, nat_le, refl, sym, ap, ◌∙◌, subst, arith, lit≤, append_assoc, if◌then◌else◌}
 use Rattle.std.specs.Prelude.{unwrap_or, is_some, IsSome}
+use Rattle.dm_token.specs.Limits.{greatest_height}
 use Rattle.dm_syn.specs.declared.declared.Declared.{Declared}
 use Rattle.dm_syn.specs.declared.symbol.Symbol.TheVariants as symbol
 use Rattle.dm_syn.specs.declared.expression.Expr.{Expr}
@@ -21,7 +22,8 @@ use Rattle.dm_syn.specs.Scopes.{declaration_of, declarator_name, expr_declares, 
 use Rattle.dm_syn.specs.Grammar.{tag_after, trailing_after}
 use Rattle.dm_syn.specs.Views as view
 use Rattle.dm_pexpr.specs.declared.part.Part.{Part}
-use Rattle.dm_pexpr.specs.Parsing.{Parts, limit, checked, checked_specifier, where_true, span_of, type_name_with, parameter_with, specifiers_from, prepend_member, members_of, member_of, members_from as members_behind, struct_from, struct_tagged, prepend_declarator, member_with, prepend_enumerator, enum_closed, enum_with, enum_tagged, valued_from}
+use Rattle.dm_pexpr.specs.Parsing.{Parts, checked, checked_specifier, where_true, span_of, type_name_with, parameter_with, specifiers_from, prepend_member, members_of, member_of, members_from as members_behind, struct_from, struct_tagged, prepend_declarator, member_with, prepend_enumerator, enum_closed, enum_with, enum_tagged, valued_from}
+use Rattle.dm_pexpr.specs.Counted.{most_counted}
 use Rattle.dm_pexpr.specs.Parts.{IsPart, Gives, Passes, AreClosed, an_expr, a_type_name, the_specifiers, a_specifier, a_member, an_enumerator, a_declarator, a_parameter, words_from, members_from, declarators_from, enumerators_from}
 use Rattle.dm_pexpr.proofs.Soundness.{inside}
 use Rattle.dm_pexpr.proofs.Expressions.{holds}
@@ -29,11 +31,11 @@ use Rattle.dm_pexpr.proofs.PartLemmas.{made-gives, part-is, part-of}
 use Rattle.dm_pexpr.proofs.TypeViewLemmas.{view-type-name, view-parameter, view-specifiers, view-struct-with, view-struct-only, view-enum-with, view-enum-only, view-members, view-bare, view-valued}
 
 -- the height of specifiers with a declarator
-either-low : (test : Bool) (a b : ℕ) → a ≤ 513 → b ≤ 513 → (if test then a else b) ≤ 513
+either-low : (test : Bool) (a b : ℕ) → a ≤ greatest_height + 1 → b ≤ greatest_height + 1 → (if test then a else b) ≤ greatest_height + 1
 either-low true a b one other = one
 either-low false a b one other = other
 
-named-low : (specifiers : ℕ) (it : tree.Declarator) (height : ℕ) → specifiers ≤ 512 → height ≤ 512 → named_node specifiers it height ≤ 513
+named-low : (specifiers : ℕ) (it : tree.Declarator) (height : ℕ) → specifiers ≤ greatest_height → height ≤ greatest_height → named_node specifiers it height ≤ greatest_height + 1
 named-low specifiers it height one other = either-low (is_absent it) specifiers (above specifiers height) (omega (arith, one)) (omega (arith, one, other))
 
 -- a list behind another, each with what it declares
@@ -42,7 +44,7 @@ behind second first after names before one other = one ∙ ap (λ ns. second ++ 
 
 pub name-made : (source : Source) (before names now : List Declared) (specifiers : Part Specifiers) (read : Option tree.Specifiers) (found : Option (Part Declarator)) (part : Part Declarator) (wanted : Option tree.Declarator) → found ≡ Some part
     → IsPart (the_specifiers source) source before names specifiers read → Gives (a_declarator source) source names now found wanted
-    → (first height : ℕ) → (specifiers.height < 1000 → part.height < 1000 → height ≡ named_node specifiers.height (view.declarator part.tree) part.height)
+    → (first height : ℕ) → (specifiers.height < most_counted → part.height < most_counted → height ≡ named_node specifiers.height (view.declarator part.tree) part.height)
     → IsPart (a_type_name source) source before now (record { tree = record { span = record { first = first; after = part.after }; specifiers = specifiers.tree; declarator = part.tree }; height = height; after = part.after }) (type_name_with first (view.specifiers specifiers.tree) wanted)
 unfolding type_name_height type_name_declares
 name-made source before names now specifiers read found part wanted there k given first height high =
@@ -53,12 +55,12 @@ name-made source before names now specifiers read found part wanted there k give
     let taller : height ≡ named_node (specifiers_height s) d (declarator_height d) = as_kept ∙ ap (λ n. named_node n d part.height) k.high ∙ ap (named_node (specifiers_height s) d) g.high in
     part-is (a_type_name source) source before now _ height part.after (tree.type_name (span_of first part.after) s d) _
     (ap (type_name_with first s) g.read ∙ ap (λ n. Some (tree.type_name (span_of first n) s d)) (sym g.ends))
-    (view-type-name _ specifiers.tree part.tree) refl taller (subst (λ n. n ≤ 513) (sym as_kept) (named-low specifiers.height d part.height k.low g.low)) refl g.within
+    (view-type-name _ specifiers.tree part.tree) refl taller (subst (λ n. n ≤ greatest_height + 1) (sym as_kept) (named-low specifiers.height d part.height k.low g.low)) refl g.within
     (behind (declarator_declares source d) (specifiers_declares source s) now names before g.scoped k.scoped)
 
 pub parameter-made : (source : Source) (before names now after : List Declared) (specifiers : Part Specifiers) (read : Option tree.Specifiers) (found : Option (Part Declarator)) (part : Part Declarator) (wanted : Option tree.Declarator) → found ≡ Some part
     → IsPart (the_specifiers source) source before names specifiers read → Gives (a_declarator source) source names now found wanted
-    → (first height : ℕ) → (specifiers.height < 1000 → part.height < 1000 → height ≡ named_node specifiers.height (view.declarator part.tree) part.height)
+    → (first height : ℕ) → (specifiers.height < most_counted → part.height < most_counted → height ≡ named_node specifiers.height (view.declarator part.tree) part.height)
     → (name : Option ℕ) → name ≡ declarator_name (view.declarator part.tree) → after ≡ declaration_of source false name ++ now
     → IsPart (a_parameter source) source before after (record { tree = record { span = record { first = first; after = part.after }; specifiers = specifiers.tree; declarator = part.tree }; height = height; after = part.after }) (parameter_with first (view.specifiers specifiers.tree) wanted)
 unfolding parameter_height
@@ -70,7 +72,7 @@ parameter-made source before names now after specifiers read found part wanted t
     let taller : height ≡ named_node (specifiers_height s) d (declarator_height d) = as_kept ∙ ap (λ n. named_node n d part.height) k.high ∙ ap (named_node (specifiers_height s) d) g.high in
     part-is (a_parameter source) source before after _ height part.after (tree.parameter (span_of first part.after) s d) _
     (ap (parameter_with first s) g.read ∙ ap (λ n. Some (tree.parameter (span_of first n) s d)) (sym g.ends))
-    (view-parameter _ specifiers.tree part.tree) refl taller (subst (λ n. n ≤ 513) (sym as_kept) (named-low specifiers.height d part.height k.low g.low)) refl g.within
+    (view-parameter _ specifiers.tree part.tree) refl taller (subst (λ n. n ≤ greatest_height + 1) (sym as_kept) (named-low specifiers.height d part.height k.low g.low)) refl g.within
     (behind (declaration_of source false (declarator_name d)) (declarator_declares source d ++ specifiers_declares source s) after now before
     (declares ∙ ap (λ n. declaration_of source false n ++ now) named)
     (behind (declarator_declares source d) (specifiers_declares source s) now names before g.scoped k.scoped))
@@ -83,8 +85,8 @@ some-specifiers first (word ∷ words) some = refl
 
 pub specifiers-made : (source : Source) (before now : List Declared) (first : ℕ) (found : Option (Part (List Specifier))) (part : Part (List Specifier)) (wanted : Option tree.Words) → found ≡ Some part → (part.tree ≡ [] → ⊥)
     → Gives (words_from source first) source before now found wanted
-    → (height : ℕ) (made : Option (Part Specifiers)) → (part.height < 1000 → height ≡ words_node (view.words (map view.specifier part.tree)) part.height)
-    → made ≡ (if nat_le height limit then Some (record { tree = record { span = record { first = first; after = part.after }; words = part.tree }; height = height; after = part.after }) else None)
+    → (height : ℕ) (made : Option (Part Specifiers)) → (part.height < most_counted → height ≡ words_node (view.words (map view.specifier part.tree)) part.height)
+    → made ≡ (if nat_le height greatest_height then Some (record { tree = record { span = record { first = first; after = part.after }; words = part.tree }; height = height; after = part.after }) else None)
     → Gives (the_specifiers source) source before now made (specifiers_from first wanted)
 unfolding specifiers_height specifiers_declares
 specifiers-made source before now first found part wanted there some given height made high node =
@@ -103,8 +105,8 @@ some-members first start tag (member ∷ members) some = refl
 
 pub struct-made : (source : Source) (before now : List Declared) (first start : ℕ) (tag : Option ℕ) (found : Option (Part (List MemberForm))) (part : Part (List MemberForm)) (wanted : Option tree.Members) → found ≡ Some part → (part.tree ≡ [] → ⊥)
     → Gives (members_from source start) source before now found wanted
-    → (after height : ℕ) (made : Option (Part Specifier)) → after ≡ part.after + 1 → after ≤ length source.tokens → (part.height < 1000 → height ≡ part.height + 1)
-    → made ≡ (if nat_le height limit then Some (record { tree = specifier.Struct (roll-StructForm (record { span = record { first = first; after = after }; tag = tag; members = Some part.tree })); height = height; after = after }) else None)
+    → (after height : ℕ) (made : Option (Part Specifier)) → after ≡ part.after + 1 → after ≤ length source.tokens → (part.height < most_counted → height ≡ part.height + 1)
+    → made ≡ (if nat_le height greatest_height then Some (record { tree = specifier.Struct (roll-StructForm (record { span = record { first = first; after = after }; tag = tag; members = Some part.tree })); height = height; after = after }) else None)
     → Gives (a_specifier source first) source before now made (struct_from first tag start wanted)
 unfolding specifier_height specifier_declares
 struct-made source before now first start tag found part wanted there some given after height made next within high node =
@@ -154,7 +156,7 @@ member-open source names now first start specifiers head found part wanted there
 pub member-made : (source : Source) (before names now : List Declared) (specifiers : Part Specifiers) (read : Option tree.Specifiers) (start : ℕ) (head : tree.Declarator) (found : Option (Part (List Declarator))) (part : Part (List Declarator)) (wanted : Option tree.Declarators) → found ≡ Some part
     → IsPart (the_specifiers source) source before names specifiers read → Gives (declarators_from source start) source names now found (prepend_declarator head wanted)
     → (first after height : ℕ) → Passes (is (symbol_in source now part.after) symbol.Semicolon) part.after (length source.tokens) (Some after)
-    → (specifiers.height < 1000 → part.height < 1000 → height ≡ above specifiers.height part.height)
+    → (specifiers.height < most_counted → part.height < most_counted → height ≡ above specifiers.height part.height)
     → IsPart (a_member source) source before now (record { tree = roll-MemberForm (record { span = record { first = first; after = after }; specifiers = specifiers.tree; declarators = part.tree }); height = height; after = after })
     (member_with source (declarator_declares source head ++ names) first (view.specifiers specifiers.tree) head wanted)
 unfolding member_height member_declares
@@ -223,9 +225,9 @@ pub enum-made : (source : Source) (before now : List Declared) (first start : �
     → Gives (enumerators_from source start) source before now found (prepend_enumerator head wanted)
     → (comma : Option ℕ) → Passes (is (symbol_in source now part.after) symbol.Comma) part.after (length source.tokens) comma
     → (behind_comma after height : ℕ) → behind_comma ≡ unwrap_or comma part.after → Passes (is (symbol_in source now behind_comma) symbol.RightBrace) behind_comma (length source.tokens) (Some after)
-    → (trailing : Bool) → trailing ≡ is_some comma → (part.height < 1000 → height ≡ part.height + 1)
+    → (trailing : Bool) → trailing ≡ is_some comma → (part.height < most_counted → height ≡ part.height + 1)
     → (made : Option (Part Specifier))
-    → made ≡ (if nat_le height limit then Some (record { tree = specifier.Enum (roll-EnumForm (record { span = record { first = first; after = after }; tag = tag; enumerators = Some part.tree; trailing = trailing })); height = height; after = after }) else None)
+    → made ≡ (if nat_le height greatest_height then Some (record { tree = specifier.Enum (roll-EnumForm (record { span = record { first = first; after = after }; tag = tag; enumerators = Some part.tree; trailing = trailing })); height = height; after = after }) else None)
     → Gives (a_specifier source first) source before now made (enum_with source (enumerator_declares source head ++ before) first tag head wanted)
 unfolding specifier_height specifier_declares
 enum-made source before now first start tag head found part wanted there given comma passes behind_comma after height is_behind closes trailing is_trailing high made node =
@@ -241,7 +243,7 @@ enum-made source before now first start tag head found part wanted there given c
 
 -- `struct` and `enum` with a tag alone
 pub struct-only-made : (source : Source) (names : List Declared) (first : ℕ) (tag : Option ℕ) (there after : ℕ) (made : Option (Part Specifier)) → tag ≡ Some there → after ≡ tag_after (first + 1) tag → (IsSome tag → after ≤ length source.tokens)
-    → made ≡ (if nat_le 1 limit then Some (record { tree = specifier.Struct (roll-StructForm (record { span = record { first = first; after = after }; tag = tag; members = None })); height = 1; after = after }) else None)
+    → made ≡ (if nat_le 1 greatest_height then Some (record { tree = specifier.Struct (roll-StructForm (record { span = record { first = first; after = after }; tag = tag; members = None })); height = 1; after = after }) else None)
     → Gives (a_specifier source first) source names names made (struct_tagged first tag)
 unfolding specifier_height specifier_declares
 struct-only-made source names first None there after made stands next within node = absurd (cc)
@@ -252,7 +254,7 @@ struct-only-made source names first (Some tag) there after made stands next with
     (view-struct-only _ (Some tag)) refl refl refl (within refl) refl (lit≤ tt)
 
 pub enum-only-made : (source : Source) (names : List Declared) (first : ℕ) (tag : Option ℕ) (there after : ℕ) (made : Option (Part Specifier)) → tag ≡ Some there → after ≡ tag_after (first + 1) tag → (IsSome tag → after ≤ length source.tokens)
-    → made ≡ (if nat_le 1 limit then Some (record { tree = specifier.Enum (roll-EnumForm (record { span = record { first = first; after = after }; tag = tag; enumerators = None; trailing = false })); height = 1; after = after }) else None)
+    → made ≡ (if nat_le 1 greatest_height then Some (record { tree = specifier.Enum (roll-EnumForm (record { span = record { first = first; after = after }; tag = tag; enumerators = None; trailing = false })); height = 1; after = after }) else None)
     → Gives (a_specifier source first) source names names made (enum_tagged first tag)
 unfolding specifier_height specifier_declares
 enum-only-made source names first None there after made stands next within node = absurd (cc)
@@ -273,7 +275,7 @@ bare-made source before now name after next within declares =
 
 pub valued-made : (source : Source) (before names now : List Declared) (found : Option (Part Expr)) (part : Part Expr) (wanted : Option tree.Expr) → found ≡ Some part
     → Gives (an_expr source) source before names found wanted
-    → (name height : ℕ) → (1 < 1000 → part.height < 1000 → height ≡ above 1 part.height) → now ≡ declaration_of source false (Some name) ++ names
+    → (name height : ℕ) → (1 < most_counted → part.height < most_counted → height ≡ above 1 part.height) → now ≡ declaration_of source false (Some name) ++ names
     → IsPart (an_enumerator source) source before now (record { tree = roll-EnumItem (record { span = record { first = name; after = part.after }; name = name; value = Some part.tree }); height = height; after = part.after }) (valued_from name wanted)
 unfolding enumerator_height enumerator_declares
 valued-made source before names now found part wanted there given name height high declares =
@@ -285,30 +287,3 @@ valued-made source before names now found part wanted there given name height hi
     (view-valued _ name part.tree) refl
     (as_kept ∙ ap (above 1) g.high) (omega (arith, as_kept, g.low)) refl g.within
     (behind (declaration_of source false (Some name)) (expr_declares source v) now names before declares g.scoped)
-
--- the members up to a closing brace
-closed-prepend : (source : Source) (names : List Declared) (at : ℕ) (first : tree.Member) (rest : Option tree.Members)
-    → AreClosed source (member_declares source first ++ names) (members_after at (tree.more_members first tree.no_members)) rest → AreClosed source names at (prepend_member first rest)
-unfolding members_declares
-closed-prepend source names at first None h = tt
-closed-prepend source names at first (Some others) h =
-    ap (λ ns. is (symbol_in source ns (members_after at (tree.more_members first others))) symbol.RightBrace) (append_assoc (members_declares source others) (member_declares source first) names) ∙ h
-
-closed-behind : (source : Source) (names : List Declared) (at : ℕ) (others : tree.Member → Option tree.Members) (found : Option tree.Member)
-    → ((first : tree.Member) → AreClosed source (member_declares source first ++ names) (members_after at (tree.more_members first tree.no_members)) (others first)) → AreClosed source names at (members_behind others found)
-closed-behind source names at others None h = tt
-closed-behind source names at others (Some first) h = closed-prepend source names at first (others first) (h first)
-
-closed-either : (source : Source) (names : List Declared) (at : ℕ) (test : Bool) (found : Option tree.Members) → is (symbol_in source names at) symbol.RightBrace ≡ test
-    → AreClosed source names at found → AreClosed source names at (if test then Some tree.no_members else found)
-unfolding members_declares
-closed-either source names at true found is_test h = is_test
-closed-either source names at false found is_test h = h
-
-pub members-closed : (source : Source) (parts : Parts) (turns : ℕ) (names : List Declared) (at : ℕ) → AreClosed source names at (members_of source parts turns names at)
-unfolding members_of
-members-closed source parts zero names at = tt
-members-closed source parts (suc turns) names at =
-    closed-either source names at (is (symbol_in source names at) symbol.RightBrace) _ refl
-    (closed-behind source names at (λ first. members_of source parts turns (member_declares source first ++ names) (members_after at (tree.more_members first tree.no_members))) (member_of source parts names at)
-    (λ first. members-closed source parts turns (member_declares source first ++ names) (members_after at (tree.more_members first tree.no_members))))

@@ -1,3 +1,4 @@
+pub mod Counted
 pub mod NameMaps
 pub mod Parsing
 pub mod Readings

@@ -5,6 +5,7 @@
 --     type_name_of source parts names at      the type name at a place
 use Rattle.std.specs.Prelude.{ℕ, zero, suc, ◌+◌, Bool, true, false, ◌&&◌, ◌||◌, not, nat_le, List, [], ◌∷◌, ◌++◌, length, Option, Some, None, if◌then◌else◌}
 use Rattle.dm_token.specs.declared.place.Span.{Span}
+use Rattle.dm_token.specs.Limits.{greatest_height}
 use Rattle.dm_syn.specs.declared.declared.Declared.{Declared}
 use Rattle.dm_syn.specs.declared.symbol.Symbol.{Symbol}
 use Rattle.dm_syn.specs.declared.symbol.Symbol.TheVariants as symbol
@@ -30,16 +31,12 @@ pub record Parts : Type 0 where
   pub specifiers : List Declared → ℕ → Option Specifiers
   pub declarator : Shape → List Declared → ℕ → Option Declarator
 
--- the greatest height
-abbrev pub limit : ℕ
-limit = 512
-
 abbrev pub span_of : ℕ → ℕ → Span
 span_of first after = record { first = first; after = after }
 
 -- a tree, unless it is too high
 abbrev pub checked : {A : Type 0} → ℕ → A → Option A
-checked height tree = if nat_le height limit then Some tree else None
+checked height tree = if nat_le height greatest_height then Some tree else None
 
 abbrev pub checked_expr : Expr → Option Expr
 checked_expr expr = checked (expr_height expr) expr
@@ -280,7 +277,7 @@ grown source parts least names (suc turns) left =
 abbrev pub grown_from : Source → Parts → ℕ → List Declared → Option Expr → Option Expr
 grown_from source parts least names None = None
 grown_from source parts least names (Some front) =
-    if nat_le least (level source front) then grown source parts least names limit front else None
+    if nat_le least (level source front) then grown source parts least names greatest_height front else None
 
 -- the expression of at least this level at a place
 unfoldable pub expr_of : Source → Parts → ℕ → List Declared → ℕ → Option Expr
@@ -410,7 +407,7 @@ declarator_with at stars (Some direct) =
 
 abbrev pub declarator_behind : Source → Parts → Shape → List Declared → ℕ → List ℕ → Option Declarator
 declarator_behind source parts shape names at stars =
-    declarator_with at stars (and_then (suffixed source parts names (pointers_after at stars) limit) (core source parts shape names (pointers_after at stars)))
+    declarator_with at stars (and_then (suffixed source parts names (pointers_after at stars) greatest_height) (core source parts shape names (pointers_after at stars)))
 
 -- the declarator at a place
 unfoldable pub declarator_of : Source → Parts → Shape → List Declared → ℕ → Option Declarator

@@ -1,5 +1,6 @@
 -- What the code reads, and what it stands for.
 use Rattle.std.specs.Prelude.{◌≡◌, ◌≤◌, ◌+◌, ℕ, Bool, true, false, not, List, [], ◌∷◌, ◌++◌, length, map, Option, Some, None}
+use Rattle.dm_token.specs.Limits.{greatest_height}
 use Rattle.dm_syn.specs.declared.declared.Declared.{Declared}
 use Rattle.dm_syn.specs.declared.expression.Expr.{Expr}
 use Rattle.dm_syn.specs.declared.declaration.TypeName.{TypeName}
@@ -62,50 +63,50 @@ Gives kind source before after (Some part) wanted = IsPart kind source before af
 
 -- each kind
 abbrev pub an_expr : Source → Kind Expr tree.Expr
-an_expr source = record { view = view.expr; begins = λ it. it.span.first; first = λ it. (expr_span it).first; height = expr_height; after = λ it. (expr_span it).after; declares = expr_declares source; highest = 512 }
+an_expr source = record { view = view.expr; begins = λ it. it.span.first; first = λ it. (expr_span it).first; height = expr_height; after = λ it. (expr_span it).after; declares = expr_declares source; highest = greatest_height }
 
 abbrev pub a_type_name : Source → Kind TypeName tree.TypeName
-a_type_name source = record { view = view.type_name; begins = λ _. 0; first = λ _. 0; height = type_name_height; after = λ it. (type_name_span it).after; declares = type_name_declares source; highest = 513 }
+a_type_name source = record { view = view.type_name; begins = λ _. 0; first = λ _. 0; height = type_name_height; after = λ it. (type_name_span it).after; declares = type_name_declares source; highest = greatest_height + 1 }
 
 abbrev pub the_specifiers : Source → Kind Specifiers tree.Specifiers
-the_specifiers source = record { view = view.specifiers; begins = λ _. 0; first = λ _. 0; height = specifiers_height; after = λ it. (specifiers_span it).after; declares = specifiers_declares source; highest = 512 }
+the_specifiers source = record { view = view.specifiers; begins = λ _. 0; first = λ _. 0; height = specifiers_height; after = λ it. (specifiers_span it).after; declares = specifiers_declares source; highest = greatest_height }
 
 abbrev pub a_specifier : Source → ℕ → Kind Specifier tree.Specifier
-a_specifier source at = record { view = view.specifier; begins = λ _. 0; first = λ _. 0; height = specifier_height; after = specifier_after at; declares = specifier_declares source; highest = 512 }
+a_specifier source at = record { view = view.specifier; begins = λ _. 0; first = λ _. 0; height = specifier_height; after = specifier_after at; declares = specifier_declares source; highest = greatest_height }
 
 abbrev pub a_member : Source → Kind MemberForm tree.Member
-a_member source = record { view = view.member_form; begins = λ _. 0; first = λ _. 0; height = member_height; after = λ it. (member_span it).after; declares = member_declares source; highest = 513 }
+a_member source = record { view = view.member_form; begins = λ _. 0; first = λ _. 0; height = member_height; after = λ it. (member_span it).after; declares = member_declares source; highest = greatest_height + 1 }
 
 abbrev pub an_enumerator : Source → Kind EnumItem tree.Enumerator
-an_enumerator source = record { view = view.enum_item; begins = λ _. 0; first = λ _. 0; height = enumerator_height; after = λ it. (enumerator_span it).after; declares = enumerator_declares source; highest = 513 }
+an_enumerator source = record { view = view.enum_item; begins = λ _. 0; first = λ _. 0; height = enumerator_height; after = λ it. (enumerator_span it).after; declares = enumerator_declares source; highest = greatest_height + 1 }
 
 abbrev pub a_declarator : Source → Kind Declarator tree.Declarator
-a_declarator source = record { view = view.declarator; begins = λ _. 0; first = λ _. 0; height = declarator_height; after = λ it. (declarator_span it).after; declares = declarator_declares source; highest = 512 }
+a_declarator source = record { view = view.declarator; begins = λ _. 0; first = λ _. 0; height = declarator_height; after = λ it. (declarator_span it).after; declares = declarator_declares source; highest = greatest_height }
 
 abbrev pub a_direct : Source → ℕ → Kind Direct tree.Direct
-a_direct source at = record { view = view.direct; begins = λ _. 0; first = λ _. 0; height = direct_height; after = direct_after at; declares = direct_declares source; highest = 512 }
+a_direct source at = record { view = view.direct; begins = λ _. 0; first = λ _. 0; height = direct_height; after = direct_after at; declares = direct_declares source; highest = greatest_height }
 
 abbrev pub a_parameter : Source → Kind Parameter tree.Parameter
-a_parameter source = record { view = view.parameter; begins = λ _. 0; first = λ _. 0; height = parameter_height; after = λ it. (parameter_span it).after; declares = parameter_declares source; highest = 513 }
+a_parameter source = record { view = view.parameter; begins = λ _. 0; first = λ _. 0; height = parameter_height; after = λ it. (parameter_span it).after; declares = parameter_declares source; highest = greatest_height + 1 }
 
 -- lists of them, from a place on
 abbrev pub exprs_from : Source → ℕ → Kind (List Expr) tree.Exprs
-exprs_from source at = record { view = λ items. view.exprs (map view.expr items); begins = λ _. 0; first = λ _. 0; height = exprs_height; after = exprs_after at; declares = exprs_declares source; highest = 513 }
+exprs_from source at = record { view = λ items. view.exprs (map view.expr items); begins = λ _. 0; first = λ _. 0; height = exprs_height; after = exprs_after at; declares = exprs_declares source; highest = greatest_height + 1 }
 
 abbrev pub words_from : Source → ℕ → Kind (List Specifier) tree.Words
-words_from source at = record { view = λ items. view.words (map view.specifier items); begins = λ _. 0; first = λ _. 0; height = highest_word; after = words_after at; declares = words_declares source; highest = 513 }
+words_from source at = record { view = λ items. view.words (map view.specifier items); begins = λ _. 0; first = λ _. 0; height = highest_word; after = words_after at; declares = words_declares source; highest = greatest_height + 1 }
 
 abbrev pub members_from : Source → ℕ → Kind (List MemberForm) tree.Members
-members_from source at = record { view = λ items. view.members (map view.member_form items); begins = λ _. 0; first = λ _. 0; height = members_height; after = members_after at; declares = members_declares source; highest = 513 }
+members_from source at = record { view = λ items. view.members (map view.member_form items); begins = λ _. 0; first = λ _. 0; height = members_height; after = members_after at; declares = members_declares source; highest = greatest_height + 1 }
 
 abbrev pub enumerators_from : Source → ℕ → Kind (List EnumItem) tree.Enumerators
-enumerators_from source at = record { view = λ items. view.enumerators (map view.enum_item items); begins = λ _. 0; first = λ _. 0; height = enumerators_height; after = enumerators_after at; declares = enumerators_declares source; highest = 513 }
+enumerators_from source at = record { view = λ items. view.enumerators (map view.enum_item items); begins = λ _. 0; first = λ _. 0; height = enumerators_height; after = enumerators_after at; declares = enumerators_declares source; highest = greatest_height + 1 }
 
 abbrev pub declarators_from : Source → ℕ → Kind (List Declarator) tree.Declarators
-declarators_from source at = record { view = λ items. view.declarators (map view.declarator items); begins = λ _. 0; first = λ _. 0; height = declarators_height; after = declarators_after at; declares = declarators_declares source; highest = 512 }
+declarators_from source at = record { view = λ items. view.declarators (map view.declarator items); begins = λ _. 0; first = λ _. 0; height = declarators_height; after = declarators_after at; declares = declarators_declares source; highest = greatest_height }
 
 abbrev pub parameters_from : Source → ℕ → Kind (List Parameter) tree.Parameters
-parameters_from source at = record { view = λ items. view.parameters (map view.parameter items); begins = λ _. 0; first = λ _. 0; height = parameters_height; after = parameters_after at; declares = parameters_declares source; highest = 513 }
+parameters_from source at = record { view = λ items. view.parameters (map view.parameter items); begins = λ _. 0; first = λ _. 0; height = parameters_height; after = parameters_after at; declares = parameters_declares source; highest = greatest_height + 1 }
 
 -- an identifier behind `.` or `->`
 abbrev pub member_from : Source → List Declared → tree.Expr → ℕ → Bool → Option tree.Expr

@@ -10,14 +10,11 @@ use crate::names::Names;
 use crate::reader::Reader;
 use crate::scope::Scope;
 use dm_syn::{Expr, Symbol, TypeName};
-use dm_token::{CToken, Memory};
+use dm_token::{CToken, GREATEST_HEIGHT, Memory};
 use std::alloc::Global;
 
-// The greatest height.
-const LIMIT: u32 = 512;
-
-/// The expression that begins at a position, with a height of at most 512, where one of `) ] } : ;` or the end of the
-/// tokens follows it, and the position behind it. None exactly where there is none.
+/// The expression that begins at a position, with a height of at most [`GREATEST_HEIGHT`], where one of `) ] } : ;` or the
+/// end of the tokens follows it, and the position behind it. None exactly where there is none.
 pub fn expression(
     alloc: Global,
     tokens: &[CToken],
@@ -35,7 +32,7 @@ pub fn expression(
         typedefs,
     };
     let mut scope = Scope::new(alloc);
-    let Some(expr) = reader.expr(&mut scope, at, 0, LIMIT)? else {
+    let Some(expr) = reader.expr(&mut scope, at, 0, GREATEST_HEIGHT)? else {
         return Ok(None);
     };
     if closes_expression(reader.symbol(&scope, expr.after)) {
@@ -45,8 +42,8 @@ pub fn expression(
     }
 }
 
-/// The type name that begins at a position, with a height of at most 512, where `)` or the end of the tokens follows it,
-/// and the position behind it. None exactly where there is none.
+/// The type name that begins at a position, with a height of at most [`GREATEST_HEIGHT`], where `)` or the end of the
+/// tokens follows it, and the position behind it. None exactly where there is none.
 pub fn type_name(
     alloc: Global,
     tokens: &[CToken],
@@ -64,10 +61,10 @@ pub fn type_name(
         typedefs,
     };
     let mut scope = Scope::new(alloc);
-    let Some(name) = reader.type_name(&mut scope, at, LIMIT)? else {
+    let Some(name) = reader.type_name(&mut scope, at, GREATEST_HEIGHT)? else {
         return Ok(None);
     };
-    if name.height <= LIMIT && closes_type_name(reader.symbol(&scope, name.after)) {
+    if name.height <= GREATEST_HEIGHT && closes_type_name(reader.symbol(&scope, name.after)) {
         Ok(Some((name.tree, name.after)))
     } else {
         Ok(None)

@@ -1,10 +1,11 @@
 //! Declarators (6.7.6, 6.7.7), read from left to right.
 
 ghost use Rattle.std.specs.Prelude.{◌≡◌, ◌+◌, ◌≤◌, ℕ, List, Option, Some, IfOk, length, map};
+ghost use Rattle.dm_token.specs.Limits.{greatest_height};
 ghost use Rattle.dm_syn.specs.declared.declared.Declared.{Declared};
 ghost use Rattle.dm_syn.specs.Trees as tree;
 ghost use Rattle.dm_syn.specs.Views as view;
-ghost use Rattle.dm_pexpr.specs.Parsing.{lower, core as meant_core, suffixed as meant_suffixed, array_of, function_of, parameters_of, parameter_of, more_parameters as meant_more, limit, all_turns, and_then, prepend_parameter};
+ghost use Rattle.dm_pexpr.specs.Parsing.{lower, core as meant_core, suffixed as meant_suffixed, array_of, function_of, parameters_of, parameter_of, more_parameters as meant_more, all_turns, and_then, prepend_parameter};
 ghost use Rattle.dm_pexpr.specs.Shapes.{shape_of};
 ghost use Rattle.dm_pexpr.specs.Parts.{source_of, Gives, IsPart, a_declarator, a_direct, a_parameter, parameters_from, behind_all, direct_from};
 
@@ -14,7 +15,7 @@ use crate::scope::Scope;
 use crate::shape::Shape;
 use crate::typenodes::{named, nothing};
 use dm_syn::{Declarator, Direct, Parameter, Symbol};
-use dm_token::{List, Memory};
+use dm_token::{GREATEST_HEIGHT, List, Memory};
 
 impl Reader<'_> {
     /// The declarator at a position, if there is one of this shape whose parts nest no deeper.
@@ -71,12 +72,12 @@ impl Reader<'_> {
         depth: u32,
     ) -> Result<Option<Part<Direct>>, Memory>
         ensures { (before : List Declared) (start : ℕ) (wanted : Option tree.Direct) → Gives (a_direct (source_of self.now) start) (source_of self.now) before scope.old core wanted
-            → IfOk result (λ found. Gives (a_direct (source_of self.now) start) (source_of self.now) before scope.new found (and_then (meant_suffixed (source_of self.now) (lower (source_of self.now) depth) before start limit) wanted)) }
+            → IfOk result (λ found. Gives (a_direct (source_of self.now) start) (source_of self.now) before scope.new found (and_then (meant_suffixed (source_of self.now) (lower (source_of self.now) depth) before start greatest_height) wanted)) }
     {
         let Some(mut direct) = core else {
             return Ok(None);
         };
-        let mut turns: u32 = 512;
+        let mut turns = GREATEST_HEIGHT;
         while let Some((is_array, next)) = self.direct_suffix(scope, direct.after) {
             if turns == 0 {
                 return Ok(None);

@@ -15,7 +15,7 @@ use crate::part::{Part, begun, joined};
 use crate::reader::Reader;
 use crate::scope::Scope;
 use dm_syn::{Expr, ExprForm, Symbol, TypeName, infix_level};
-use dm_token::{List, Memory};
+use dm_token::{GREATEST_HEIGHT, List, Memory};
 
 impl Reader<'_> {
     /// The expression of at least this level at a position, if there is one whose parts nest no deeper. What it declares
@@ -156,7 +156,7 @@ impl Reader<'_> {
         if least > self.level(&left.tree) {
             return Ok(None);
         }
-        let mut turns: u32 = 512;
+        let mut turns = GREATEST_HEIGHT;
         while let Some((symbol, next)) = self.suffix(scope, least, &left) {
             if turns == 0 {
                 return Ok(None);

@@ -16,14 +16,14 @@ pub fn one_type_name()
     ensures { (source : Source) (names : List Declared) (at : ℕ) (a b : TypeName) → IsClosedName source names at a → IsClosedName source names at b → a ≡ b }
 {}
 
-/// Reading from left to right, with one look at each token, gives the well-formed expression at a place, and none
+/// Reading from left to right, as `specs/Parsing.antt` defines it, gives the well-formed expression at a place, and none
 /// exactly where there is none.
 pub fn reads_expressions()
     ensures found { (source : Source) (names : List Declared) (at : ℕ) (it : Expr) → expression_at source names at ≡ Some it → IsExpression source names at it }
     ensures only { (source : Source) (names : List Declared) (at : ℕ) (it : Expr) → IsExpression source names at it → expression_at source names at ≡ Some it }
 {}
 
-/// Reading from left to right, with one look at each token, gives the well-formed type name at a place, and none
+/// Reading from left to right, as `specs/Parsing.antt` defines it, gives the well-formed type name at a place, and none
 /// exactly where there is none.
 pub fn reads_type_names()
     ensures found { (source : Source) (names : List Declared) (at : ℕ) (it : TypeName) → type_name_at source names at ≡ Some it → IsClosedName source names at it }

@@ -24,4 +24,3 @@ pub use part::{Part, above, begun, checked, joined, over};
 pub use reader::Reader;
 pub use scope::Scope;
 pub use shape::Shape;
-pub use typenodes::declarator_name;

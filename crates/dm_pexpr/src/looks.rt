@@ -129,8 +129,8 @@ impl Reader<'_> {
         }
     }
 
-    // The position behind a comma, if it stands here and no closing brace behind it.
-    pub(crate) fn behind_separator(&self, scope: &Scope, at: u32) -> Option<u32>
+    /// The position behind a comma, if it stands here and no closing brace behind it.
+    pub fn behind_separator(&self, scope: &Scope, at: u32) -> Option<u32>
         ensures { Passes (is (symbol_in (source_of self.now) scope.now at) Comma && not (is (symbol_in (source_of self.now) scope.now (at + 1)) RightBrace)) at (length self.now.tokens.now) result }
     {
         let next = self.behind(scope, at, Symbol::Comma)?;

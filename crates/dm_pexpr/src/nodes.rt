@@ -1,11 +1,12 @@
 //! Expressions that are put together of their parts.
 
 ghost use Rattle.std.specs.Prelude.{◌≡◌, ◌+◌, ◌<◌, ◌≤◌, ℕ, List, Option, Some, None, IfOk, length, nat_le, true, false, if◌then◌else◌};
+ghost use Rattle.dm_token.specs.Limits.{greatest_height};
 ghost use Rattle.dm_syn.specs.declared.declared.Declared.{Declared};
 ghost use Rattle.dm_syn.specs.Trees as tree;
 ghost use Rattle.dm_syn.specs.Views as view;
 ghost use Rattle.dm_syn.specs.Spans.{expr_span};
-ghost use Rattle.dm_pexpr.specs.Parsing.{paren_from, cast_with, sizeof_name_from, sizeof_expr_from, prefix_from, index_from, call_from, binary_from, assign_from, conditional_with, checked_expr, span_of, limit};
+ghost use Rattle.dm_pexpr.specs.Parsing.{paren_from, cast_with, sizeof_name_from, sizeof_expr_from, prefix_from, index_from, call_from, binary_from, assign_from, conditional_with, checked_expr, span_of};
 ghost use Rattle.dm_pexpr.specs.Parts.{source_of, Gives, IsPart, an_expr, a_type_name, exprs_from, member_from};
 
 use crate::part::{Part, above, checked, over};
@@ -300,7 +301,7 @@ impl Reader<'_> {
 
 // An expression of that form, unless it is too high.
 fn node(first: u32, after: u32, height: u32, form: ExprForm) -> Option<Part<Expr>>
-    ensures { result ≡ (if nat_le height limit then Some (record { tree = record { span = record { first = first; after = after }; form = form }; height = height; after = after }) else None) }
+    ensures { result ≡ (if nat_le height greatest_height then Some (record { tree = record { span = record { first = first; after = after }; form = form }; height = height; after = after }) else None) }
 {
     let tree = Expr {
         span: Span { first, after },

@@ -1,10 +1,11 @@
 //! Trees that are read.
 
 ghost use Rattle.std.specs.Prelude.{◌≡◌, ◌+◌, ◌<◌, ◌∷◌, ◌++◌, [], IfOk, max, nat_le, if◌then◌else◌};
+ghost use Rattle.dm_token.specs.Limits.{greatest_height};
+ghost use Rattle.dm_pexpr.specs.Counted.{most_counted};
 ghost use Rattle.dm_syn.specs.Heights as height;
-ghost use Rattle.dm_pexpr.specs.Parsing.{limit};
 
-use dm_token::{List, Memory};
+use dm_token::{GREATEST_HEIGHT, List, Memory};
 use std::alloc::Global;
 
 /// A tree or a list of trees that is read, with its height and where it ends.
@@ -17,9 +18,9 @@ pub struct Part<T> {
 
 /// A tree with its height and where it ends, unless it is too high.
 pub fn checked<T: Drop>(tree: T, height: u32, after: u32) -> Option<Part<T>>
-    ensures { result ≡ (if nat_le height limit then Some (record { tree = tree; height = height; after = after }) else None) }
+    ensures { result ≡ (if nat_le height greatest_height then Some (record { tree = tree; height = height; after = after }) else None) }
 {
-    if height <= 512 {
+    if height <= GREATEST_HEIGHT {
         Some(Part {
             tree,
             height,
@@ -32,14 +33,14 @@ pub fn checked<T: Drop>(tree: T, height: u32, after: u32) -> Option<Part<T>>
 
 /// One more than the height of a part.
 pub fn over(part: u32) -> u32
-    ensures { part < 1000 → result ≡ part + 1 }
+    ensures { part < most_counted → result ≡ part + 1 }
 {
     part.saturating_add(1)
 }
 
 /// One more than the height of the highest of two parts.
 pub fn above(left: u32, right: u32) -> u32
-    ensures { left < 1000 → right < 1000 → result ≡ height.above left right }
+    ensures { left < most_counted → right < most_counted → result ≡ height.above left right }
 {
     over(left.max(right))
 }

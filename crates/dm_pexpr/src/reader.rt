@@ -6,7 +6,7 @@ use crate::names::Names;
 use dm_token::CToken;
 use std::alloc::Global;
 
-/// Tokens, and whether a name that isn't declared among them names a type.
+/// Tokens, and what is known of names that aren't declared among them. A name of which nothing is known names no type.
 #[derive(Drop)]
 pub struct Reader<'a> {
     pub alloc: Global,

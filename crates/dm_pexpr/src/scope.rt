@@ -62,7 +62,7 @@ impl Scope {
         self.latest.get(name)
     }
 
-    /// Declares a name. After an `Err` nothing is declared any more.
+    /// Declares a name. What is declared after an `Err` is left open.
     pub fn declare(&mut self, name: &Text, is_type: bool) -> Result<(), Memory>
         ensures { OnOk result (self.new ≡ record { name = name.now; is_type = is_type } ∷ self.old) }
     {
@@ -84,7 +84,7 @@ impl Scope {
         }
     }
 
-    /// Ends the scope of all but the first so many declarations. After an `Err` nothing is declared any more.
+    /// Ends the scope of all but the first so many declarations. What is declared after an `Err` is left open.
     pub fn end(&mut self, kept: usize) -> Result<(), Memory>
         ensures { OnOk result (self.new ≡ drop (length self.old - kept) self.old) }
     {
@@ -94,7 +94,7 @@ impl Scope {
         Ok(())
     }
 
-    /// Enters the declarations into names, so that the latest of a name counts. After an `Err` some of them are in.
+    /// Enters the declarations into names, so that the latest of a name counts. What the names are after an `Err` is left open.
     pub fn settle(&self, names: &mut Names) -> Result<(), Memory>
         ensures { OnOk result (names.new ≡ known_with names.old self.now) }
     {

@@ -16,7 +16,9 @@ use dm_syn::{Expr, ExprForm, Symbol, infix_level};
 use dm_token::{List, Span};
 
 impl Reader<'_> {
-    /// The level of an expression, from 0 for one with commas to 16 for a primary expression.
+    /// The level of an expression, which is that of the first production of 6.5 that derives it: 0 with commas, 1 an
+    /// assignment, 2 a conditional expression, 3 to 12 operators between two operands, 13 a cast, 14 a unary, 15 a postfix
+    /// and 16 a primary expression.
     pub fn level(&self, expr: &Expr) -> u8
         ensures { result ≡ meant_level (source_of self.now) (view.expr expr.now) }
     {

@@ -6,13 +6,14 @@ ghost use Rattle.dm_syn.specs.declared.symbol.Symbol.TheVariants as symbol;
 ghost use Rattle.dm_syn.specs.Symbols.{is};
 ghost use Rattle.dm_syn.specs.Sources.{Source, symbol_in};
 ghost use Rattle.dm_syn.specs.Spans.{pointers_after};
-ghost use Rattle.dm_syn.specs.Heights.{words_node, pointers_node, named_node, is_absent as meant_absent, is_nothing as meant_is_nothing};
-ghost use Rattle.dm_syn.specs.Scopes.{declaration_of, declarator_name as meant_name, direct_name as meant_innermost, declarator_declares, enumerator_declares};
+ghost use Rattle.dm_syn.specs.Heights.{words_node, pointers_node, named_node};
+ghost use Rattle.dm_syn.specs.Scopes.{declaration_of, declarator_declares, enumerator_declares};
 ghost use Rattle.dm_syn.specs.Grammar.{tag_after};
 ghost use Rattle.dm_syn.specs.Trees as tree;
 ghost use Rattle.dm_syn.specs.Views as view;
 ghost use Rattle.dm_pexpr.specs.Parsing.{span_of, type_name_with, parameter_with, specifiers_from, tag_at, struct_from, struct_tagged, prepend_declarator, member_with, prepend_enumerator, enum_with, enum_tagged, valued_from, declarator_with, enclosed_from, checked_direct, sized_from, function_from, nothing as meant_nothing, pointers as meant_pointers, consts as meant_consts, all_turns};
 ghost use Rattle.dm_pexpr.specs.Shapes.{shape_of};
+ghost use Rattle.dm_pexpr.specs.Counted.{most_counted};
 ghost use Rattle.dm_pexpr.specs.Parts.{source_of, Passes, Gives, IsPart, an_expr, a_type_name, the_specifiers, a_specifier, a_member, an_enumerator, a_declarator, a_direct, a_parameter, words_from, members_from, enumerators_from, declarators_from, parameters_from, AreClosed, OpensSuffix};
 
 use crate::part::{Part, above, checked, over};
@@ -21,7 +22,7 @@ use crate::scope::Scope;
 use crate::shape::Shape;
 use dm_syn::{
     Declarator, Direct, EnumForm, EnumItem, Expr, MemberForm, Parameter, Specifier, Specifiers,
-    StructForm, Symbol, TypeName,
+    StructForm, Symbol, TypeName, declarator_name, is_absent,
 };
 use dm_token::{Boxed, List, Memory, Span};
 
@@ -466,7 +467,7 @@ pub(crate) fn nothing(shape: Shape, at: u32) -> Option<Part<Direct>>
 
 // The height of specifiers of which the highest has that height. One alone is no node.
 fn words_height(words: &[Specifier], highest: u32) -> u32
-    ensures { highest < 1000 → result ≡ words_node (view.words (map view.specifier words.now)) highest }
+    ensures { highest < most_counted → result ≡ words_node (view.words (map view.specifier words.now)) highest }
 {
     match words {
         [] => 0,
@@ -477,7 +478,7 @@ fn words_height(words: &[Specifier], highest: u32) -> u32
 
 // The height of a declarator with these pointers. Without pointers it is no node.
 fn pointed_height(pointers: &List<u32>, direct: u32) -> u32
-    ensures { direct < 1000 → result ≡ pointers_node pointers.now direct }
+    ensures { direct < most_counted → result ≡ pointers_node pointers.now direct }
 {
     if pointers.is_empty() {
         direct
@@ -488,47 +489,11 @@ fn pointed_height(pointers: &List<u32>, direct: u32) -> u32
 
 // The height of specifiers with a declarator, which may be empty.
 fn named_height(specifiers: u32, declarator: &Part<Declarator>) -> u32
-    ensures { specifiers < 1000 → declarator.now.height < 1000 → result ≡ named_node specifiers (view.declarator declarator.now.tree) declarator.now.height }
+    ensures { specifiers < most_counted → declarator.now.height < most_counted → result ≡ named_node specifiers (view.declarator declarator.now.tree) declarator.now.height }
 {
     if is_absent(&declarator.tree) {
         specifiers
     } else {
         above(specifiers, declarator.height)
-    }
-}
-
-// Whether an abstract declarator is empty.
-fn is_absent(declarator: &Declarator) -> bool
-    ensures { result ≡ meant_absent (view.declarator declarator.now) }
-{
-    declarator.pointers.is_empty() && is_nothing(&declarator.direct)
-}
-
-// Whether nothing stands behind the pointers.
-fn is_nothing(direct: &Direct) -> bool
-    ensures { result ≡ meant_is_nothing (view.direct direct.now) }
-{
-    matches!(direct, Direct::Absent)
-}
-
-/// The identifier that a declarator declares, if it has one.
-#[cycle(naming)]
-pub fn declarator_name(declarator: &Declarator) -> Option<u32>
-    ensures { result ≡ meant_name (view.declarator declarator.now) }
-{
-    direct_name(&declarator.direct)
-}
-
-// The identifier that stands innermost.
-#[cycle(naming)]
-fn direct_name(direct: &Direct) -> Option<u32>
-    ensures { result ≡ meant_innermost (view.direct direct.now) }
-{
-    match direct {
-        Direct::Absent => None,
-        Direct::Name(name) => Some(*name),
-        Direct::Paren(inner) => declarator_name(inner.get()),
-        Direct::Array(inner, _) => direct_name(inner.get()),
-        Direct::Function(inner, _) => direct_name(inner.get()),
     }
 }

@@ -154,11 +154,6 @@ unlocked-second [] ys all = all
 unlocked-second (evaluated one ∷ xs) ys all = unlocked-second xs ys all
 unlocked-second (waiting node ∷ xs) ys all = unlocked-second xs ys all.1
 
-pub unlocked-both : (xs ys : List Item) → AreUnlocked xs → AreUnlocked ys → AreUnlocked (xs ++ ys)
-unlocked-both [] ys first second = second
-unlocked-both (evaluated one ∷ xs) ys first second = unlocked-both xs ys first second
-unlocked-both (waiting node ∷ xs) ys first second = (first.0, unlocked-both xs ys first.1 second)
-
 empty-first : {X : Type 0} (xs ys : List X) → xs ++ ys ≡ [] → xs ≡ []
 empty-first [] ys e = refl
 empty-first (x ∷ xs) ys e = absurd (cc)

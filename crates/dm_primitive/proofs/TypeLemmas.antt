@@ -48,10 +48,6 @@ more-fail (const type) c others b = both-fail (are_compatible type (bare b)) _ (
 pub never-one : (types : ℕ → CType) (a c : ℕ) (others : List ℕ) (b : CType) → match_as_parameters (all_of (map types (a ∷ c ∷ others))) (more_types b no_types) ≡ false
 never-one types a c others b = more-fail (types a) (types c) (all_of (map types others)) b
 
--- any parameter where there is to be none
-pub some-fail : (types : ℕ → CType) (a : ℕ) (others : List ℕ) → match_as_parameters (all_of (map types (a ∷ others))) no_types ≡ false
-some-fail types a others = rest-fails (types a) (all_of (map types others))
-
 -- ---- shapes
 
 pub never-pointer : (types : List CType) (one : Shape) (type : CType) → ((to : ℕ) → one ≡ shape.Pointer to → ⊥) → are_compatible (as_is types one) (pointer type) ≡ false

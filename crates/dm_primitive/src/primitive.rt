@@ -118,6 +118,7 @@ fn only(parameters: &[TypeId]) -> Option<TypeId>
 fn takes_nothing(types: &Types, parameters: &[TypeId]) -> bool
     ensures { result ≡ match_as_parameters (ctypes.all_of (map (type_of types.now) parameters.now)) ctypes.no_types }
 {
+    // Only the contract speaks of the types.
     let _ = types;
     match parameters.split_first() {
         None => true,

@@ -65,14 +65,14 @@ pub(crate) fn text(
     Ok(Err(Cause::Bounds))
 }
 
-/// The bytes of an object, 0 where it isn't there.
+/// The bytes of an object. Where it isn't there, 1: that shows at its first character.
 fn bytes_of(layout: &Layout, blocks: &Blocks, name: &Name) -> u64
     requires { AreKnown layout.now blocks.now }
     ensures { result ≡ primitives.most_in (laid_out layout.now) (memory.look (view_of_blocks layout.now blocks.now) (view_of_name name.now)) }
 {
     match kind_of(layout, blocks, name) {
         Some(kind) => size(layout, &kind),
-        None => 0,
+        None => 1,
     }
 }
 

@@ -24,7 +24,7 @@ use Rattle.dm_meaning.specs.Wholes.{IsWhole}
 use Rattle.dm_meaning.proofs.AnywhereLemmas.{whole-anywhere}
 use Rattle.dm_meaning.proofs.WholeLemmas.{typed-whole}
 use Rattle.dm_program.specs.declared.function.Function.{Function}
-use Rattle.dm_program.specs.Functions.{view_of_function, FunctionFits, AreFunctions, IsItems, AreBehind, IsBefore, at_number, in_place}
+use Rattle.dm_program.specs.Functions.{view_of_function, FunctionFits, IsItems, AreBehind, IsBefore, at_number, in_place}
 use Rattle.dm_program.specs.Sources.{Source, meant, IsSoundExternal}
 
 -- ---- external declarations are sound
@@ -180,9 +180,6 @@ module _ (source : Source) where
     fit = λ d. subst (λ found. IfSome found (FunctionFits source)) (sym (ap (λ them. at_number them d) is ∙ none-there (length source.unit.declared) d)) tt;
     count = ap length is ∙ length-replicate (length source.unit.declared) None;
   }
-
-  pub all-behind : (all : List (Option Function)) → AreBehind source [] all → AreFunctions source all
-  all-behind all h = record { same = λ d. h.same d ∙ ap (λ them. definition_in (defined them) d) h.whole; fit = h.fit }
 
   -- the external declaration is sound
   pub sound-behind : (rest : List CoreExternal) (external : CoreExternal) (left : List CoreExternal) (all : List (Option Function)) → left ≡ rest ++ external ∷ []

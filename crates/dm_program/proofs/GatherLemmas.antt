@@ -114,10 +114,6 @@ pub no-place : (places : List (Option ℕ)) (statics : List Static) → ArePlace
     → (n : ℕ) (x : Static) → slice_get statics n ≡ Some x → x.declared ≡ number → ⊥
 no-place places statics h number e n x found same = none-some n (sym e ∙ ap (place_of places) (sym same) ∙ h.back n x found)
 
-completed-declared : (one : Static) (initial : Option (Bor Initial)) → (completed one initial).declared ≡ one.declared
-completed-declared one None = refl
-completed-declared one (Some initial) = refl
-
 pub placed-set : (places : List (Option ℕ)) (statics : List Static) (at : ℕ) (one other : Static) → slice_get statics at ≡ Some one → other.declared ≡ one.declared → ArePlaced places statics
     → ArePlaced places (set statics at other)
 placed-set places statics at one other e same h = record {
@@ -164,17 +160,6 @@ placed-append places statics number one is inside none h = record {
     back-by i x (inr h2) =
         ap (λ (s : Static). place_of (set places number (Some (length statics))) s.declared) (sym h2.1) ∙ ap (place_of (set places number (Some (length statics)))) is
         ∙ ap place_in (set-here places number (Some (length statics)) inside) ∙ ap (λ k. Some k) (sym h2.0)
-
-none-at : (n d : ℕ) → place_of (replicate n None) d ≡ None
-none-at zero d = refl
-none-at (suc n) zero = refl
-none-at (suc n) (suc d) = none-at n d
-
-pub placed-none : (places : List (Option ℕ)) (n : ℕ) → places ≡ replicate n None → ArePlaced places []
-placed-none places n is = record {
-  there = λ d i e. absurd (none-some i (sym (ap (λ them. place_of them d) is ∙ none-at n d) ∙ e));
-  back = λ i x e. absurd (none-some x e);
-}
 
 -- a number more
 snoc : {A : Type 0} (n : ℕ) (none : A) → replicate n none ++ none ∷ [] ≡ replicate (suc n) none

@@ -122,12 +122,7 @@ module _ (table : Table) where
       let here : view_of_local table local ≡ local_seen (out-Local local) = folds.fold_out-Local Opened OpenedInitial Tree OpenedLocal (form_layer table) initial_layer (core_layer table) local_layer local in
       ap (λ (one : OpenedLocal). one.declarator.declared) here ∙ declared-by-initial (out-Local local).declared (out-Local local).defines (out-Local local).initial
 
-  -- a declarator without an initialiser, or with one
-  pub local-none : (local : Local) → (out-Local local).initial ≡ None → (view_of_local table local).declarator.initialiser ≡ None
-  local-none local is =
-      let here : view_of_local table local ≡ local_seen (out-Local local) = folds.fold_out-Local Opened OpenedInitial Tree OpenedLocal (form_layer table) initial_layer (core_layer table) local_layer local in
-      ap (λ (one : OpenedLocal). one.declarator.initialiser) (here ∙ ap (λ (initial : Option Initial). local_seen (record { declared = (out-Local local).declared; defines = (out-Local local).defines; initial = initial })) is)
-
+  -- a declarator with an initialiser
   pub local-some : (local : Local) (initial : Initial) → (out-Local local).initial ≡ Some initial
       → ((view_of_local table local).declarator.initialiser ≡ Some (view_of_initial table initial).initialiser) × ((view_of_local table local).expressions ≡ (view_of_initial table initial).expressions)
   local-some local initial is =

@@ -17,7 +17,7 @@ use Rattle.dm_tree.specs.declared.tree.Initial.{Initial}
 use Rattle.dm_tree.specs.declared.tree.Local.{Local, out-Local}
 use Rattle.dm_tree.specs.declared.unit.Declared.{Declared}
 use Rattle.dm_tree.specs.Trees as label
-use Rattle.dm_tree.specs.Trees.{Tree, listed, trees, is_statement, expressions_in}
+use Rattle.dm_tree.specs.Trees.{Tree, trees}
 use Rattle.dm_tree.specs.TypeNumbers.{all_pass, are_known, are_known_in_form, are_known_in_local, form_known, initial_known, core_known, local_known, passes_if_there}
 use Rattle.dm_tree.specs.Units.{Declaration}
 use Rattle.dm_tree.specs.Views.{Opened, OpenedInitial, OpenedLocal, opened, opened_form, view, view_of_local, view_of_declared, entries_of, if_there, declarators_of, expressions_of_locals, form_layer, initial_layer, core_layer, local_layer, local_of}
@@ -152,15 +152,6 @@ local-gathers a b local initial is defines inside fixed added = record {
   fit = λ n h all.
       added.fit n (length a.declared.now)
       (inside, known-there n initial (ap (λ one. passes_if_there (option_map (are_known_in_initial n) one)) is ∙ sym (local-known n local) ∙ h)) all;
-}
-
--- another adds nothing
-pub local-skipped : (a : Gathering) (local : Local) → ((table : Table) → is_static (entries_of table a.declared.now) (as_local (view_of_local table local)) ≡ false)
-    → Gathers a (λ n. are_known_in_local n local) (λ table. as_local (view_of_local table local) ∷ []) a
-local-skipped a local fixed = record {
-  declared = refl;
-  same = λ table. ap (λ test. if test then with_static (as_local (view_of_local table local)) (seen table a) else seen table a) (sym (fixed table));
-  fit = λ n h all. all;
 }
 
 -- an object of static storage duration is defined, and declared
@@ -364,9 +355,6 @@ pub some-gathers : (a b : Gathering) (one : Option Core) (x : Core) → one ≡ 
 some-gathers a b one x is g =
     gathers-as a b (KnownTree x) (KnownOption one) (LocalsIn x) (LocalsInOption one) (λ n h. ap (λ o. KnownOption o n) (sym is) ∙ h)
     (λ table. sym (append-nil (locals_in (view table x))) ∙ ap (λ o. LocalsInOption o table) (sym is)) g
-
-pub absent-gathers : (a : Gathering) (one : Option Core) → one ≡ None → Gathers a (KnownOption one) (LocalsInOption one) a
-absent-gathers a one is = gathers-as a a (KnownOption one) (KnownOption one) (λ table. []) (LocalsInOption one) (λ n h. h) (λ table. ap (λ o. LocalsInOption o table) (sym is)) (gathers-none a (KnownOption one))
 
 -- ---- what is so where a call succeeds
 

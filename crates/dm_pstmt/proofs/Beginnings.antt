@@ -17,6 +17,7 @@ use Rattle.dm_pexpr.proofs.SymbolTests.{is-it}
 use Rattle.dm_pexpr.proofs.SpecifierSymbols.{follows_declarator}
 use Rattle.dm_pexpr.proofs.Expressions.{fronts}
 use Rattle.dm_pexpr.proofs.Declarators.{specifiers-begin, it-is-not}
+use Rattle.dm_pexpr.proofs.TestLemmas.{unless}
 use Rattle.dm_pstmt.specs.Parsing.{stands, evaluating, lead_kind}
 use Rattle.dm_pstmt.proofs.Results.{in-symbol}
 
@@ -118,14 +119,9 @@ front-evaluates symbol.Continue h = absurd (h refl)
 front-evaluates symbol.Return h = absurd (h refl)
 front-evaluates _ h = refl
 
--- a test that can't hold
-pub fails-unless : (test : Bool) → (test ≡ true → ⊥) → test ≡ false
-fails-unless true h = absurd (h refl)
-fails-unless false h = refl
-
 -- and with nothing that no expression begins with
 pub front-not : (it other : Symbol) → (front_kind it ≡ no_front → ⊥) → front_kind other ≡ no_front → is it other ≡ false
-front-not it other h n = fails-unless (is it other) (λ same. h (ap front_kind (is-it it other same) ∙ n))
+front-not it other h n = unless (is it other) (λ same. h (ap front_kind (is-it it other same) ∙ n))
 
 pub initialiser-begins : (source : Source) (names : List Declared) (it : Initialiser) → IsInitialiser source names it → is (symbol_in source names (initialiser_span it).first) symbol.RightBrace ≡ false
 unfolding IsInitialiser

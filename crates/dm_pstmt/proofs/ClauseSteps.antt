@@ -16,13 +16,14 @@ use Rattle.dm_syn.specs.Statements.{optional_after}
 use Rattle.dm_pexpr.specs.declared.part.Part.{Part}
 use Rattle.dm_pexpr.specs.Parsing.{Parts, lower, span_of, and_then}
 use Rattle.dm_pexpr.specs.Parts.{IsPart, Gives, Passes, an_expr}
-use Rattle.dm_pexpr.proofs.Expressions.{holds}
+use Rattle.dm_pexpr.proofs.Expressions.{holds, if-true, if-false}
 use Rattle.dm_pexpr.proofs.PartLemmas.{part-of}
+use Rattle.dm_pexpr.proofs.TestLemmas.{fails}
 use Rattle.dm_pstmt.specs.Kinds.{an_optional}
 use Rattle.dm_pstmt.specs.Parsing.{within, stands, optional_of, enclosed_of, enclosed_by, checked_stmt, expression_with, return_with, stmt_by, evaluating, returning}
 use Rattle.dm_pstmt.specs.Steps.{closed_by, clause_of}
 use Rattle.dm_pstmt.proofs.StatementSteps.{within-parts, clause-there, no-clause-in}
-use Rattle.dm_pstmt.proofs.Wholes.{then-is, fails, if-so, if-not, whole-part}
+use Rattle.dm_pstmt.proofs.Wholes.{then-is, whole-part}
 
 -- a symbol that is passed, or isn't
 pub passes-there : (test : Bool) (at end : ℕ) (found : Option ℕ) → Passes test at end found → is_some found ≡ true → (test ≡ true) × (at < end)
@@ -86,13 +87,13 @@ pub nothing-read : (source : Source) (parts : Parts) (stop : Symbol) (names : Li
 unfolding optional_of
 nothing-read source parts stop names at there before_end =
     whole-part (an_optional source at) source names names (record { tree = None; height = 0; after = at }) None _ refl
-    (ap (and_then (closed_by source names at stop)) (if-so _ _ _ there) ∙ holds _ _ there)
+    (ap (and_then (closed_by source names at stop)) (if-true _ _ _ there) ∙ holds _ _ there)
     refl refl (omega arith) refl (omega arith) refl
 
 pub clause-wanted : (source : Source) (parts : Parts) (stop : Symbol) (names : List Declared) (at : ℕ) → stands source names at stop ≡ false
     → clause_of source parts stop names at ≡ and_then (closed_by source names at stop) (option_map Some (parts.expr 0 names at))
 unfolding optional_of
-clause-wanted source parts stop names at none = ap (and_then (closed_by source names at stop)) (if-not _ _ _ none)
+clause-wanted source parts stop names at none = ap (and_then (closed_by source names at stop)) (if-false _ _ _ none)
 
 -- statements of an expression that may be absent
 pub no-expression : (source : Source) (depth : ℕ) (names : List Declared) (at : ℕ) → clause_of source (lower source depth) symbol.Semicolon names at ≡ None → stmt_by source (within source depth) names at evaluating ≡ None
@@ -156,13 +157,3 @@ typedef-further source items at it found one now all there is so tested one_more
 pub typedef-all : (source : Source) (items : List Specifier) (at : ℕ) (found all : Bool) → length items ≤ at → (found || has_typedef source (view.words (map view.specifier (drop at items)))) ≡ all → found ≡ all
 typedef-all source items at found all past so =
     sym (or-false found) ∙ sym (at_drop_all (λ those. found || has_typedef source (view.words (map view.specifier those))) items at past) ∙ so
-
--- a comma before a closing brace
-pub and-first : (one other : Bool) → one ≡ false → (one && other) ≡ false
-and-first one other no_first = ap (λ test. test && other) no_first
-
-pub and-second : (one other : Bool) → one ≡ true → other ≡ true → (one && not other) ≡ false
-and-second one other first second = ap (λ test. test && not other) first ∙ ap (λ test. not test) second
-
-pub and-both : (one other : Bool) → one ≡ true → other ≡ false → (one && not other) ≡ true
-and-both one other first second = ap (λ test. test && not other) first ∙ ap (λ test. not test) second

@@ -1,6 +1,7 @@
 -- Well-formed initialisers and declarations are read from their tokens, where what reads their parts does so.
 use Rattle.std.proofs.Common.{◌≡◌, ℕ, zero, suc, ◌+◌, ◌<◌, ◌≤◌, Bool, true, false, not, ◌&&◌, List, [], ◌∷◌, ◌++◌, Option, Some, None, refl, sym, ap, ◌∙◌, subst, arith, length, option_map}
 use Rattle.dm_token.specs.declared.place.Span.{Span}
+use Rattle.dm_token.specs.Limits.{greatest_height}
 use Rattle.dm_syn.specs.declared.declared.Declared.{Declared}
 use Rattle.dm_syn.specs.declared.symbol.Symbol.{Symbol}
 use Rattle.dm_syn.specs.declared.symbol.Symbol.TheVariants as symbol
@@ -13,13 +14,14 @@ use Rattle.dm_syn.specs.Scopes.{specifiers_declares, named_declares, initialiser
 use Rattle.dm_syn.specs.Heights.{initialiser_height, initialisers_height, item_height, items_height, declaration_height, specifiers_height, stmt_height, switch_item_height}
 use Rattle.dm_syn.specs.Grammar.{IsTrailing, trailing_after}
 use Rattle.dm_syn.specs.Statements.{IsInitialiser, AreMoreInitialisers, IsItem, AreMoreItems, AreItems, IsDeclaration, IsStmt, IsSwitchItem}
-use Rattle.dm_pexpr.specs.Parsing.{named, limit, span_of, all_turns, and_then, lower, suffix_kind}
+use Rattle.dm_pexpr.specs.Parsing.{named, span_of, all_turns, and_then, lower, suffix_kind}
 use Rattle.dm_pexpr.proofs.SpecifierSymbols.{follows_specifiers, follows_declarator, identifier-follows}
 use Rattle.dm_pexpr.proofs.SymbolLemmas.{Stops}
 use Rattle.dm_pexpr.proofs.Positions.{present}
 use Rattle.dm_pexpr.proofs.Expressions.{fits, holds, it-is, if-true, if-false, both-tests, fronts}
 use Rattle.dm_pexpr.proofs.Declarators.{ReadsParts, specifiers-high}
 use Rattle.dm_pexpr.proofs.Completeness.{complete}
+use Rattle.dm_pexpr.proofs.TestLemmas.{second-no, first-no}
 use Rattle.dm_pstmt.specs.Parsing.{Reads, Within, stands, checked_initialiser, more_initialisers, braces_closed, braces_with, braces_from, valued, initialiser_of, initialised, item_behind, item_of, more_items, checked_declaration, declaration_closed, declaration_rest, declaration_with, declaration_behind, declaration_of}
 use Rattle.dm_pstmt.proofs.Results.{at-symbol, in-symbol}
 use Rattle.dm_pstmt.proofs.Positions.{initialiser-on, item-on}
@@ -28,10 +30,10 @@ use Rattle.dm_pstmt.proofs.Beginnings.{stands-there, stands-not, named-begins, i
 -- the trees of at most this height are read
 pub record ReadsWithin (source : Source) (inner : Within) (depth : ℕ) : Type 0 where
   pub parts : ReadsParts source inner.parts depth
-  pub initialiser : (names : List Declared) (it : Initialiser) → IsInitialiser source names it → initialiser_height it ≤ depth → initialiser_height it ≤ limit
+  pub initialiser : (names : List Declared) (it : Initialiser) → IsInitialiser source names it → initialiser_height it ≤ depth → initialiser_height it ≤ greatest_height
       → ends_initialiser (symbol_at source (initialiser_span it).after) ≡ true → inner.initialiser names (initialiser_span it).first ≡ Some it
-  pub stmt : (names : List Declared) (it : Stmt) → IsStmt source names it → stmt_height it ≤ depth → stmt_height it ≤ limit → inner.stmt names (stmt_span it).first ≡ Some it
-  pub labelled : (names : List Declared) (it : SwitchItem) → IsSwitchItem source names it → switch_item_height it ≤ depth → switch_item_height it ≤ limit → inner.labelled names (switch_item_span it).first ≡ Some it
+  pub stmt : (names : List Declared) (it : Stmt) → IsStmt source names it → stmt_height it ≤ depth → stmt_height it ≤ greatest_height → inner.stmt names (stmt_span it).first ≡ Some it
+  pub labelled : (names : List Declared) (it : SwitchItem) → IsSwitchItem source names it → switch_item_height it ≤ depth → switch_item_height it ≤ greatest_height → inner.labelled names (switch_item_span it).first ≡ Some it
 
 -- how the items between braces end
 abbrev TrailingAt : Source → ℕ → Bool → Type 0
@@ -49,13 +51,6 @@ ends-with : (source : Source) (at : ℕ) (trailing : Bool) → EndsBraces source
 ends-with source at true e = ap ends_initialiser e.0
 ends-with source at false e = ap ends_initialiser e.1
 
-second-no : (one other : Bool) → other ≡ false → (one && other) ≡ false
-second-no true other h = h
-second-no false other h = refl
-
-first-no : (one other : Bool) → one ≡ false → (one && other) ≡ false
-first-no one other h = ap (λ (it : Bool). it && other) h
-
 no-more : (source : Source) (names : List Declared) (at : ℕ) (trailing : Bool) → EndsBraces source at trailing
     → (stands source names at symbol.Comma && not (stands source names (at + 1) symbol.RightBrace)) ≡ false
 no-more source names at true e = second-no _ _ (ap not (stands-there source names (at + 1) symbol.RightBrace e.1 refl))
@@ -72,10 +67,10 @@ initialisers-follow source names at tree.no_initialisers trailing h e = ends-wit
 initialisers-follow source names at (tree.more_initialisers first others) trailing h e = ap ends_initialiser (at-symbol source names at symbol.Comma h.0 refl)
 
 -- initialisers
-module _ (source : Source) (read : Reads Initialiser) (depth : ℕ) (reads : (names : List Declared) (it : Initialiser) → IsInitialiser source names it → initialiser_height it ≤ depth → initialiser_height it ≤ limit
+module _ (source : Source) (read : Reads Initialiser) (depth : ℕ) (reads : (names : List Declared) (it : Initialiser) → IsInitialiser source names it → initialiser_height it ≤ depth → initialiser_height it ≤ greatest_height
     → ends_initialiser (symbol_at source (initialiser_span it).after) ≡ true → read names (initialiser_span it).first ≡ Some it) where
   more-read : (it : Initialisers) (turns : ℕ) (names : List Declared) (at : ℕ) (trailing : Bool) → AreMoreInitialisers source names at it
-      → initialisers_height it ≤ depth → initialisers_height it ≤ limit → length source.tokens < at + turns
+      → initialisers_height it ≤ depth → initialisers_height it ≤ greatest_height → length source.tokens < at + turns
       → EndsBraces source (initialisers_after at it) trailing → more_initialisers source read turns names at ≡ Some it
   unfolding AreMoreInitialisers initialisers_height more_initialisers
   more-read tree.no_initialisers zero names at trailing h d l t e = refl
@@ -92,7 +87,7 @@ module _ (source : Source) (read : Reads Initialiser) (depth : ℕ) (reads : (na
       (omega (arith, t, h.1, initialiser-on source names first h.2)) e)
 
   braces-read : (names : List Declared) (span : Span) (first : Initialiser) (others : Initialisers) (trailing : Bool) → IsInitialiser source names (tree.braces span (tree.more_initialisers first others) trailing)
-      → initialisers_height (tree.more_initialisers first others) ≤ depth → initialiser_height (tree.braces span (tree.more_initialisers first others) trailing) ≤ limit
+      → initialisers_height (tree.more_initialisers first others) ≤ depth → initialiser_height (tree.braces span (tree.more_initialisers first others) trailing) ≤ greatest_height
       → and_then (braces_from source read names span.first) (read names (span.first + 1)) ≡ Some (tree.braces span (tree.more_initialisers first others) trailing)
   unfolding IsInitialiser initialisers_height initialiser_height
   braces-read names span first others trailing h d l =
@@ -112,7 +107,7 @@ module _ (source : Source) (read : Reads Initialiser) (depth : ℕ) (reads : (na
 initialiser-stops-at : (source : Source) (names : List Declared) (at : ℕ) → ends_initialiser (symbol_at source at) ≡ true → Stops 1 (suffix_kind (symbol_in source names at))
 initialiser-stops-at source names at e = subst (λ (it : Symbol). Stops 1 (suffix_kind it)) (sym (ends-in source names at e)) (initialiser-stops (symbol_at source at) e)
 
-pub initialiser-read : (source : Source) (depth : ℕ) (names : List Declared) (it : Initialiser) → IsInitialiser source names it → initialiser_height it ≤ depth → initialiser_height it ≤ limit
+pub initialiser-read : (source : Source) (depth : ℕ) (names : List Declared) (it : Initialiser) → IsInitialiser source names it → initialiser_height it ≤ depth → initialiser_height it ≤ greatest_height
     → ends_initialiser (symbol_at source (initialiser_span it).after) ≡ true → initialiser_of source depth names (initialiser_span it).first ≡ Some it
 unfolding IsInitialiser initialiser_height initialiser_of lower
 initialiser-read source zero names (tree.value span expr) h d l e =
@@ -149,7 +144,7 @@ module _ (source : Source) (inner : Within) (depth : ℕ) (reads : ReadsWithin s
   item_declarator (tree.initialised span declarator initialiser) = declarator
 
   -- its declarator is read
-  pub item-declarator-read : (is_type : Bool) (names : List Declared) (it : Item) → IsItem source names is_type it → 1 ≤ depth → item_height it ≤ depth → item_height it ≤ limit
+  pub item-declarator-read : (is_type : Bool) (names : List Declared) (it : Item) → IsItem source names is_type it → 1 ≤ depth → item_height it ≤ depth → item_height it ≤ greatest_height
       → ends_item (symbol_at source (item_span it).after) ≡ true → inner.parts.declarator named names (item_span it).first ≡ Some (item_declarator it)
   unfolding IsItem item_height
   item-declarator-read is_type names (tree.plain span declarator) h some d l e =
@@ -162,7 +157,7 @@ module _ (source : Source) (inner : Within) (depth : ℕ) (reads : ReadsWithin s
       (ap follows_declarator (in-symbol source _ _ symbol.Equals (at-symbol source _ _ symbol.Equals h.3 refl) refl))
 
   -- and what stands behind it
-  pub item-behind-read : (is_type : Bool) (names : List Declared) (it : Item) → IsItem source names is_type it → item_height it ≤ depth → item_height it ≤ limit
+  pub item-behind-read : (is_type : Bool) (names : List Declared) (it : Item) → IsItem source names is_type it → item_height it ≤ depth → item_height it ≤ greatest_height
       → ends_item (symbol_at source (item_span it).after) ≡ true → item_behind source inner is_type names (item_span it).first (item_declarator it) ≡ Some it
   unfolding IsItem item_height
   item-behind-read is_type names (tree.plain span declarator) h d l e =
@@ -185,7 +180,7 @@ module _ (source : Source) (inner : Within) (depth : ℕ) (reads : ReadsWithin s
   item-no-body is_type names any (tree.initialised span declarator initialiser) h e =
       stands-not source any _ symbol.Equals symbol.LeftBrace (at-symbol source _ _ symbol.Equals h.3 refl) refl refl
 
-  item-read : (is_type : Bool) (names : List Declared) (it : Item) → IsItem source names is_type it → 1 ≤ depth → item_height it ≤ depth → item_height it ≤ limit
+  item-read : (is_type : Bool) (names : List Declared) (it : Item) → IsItem source names is_type it → 1 ≤ depth → item_height it ≤ depth → item_height it ≤ greatest_height
       → ends_item (symbol_at source (item_span it).after) ≡ true → item_of source inner is_type names (item_span it).first ≡ Some it
   unfolding item_of
   item-read is_type names it h some d l e =
@@ -199,7 +194,7 @@ module _ (source : Source) (inner : Within) (depth : ℕ) (reads : ReadsWithin s
   items-follow is_type names at (first ∷ others) h e = ap ends_item (at-symbol source names at symbol.Comma h.0 refl)
 
   more-items-read : (is_type : Bool) (it : List Item) (turns : ℕ) (names : List Declared) (at : ℕ) → AreMoreItems source names is_type at it → 1 ≤ depth
-      → items_height it ≤ depth → items_height it ≤ limit → length source.tokens < at + turns
+      → items_height it ≤ depth → items_height it ≤ greatest_height → length source.tokens < at + turns
       → symbol_at source (items_after at it) ≡ symbol.Semicolon → more_items source inner is_type turns names at ≡ Some it
   unfolding AreMoreItems items_height more_items
   more-items-read is_type [] zero names at h some d l t e = refl
@@ -216,7 +211,7 @@ module _ (source : Source) (inner : Within) (depth : ℕ) (reads : ReadsWithin s
 
   -- what closes a declaration
   closed-read : (span : Span) (specifiers : Specifiers) (items : List Item) (any : List Declared) → symbol_at source (items_after (specifiers_span specifiers).after items) ≡ symbol.Semicolon
-      → span.after ≡ items_after (specifiers_span specifiers).after items + 1 → declaration_height (tree.declaring span specifiers items) ≤ limit
+      → span.after ≡ items_after (specifiers_span specifiers).after items + 1 → declaration_height (tree.declaring span specifiers items) ≤ greatest_height
       → declaration_closed source any span.first specifiers items (items_after (specifiers_span specifiers).after items) ≡ Some (tree.declaring span specifiers items)
   closed-read span specifiers items any e p l =
       holds _ _ (stands-there source any _ symbol.Semicolon e refl)
@@ -225,7 +220,7 @@ module _ (source : Source) (inner : Within) (depth : ℕ) (reads : ReadsWithin s
 
   -- the specifiers of a declaration
   pub specifiers-read-first : (names : List Declared) (span : Span) (specifiers : Specifiers) (items : List Item) → IsDeclaration source names (tree.declaring span specifiers items)
-      → specifiers_height specifiers ≤ depth → specifiers_height specifiers ≤ limit → inner.parts.specifiers names span.first ≡ Some specifiers
+      → specifiers_height specifiers ≤ depth → specifiers_height specifiers ≤ greatest_height → inner.parts.specifiers names span.first ≡ Some specifiers
   unfolding IsDeclaration AreItems items_declares
   specifiers-read-first names span specifiers [] h d l =
       ap (inner.parts.specifiers names) (sym h.0) ∙ reads.parts.specifiers names specifiers h.1 d l (ap follows_specifiers h.3)
@@ -240,7 +235,7 @@ module _ (source : Source) (inner : Within) (depth : ℕ) (reads : ReadsWithin s
 
   -- Behind the specifiers of a declaration with items, these are read.
   pub with-read : (names : List Declared) (span : Span) (specifiers : Specifiers) (first : Item) (others : List Item) → IsDeclaration source names (tree.declaring span specifiers (first ∷ others)) → 1 ≤ depth
-      → items_height (first ∷ others) ≤ depth → declaration_height (tree.declaring span specifiers (first ∷ others)) ≤ limit
+      → items_height (first ∷ others) ≤ depth → declaration_height (tree.declaring span specifiers (first ∷ others)) ≤ greatest_height
       → declaration_with source inner (specifiers_declares source specifiers ++ names) span.first specifiers first ≡ Some (tree.declaring span specifiers (first ∷ others))
   unfolding IsDeclaration AreItems items_height declaration_height
   with-read names span specifiers first others h some d l =
@@ -267,13 +262,13 @@ module _ (source : Source) (inner : Within) (depth : ℕ) (reads : ReadsWithin s
 
   -- and a declaration without items is read
   pub none-read : (names : List Declared) (span : Span) (specifiers : Specifiers) → IsDeclaration source names (tree.declaring span specifiers [])
-      → declaration_height (tree.declaring span specifiers []) ≤ limit
+      → declaration_height (tree.declaring span specifiers []) ≤ greatest_height
       → declaration_closed source (specifiers_declares source specifiers ++ names) span.first specifiers [] (specifiers_span specifiers).after ≡ Some (tree.declaring span specifiers [])
   unfolding IsDeclaration AreItems
   none-read names span specifiers h l = closed-read span specifiers [] _ (at-symbol source _ _ symbol.Semicolon h.3 refl) h.4 l
 
   behind-read : (names : List Declared) (span : Span) (specifiers : Specifiers) (items : List Item) → IsDeclaration source names (tree.declaring span specifiers items) → 1 ≤ depth
-      → items_height items ≤ depth → declaration_height (tree.declaring span specifiers items) ≤ limit
+      → items_height items ≤ depth → declaration_height (tree.declaring span specifiers items) ≤ greatest_height
       → declaration_behind source inner (specifiers_declares source specifiers ++ names) span.first specifiers ≡ Some (tree.declaring span specifiers items)
   unfolding IsDeclaration AreItems items_height declaration_height items_declares
   behind-read names span specifiers [] h some d l = if-true _ _ _ (it-is _ symbol.Semicolon h.3) ∙ none-read names span specifiers h l
@@ -285,7 +280,7 @@ module _ (source : Source) (inner : Within) (depth : ℕ) (reads : ReadsWithin s
       ∙ with-read names span specifiers first others h some d l
 
   -- A well-formed declaration is the one that is read.
-  pub declaration-read : (names : List Declared) (it : Declaration) → IsDeclaration source names it → declaration_height it ≤ depth + 1 → declaration_height it ≤ limit
+  pub declaration-read : (names : List Declared) (it : Declaration) → IsDeclaration source names it → declaration_height it ≤ depth + 1 → declaration_height it ≤ greatest_height
       → declaration_of source inner names (declaration_span it).first ≡ Some it
   unfolding declaration_height declaration_of
   declaration-read names (tree.declaring span specifiers items) h d l =

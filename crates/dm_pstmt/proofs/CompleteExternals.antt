@@ -1,6 +1,7 @@
 -- A well-formed external declaration is the one that is read.
-use Rattle.std.proofs.Common.{◌≡◌, ℕ, zero, suc, ◌+◌, ◌≤◌, true, false, List, [], ◌∷◌, ◌++◌, Some, None, refl, sym, ap, ◌∙◌, arith, option_map}
+use Rattle.std.proofs.Common.{◌≡◌, ℕ, zero, suc, ◌+◌, ◌-◌, ◌≤◌, true, false, List, [], ◌∷◌, ◌++◌, Some, None, refl, sym, ap, ◌∙◌, arith, option_map}
 use Rattle.dm_token.specs.declared.place.Span.{Span}
+use Rattle.dm_token.specs.Limits.{greatest_height}
 use Rattle.dm_syn.specs.declared.declared.Declared.{Declared}
 use Rattle.dm_syn.specs.declared.symbol.Symbol.{Symbol}
 use Rattle.dm_syn.specs.declared.symbol.Symbol.TheVariants as symbol
@@ -12,11 +13,11 @@ use Rattle.dm_syn.specs.Spans.{declarator_span}
 use Rattle.dm_syn.specs.Scopes.{specifiers_declares, declarator_declares, named_declares, defines_types, items_declares}
 use Rattle.dm_syn.specs.Heights.{height_of, declaration_height, specifiers_height, items_height, stmt_height, switch_item_height}
 use Rattle.dm_syn.specs.Statements.{IsStmt, IsExternal, IsDeclaration, AreItems, own_parameters, body_declares}
-use Rattle.dm_pexpr.specs.Parsing.{named, limit, span_of, and_then, lower, checked}
+use Rattle.dm_pexpr.specs.Parsing.{named, span_of, and_then, lower, checked}
 use Rattle.dm_pexpr.proofs.SpecifierSymbols.{follows_specifiers, identifier-follows}
 use Rattle.dm_pexpr.proofs.Expressions.{fits, holds, it-is, if-true, if-false}
 use Rattle.dm_pexpr.proofs.Declarators.{declarator-before-body}
-use Rattle.dm_pexpr.proofs.Completeness.{complete}
+use Rattle.dm_pexpr.proofs.Completeness.{complete, more-depth}
 use Rattle.dm_pstmt.specs.Parsing.{Within, stands, within, item_behind, declaration_with, external_declared, definition_with, external_with, external_behind, external_of}
 use Rattle.dm_pstmt.specs.Readings.{IsExternalAt, external_at}
 use Rattle.dm_pstmt.proofs.Results.{alike}
@@ -43,9 +44,6 @@ unfolding switch_item_height
 labelled-high (tree.case span label item) = omega arith
 labelled-high (tree.default span item) = omega arith
 labelled-high (tree.unlabelled span stmt) = stmt-high stmt
-
-more-depth : (n depth : ℕ) → n ≤ suc depth → n ≤ depth + 1
-more-depth n depth h = omega (arith, h)
 
 -- every well-formed tree of a height up to the depth is read
 complete-within : (source : Source) (depth : ℕ) → ReadsWithin source (within source depth) depth
@@ -84,7 +82,7 @@ module _ (source : Source) (depth : ℕ) where
   definition-declarator names specifiers declarator (tree.return body expr) span h = absurd h.7
 
   definition-read : (names : List Declared) (span : Span) (specifiers : Specifiers) (declarator : Declarator) (body : Stmt) → IsExternal source names (tree.definition span specifiers declarator body)
-      → height_of (tree.definition span specifiers declarator body) ≤ suc depth → height_of (tree.definition span specifiers declarator body) ≤ limit
+      → height_of (tree.definition span specifiers declarator body) ≤ suc depth → height_of (tree.definition span specifiers declarator body) ≤ greatest_height
       → external_of source (within source (suc depth)) names span.first ≡ Some (tree.definition span specifiers declarator body)
   unfolding IsExternal height_of external_of within lower
   definition-read names span specifiers declarator body h d l =
@@ -112,7 +110,7 @@ module _ (source : Source) (depth : ℕ) where
 
   module _ (inner : Within) (reads : ReadsWithin source inner depth) where
     declared-behind : (names : List Declared) (span : Span) (specifiers : Specifiers) (items : List Item) → IsDeclaration source names (tree.declaring span specifiers items) → 1 ≤ depth
-        → items_height items ≤ depth → declaration_height (tree.declaring span specifiers items) ≤ limit
+        → items_height items ≤ depth → declaration_height (tree.declaring span specifiers items) ≤ greatest_height
         → external_behind source inner (specifiers_declares source specifiers ++ names) span.first specifiers ≡ Some (external_declared span.first (tree.declaring span specifiers items))
     unfolding IsDeclaration AreItems items_height declaration_height items_declares
     declared-behind names span specifiers [] h some d l =
@@ -131,7 +129,7 @@ module _ (source : Source) (depth : ℕ) where
         ∙ with-read source inner depth reads names span specifiers first others h some d l)
 
     declared-read : (names : List Declared) (span : Span) (declaration : Declaration) → IsExternal source names (tree.external span declaration)
-        → declaration_height declaration ≤ depth + 1 → declaration_height declaration ≤ limit → external_of source inner names span.first ≡ Some (tree.external span declaration)
+        → declaration_height declaration ≤ depth + 1 → declaration_height declaration ≤ greatest_height → external_of source inner names span.first ≡ Some (tree.external span declaration)
     unfolding IsExternal declaration_height external_of
     declared-read names span (tree.declaring own specifiers items) h d l =
         let high : 1 ≤ specifiers_height specifiers = declared-high source inner depth reads names own specifiers items h.1 in
@@ -146,7 +144,7 @@ pub external-only : (source : Source) (names : List Declared) (at : ℕ) (it : E
 unfolding height_of
 external-only source names at (tree.external span declaration) stands =
     ap (external_at source names) (sym stands.begins)
-    ∙ declared-read source 512 (within source 512) (complete-within source 512) names span declaration stands.formed.0 (omega (arith, stands.formed.1)) stands.formed.1
+    ∙ declared-read source greatest_height (within source greatest_height) (complete-within source greatest_height) names span declaration stands.formed.0 (omega (arith, stands.formed.1)) stands.formed.1
 external-only source names at (tree.definition span specifiers declarator body) stands =
     ap (external_at source names) (sym stands.begins)
-    ∙ definition-read source 511 names span specifiers declarator body stands.formed.0 stands.formed.1 stands.formed.1
+    ∙ definition-read source (greatest_height - 1) names span specifiers declarator body stands.formed.0 stands.formed.1 stands.formed.1

@@ -1,5 +1,6 @@
 -- Well-formed statements are read from their tokens, where what reads their parts does so.
 use Rattle.std.proofs.Common.{◌≡◌, ℕ, zero, suc, ◌+◌, ◌<◌, ◌≤◌, false, List, ◌++◌, Option, Some, None, refl, sym, ap, ◌∙◌, arith, length, option_map}
+use Rattle.dm_token.specs.Limits.{greatest_height}
 use Rattle.dm_syn.specs.declared.declared.Declared.{Declared}
 use Rattle.dm_syn.specs.declared.symbol.Symbol.{Symbol}
 use Rattle.dm_syn.specs.declared.symbol.Symbol.TheVariants as symbol
@@ -11,7 +12,7 @@ use Rattle.dm_syn.specs.Spans.{expr_span, stmt_span, block_item_span, block_item
 use Rattle.dm_syn.specs.Scopes.{expr_declares, optional_declares, start_declares, block_item_declares, switch_item_declares}
 use Rattle.dm_syn.specs.Heights.{expr_height, optional_height, start_height, stmt_height, block_items_height, block_item_height, switch_items_height, switch_item_height}
 use Rattle.dm_syn.specs.Statements.{IsOptional, optional_after, IsStart, start_after, IsEnclosed, IsStmt, AreBlockItems, IsBlockItem, AreSwitchItems, IsSwitchItem}
-use Rattle.dm_pexpr.specs.Parsing.{limit, span_of, all_turns, and_then, suffix_kind, no_suffix, front_kind, no_front}
+use Rattle.dm_pexpr.specs.Parsing.{span_of, all_turns, and_then, suffix_kind, no_suffix, front_kind, no_front}
 use Rattle.dm_pexpr.proofs.SpecifierSymbols.{specifier-no-right-brace}
 use Rattle.dm_pexpr.proofs.SymbolLemmas.{stops-none, front-no-specifier}
 use Rattle.dm_pexpr.proofs.Positions.{present}
@@ -20,8 +21,9 @@ use Rattle.dm_pexpr.proofs.Declarators.{it-is-not}
 use Rattle.dm_pstmt.specs.Parsing.{Within, declaration_of, optional_of, enclosed_by, enclosed_of, checked_stmt, expression_with, return_with, block_item_of, block_items, block_with, else_with, if_behind, if_with, switch_items, switch_braced, switch_with, while_behind, while_with, do_behind, do_with, start_with, start_of, for_body, for_step, for_condition, for_start, lead_kind, stmt_by, stmt_of, checked_item, case_behind, case_with, default_behind, unlabelled_with, labelled_of}
 use Rattle.dm_pstmt.proofs.Results.{at-symbol, in-symbol, alike}
 use Rattle.dm_pstmt.proofs.Positions.{block-items-on, block-item-on, switch-items-on, switch-item-on}
-use Rattle.dm_pstmt.proofs.Beginnings.{stands-there, front-evaluates, front-not, fails-unless, declaration-begins, stmt-begins, stmt-no-right-brace, stmt-no-case, stmt-no-default, stmt-no-specifier, labelled-begins}
+use Rattle.dm_pstmt.proofs.Beginnings.{stands-there, front-evaluates, front-not, declaration-begins, stmt-begins, stmt-no-right-brace, stmt-no-case, stmt-no-default, stmt-no-specifier, labelled-begins}
 use Rattle.dm_pexpr.proofs.SymbolTests.{is-it}
+use Rattle.dm_pexpr.proofs.TestLemmas.{unless}
 use Rattle.dm_pstmt.proofs.CompleteDeclarations.{ReadsWithin, declaration-read}
 
 more : (m depth : ℕ) → m ≤ depth → m ≤ depth + 1
@@ -29,7 +31,7 @@ more m depth h = omega (arith, h)
 
 module _ (source : Source) (inner : Within) (depth : ℕ) (reads : ReadsWithin source inner depth) where
   -- an expression that may be absent, up to a symbol with which no expression goes on
-  optional-read : (stop : Symbol) (names : List Declared) (at : ℕ) (it : Option Expr) → IsOptional source names at it → optional_height it ≤ depth → optional_height it ≤ limit
+  optional-read : (stop : Symbol) (names : List Declared) (at : ℕ) (it : Option Expr) → IsOptional source names at it → optional_height it ≤ depth → optional_height it ≤ greatest_height
       → symbol_at source (optional_after at it) ≡ stop → is_identifier stop ≡ false → suffix_kind stop ≡ no_suffix → front_kind stop ≡ no_front
       → optional_of source inner.parts stop names at ≡ Some it
   unfolding optional_of
@@ -40,7 +42,7 @@ module _ (source : Source) (inner : Within) (depth : ℕ) (reads : ReadsWithin s
       ∙ reads.parts.expr 0 names expr h.1 (omega arith) d l (stops-none 0 _ (ap suffix_kind (in-symbol source (expr_declares source expr ++ names) _ stop e i) ∙ s)))
 
   -- an expression in parentheses
-  enclosed-read : (names : List Declared) (at : ℕ) (it : Expr) → IsEnclosed source names at it → expr_height it ≤ depth → expr_height it ≤ limit → enclosed_of source inner.parts names at ≡ Some it
+  enclosed-read : (names : List Declared) (at : ℕ) (it : Expr) → IsEnclosed source names at it → expr_height it ≤ depth → expr_height it ≤ greatest_height → enclosed_of source inner.parts names at ≡ Some it
   unfolding enclosed_of
   enclosed-read names at it h d l =
       holds _ _ (it-is _ symbol.LeftParen h.0)
@@ -49,10 +51,10 @@ module _ (source : Source) (inner : Within) (depth : ℕ) (reads : ReadsWithin s
       ∙ holds _ _ (it-is _ symbol.RightParen h.3)
 
   -- a statement that is a part
-  part-read : (names : List Declared) (at : ℕ) (it : Stmt) → (stmt_span it).first ≡ at → IsStmt source names it → stmt_height it ≤ depth → stmt_height it ≤ limit → inner.stmt names at ≡ Some it
+  part-read : (names : List Declared) (at : ℕ) (it : Stmt) → (stmt_span it).first ≡ at → IsStmt source names it → stmt_height it ≤ depth → stmt_height it ≤ greatest_height → inner.stmt names at ≡ Some it
   part-read names at it p h d l = ap (inner.stmt names) (sym p) ∙ reads.stmt names it h d l
 
-  block-item-read : (names : List Declared) (it : BlockItem) → IsBlockItem source names it → block_item_height it ≤ depth → block_item_height it ≤ limit
+  block-item-read : (names : List Declared) (it : BlockItem) → IsBlockItem source names it → block_item_height it ≤ depth → block_item_height it ≤ greatest_height
       → block_item_of source inner names (block_item_span it).first ≡ Some it
   unfolding IsBlockItem block_item_height block_item_of
   block-item-read names (tree.declared_item declaration) h d l =
@@ -67,7 +69,7 @@ module _ (source : Source) (inner : Within) (depth : ℕ) (reads : ReadsWithin s
   block-item-begins names (tree.stated_item stmt) h = stmt-no-right-brace _ (stmt-begins source names stmt h)
 
   block-items-read : (it : BlockItems) (turns : ℕ) (names : List Declared) (at : ℕ) (behind : List Declared) → AreBlockItems source names at it behind
-      → block_items_height it ≤ depth → block_items_height it ≤ limit → length source.tokens < at + turns
+      → block_items_height it ≤ depth → block_items_height it ≤ greatest_height → length source.tokens < at + turns
       → symbol_in source behind (block_items_after at it) ≡ symbol.RightBrace → block_items source inner turns names at ≡ Some it
   unfolding AreBlockItems block_items_height block_items
   block-items-read tree.no_items zero names at behind h d l t e = absurd (omega (arith, t, present source behind at symbol.RightBrace e (λ (it : symbol.RightBrace ≡ symbol.End). cc)))
@@ -90,7 +92,7 @@ module _ (source : Source) (inner : Within) (depth : ℕ) (reads : ReadsWithin s
       (omega (arith, t, h.0, block-item-on source names first h.1)) e)
 
   switch-items-read : (it : SwitchItems) (turns : ℕ) (names : List Declared) (at : ℕ) (behind : List Declared) → AreSwitchItems source names at it behind
-      → switch_items_height it ≤ depth → switch_items_height it ≤ limit → length source.tokens < at + turns
+      → switch_items_height it ≤ depth → switch_items_height it ≤ greatest_height → length source.tokens < at + turns
       → symbol_in source behind (switch_items_after at it) ≡ symbol.RightBrace → switch_items source inner turns names at ≡ Some it
   unfolding AreSwitchItems switch_items_height switch_items
   switch-items-read tree.no_switch_items zero names at behind h d l t e = absurd (omega (arith, t, present source behind at symbol.RightBrace e (λ (it : symbol.RightBrace ≡ symbol.End). cc)))
@@ -112,7 +114,7 @@ module _ (source : Source) (inner : Within) (depth : ℕ) (reads : ReadsWithin s
       (switch-items-read others turns (switch_item_declares source first ++ names) (switch_item_span first).after behind h.2 (omega (arith, d)) (omega (arith, l))
       (omega (arith, t, h.0, switch-item-on source names first h.1)) e)
 
-  start-read : (names : List Declared) (at : ℕ) (it : ForStart) → IsStart source names at it → start_height it ≤ depth → start_height it ≤ limit → start_of source inner names at ≡ Some it
+  start-read : (names : List Declared) (at : ℕ) (it : ForStart) → IsStart source names at it → start_height it ≤ depth → start_height it ≤ greatest_height → start_of source inner names at ≡ Some it
   unfolding IsStart start_of
   start-read names at (tree.declares declaration) h d l =
       if-true _ _ _ (ap (λ (place : ℕ). begins_specifiers (symbol_in source names place)) (sym h.0) ∙ declaration-begins source names declaration h.1)
@@ -127,7 +129,7 @@ module _ (source : Source) (inner : Within) (depth : ℕ) (reads : ReadsWithin s
       ∙ holds _ _ (it-is _ symbol.Semicolon h.1)
 
   -- A well-formed statement is the one that is read.
-  pub stmt-read : (names : List Declared) (it : Stmt) → IsStmt source names it → stmt_height it ≤ depth + 1 → stmt_height it ≤ limit → stmt_of source inner names (stmt_span it).first ≡ Some it
+  pub stmt-read : (names : List Declared) (it : Stmt) → IsStmt source names it → stmt_height it ≤ depth + 1 → stmt_height it ≤ greatest_height → stmt_of source inner names (stmt_span it).first ≡ Some it
   unfolding IsStmt stmt_height stmt_of stmt_by
   stmt-read names (tree.block span items) h d l =
       ap (stmt_by source inner names span.first) (ap lead_kind h.0)
@@ -151,7 +153,7 @@ module _ (source : Source) (inner : Within) (depth : ℕ) (reads : ReadsWithin s
       ap (stmt_by source inner names span.first) (ap lead_kind h.0)
       ∙ ap (and_then (if_with source inner names span.first)) (enclosed-read names (span.first + 1) condition h.1 (omega (arith, d)) (omega (arith, l)))
       ∙ ap (and_then (if_behind source inner names span.first condition)) (part-read _ _ body h.2 h.3 (omega (arith, d)) (omega (arith, l)))
-      ∙ if-false _ _ _ (fails-unless _ (λ same. h.4 (is-it _ symbol.Else same)))
+      ∙ if-false _ _ _ (unless _ (λ same. h.4 (is-it _ symbol.Else same)))
       ∙ ap (λ (after : ℕ). checked_stmt (tree.if_only (span_of span.first after) condition body)) (sym h.5)
       ∙ fits _ _ l
   stmt-read names (tree.if_else span condition body other) h d l =
@@ -215,7 +217,7 @@ module _ (source : Source) (inner : Within) (depth : ℕ) (reads : ReadsWithin s
       ∙ fits _ _ l
 
   -- A well-formed statement with labels is the one that is read.
-  pub labelled-read : (names : List Declared) (it : SwitchItem) → IsSwitchItem source names it → switch_item_height it ≤ depth + 1 → switch_item_height it ≤ limit
+  pub labelled-read : (names : List Declared) (it : SwitchItem) → IsSwitchItem source names it → switch_item_height it ≤ depth + 1 → switch_item_height it ≤ greatest_height
       → labelled_of source inner names (switch_item_span it).first ≡ Some it
   unfolding IsSwitchItem switch_item_height labelled_of
   labelled-read names (tree.case span label item) h d l =

@@ -1,6 +1,7 @@
 -- Initialisers and declarations that are put together of parts.
 use Rattle.std.proofs.Common.{◌≡◌, ◌≤◌, ◌<◌, ℕ, ◌+◌, List, ◌++◌, length, map, max, Bool, true, false, Option, Some, None, option_map, nat_le, refl, sym, ap, ◌∙◌, arith, lit≤, append_assoc, if◌then◌else◌}
 use Rattle.std.specs.Prelude.{unwrap_or, is_some}
+use Rattle.dm_token.specs.Limits.{greatest_height}
 use Rattle.dm_syn.specs.declared.declared.Declared.{Declared}
 use Rattle.dm_syn.specs.declared.expression.Expr.{Expr}
 use Rattle.dm_syn.specs.declared.declaration.Specifiers.{Specifiers}
@@ -18,15 +19,17 @@ use Rattle.dm_syn.specs.Scopes.{specifiers_declares, initialiser_declares, named
 use Rattle.dm_syn.specs.Grammar.{trailing_after}
 use Rattle.dm_syn.specs.Views as view
 use Rattle.dm_pexpr.specs.declared.part.Part.{Part}
-use Rattle.dm_pexpr.specs.Parsing.{limit, span_of, and_then}
+use Rattle.dm_pexpr.specs.Parsing.{span_of, and_then}
+use Rattle.dm_pexpr.specs.Counted.{most_counted}
 use Rattle.dm_pexpr.specs.Parts.{IsPart, Gives, Passes, an_expr, the_specifiers, a_declarator}
 use Rattle.dm_pexpr.proofs.Expressions.{holds}
 use Rattle.dm_pexpr.proofs.PartLemmas.{made-gives, part-of}
+use Rattle.dm_pexpr.proofs.TestLemmas.{fails}
 use Rattle.dm_pstmt.specs.Kinds.{an_initialiser, initialisers_from, an_item, items_from, a_declaration}
 use Rattle.dm_pstmt.specs.Parsing.{stands, checked_initialiser, valued, braces_closed, checked_declaration, initialised}
 use Rattle.dm_pstmt.specs.Steps.{braces_round, declared_behind}
 use Rattle.dm_pstmt.proofs.ViewLemmas.{view-value, view-braces}
-use Rattle.dm_pstmt.proofs.Wholes.{then-is, fails, whole-part, pass-part}
+use Rattle.dm_pstmt.proofs.Wholes.{then-is, whole-part, pass-part}
 
 -- an expression as an initialiser
 pub valued-made : (source : Source) (before behind : List Declared) (found : Option (Part Expr)) (part : Part Expr) (wanted : Option tree.Expr) → found ≡ Some part → Gives (an_expr source) source before behind found wanted
@@ -70,8 +73,8 @@ no-braces-made source before now found part wanted there first start behind comm
 pub braces-made : (source : Source) (before now : List Declared) (found : Option (Part (List Initialiser))) (part : Part (List Initialiser)) (wanted : Option tree.Initialisers) → found ≡ Some part
     → (first start behind after height : ℕ) (comma : Option ℕ) (trailing : Bool) (made : Option (Part Initialiser)) → Gives (initialisers_from source start) source before now found wanted
     → Passes (stands source now part.after symbol.Comma) part.after (length source.tokens) comma → behind ≡ unwrap_or comma part.after → trailing ≡ is_some comma
-    → Passes (stands source now behind symbol.RightBrace) behind (length source.tokens) (Some after) → (part.height < 1000 → height ≡ part.height + 1)
-    → made ≡ (if nat_le height limit then Some (record { tree = record { span = record { first = first; after = after }; form = init_form.Braces part.tree trailing }; height = height; after = after }) else None)
+    → Passes (stands source now behind symbol.RightBrace) behind (length source.tokens) (Some after) → (part.height < most_counted → height ≡ part.height + 1)
+    → made ≡ (if nat_le height greatest_height then Some (record { tree = record { span = record { first = first; after = after }; form = init_form.Braces part.tree trailing }; height = height; after = after }) else None)
     → Gives (an_initialiser source) source before now made (and_then (braces_round source now first start) wanted)
 unfolding initialiser_height initialiser_declares
 braces-made source before now found part wanted there first start behind after height comma trailing made given p is flag close high node =
@@ -92,8 +95,8 @@ pub declared-made : (source : Source) (before names behind : List Declared) (spe
     → IsPart (items_from source (defines_types source (view.specifiers specifiers.tree)) specifiers.after) source names behind items seen
     → stands source behind items.after symbol.Semicolon ≡ true
     → (first after height : ℕ) (made : Option (Part Declaration)) → after ≡ items.after + 1 → after ≤ length source.tokens
-    → (specifiers.height < 1000 → items.height < 1000 → height ≡ above specifiers.height items.height)
-    → made ≡ (if nat_le height limit then Some (record { tree = record { span = record { first = first; after = after }; specifiers = specifiers.tree; items = items.tree }; height = height; after = after }) else None)
+    → (specifiers.height < most_counted → items.height < most_counted → height ≡ above specifiers.height items.height)
+    → made ≡ (if nat_le height greatest_height then Some (record { tree = record { span = record { first = first; after = after }; specifiers = specifiers.tree; items = items.tree }; height = height; after = after }) else None)
     → Gives (a_declaration source) source before behind made (declared_behind source behind first (view.specifiers specifiers.tree) (view.items items.tree))
 unfolding declaration_height declaration_declares
 declared-made source before names behind specifiers read items seen p q test first after height made end within high node =

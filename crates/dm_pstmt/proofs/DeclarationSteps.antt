@@ -16,8 +16,9 @@ use Rattle.dm_syn.specs.Statements.{own_parameters, body_declares}
 use Rattle.dm_pexpr.specs.declared.part.Part.{Part}
 use Rattle.dm_pexpr.specs.Parsing.{named, lower, span_of, and_then, all_turns}
 use Rattle.dm_pexpr.specs.Parts.{IsPart, Gives, Passes, the_specifiers, a_declarator}
-use Rattle.dm_pexpr.proofs.Expressions.{holds}
+use Rattle.dm_pexpr.proofs.Expressions.{holds, if-true, if-false}
 use Rattle.dm_pexpr.proofs.Soundness.{inside}
+use Rattle.dm_pexpr.proofs.TestLemmas.{fails}
 use Rattle.dm_pstmt.specs.Kinds.{an_item, items_from, a_stmt, an_external}
 use Rattle.dm_pstmt.specs.Parsing.{Within, within, initialiser_of, stands, item_of, item_behind, initialised, more_items, declaration_of, declaration_behind, declaration_with, declaration_rest, declaration_closed, external_of, external_behind, external_with, external_declared, definition_of, definition_with}
 use Rattle.dm_pstmt.specs.Steps.{with_row, with_item, declared_behind}
@@ -25,7 +26,7 @@ use Rattle.dm_pstmt.proofs.Results.{then-some}
 use Rattle.dm_pstmt.proofs.StatementSteps.{within-parts, within-initialiser, stands-same, re-scoped, ended-after}
 use Rattle.dm_pstmt.proofs.Rows.{begun-part}
 use Rattle.dm_pstmt.proofs.RowKinds.{item_row}
-use Rattle.dm_pstmt.proofs.Wholes.{then-none, then-is, fails, if-so, if-not, gives-along}
+use Rattle.dm_pstmt.proofs.Wholes.{then-none, then-is, gives-along}
 
 -- a declared name behind its declarator
 pub name-scoped : (source : Source) (is_type : Bool) (before names now : List Declared) (declarator : Part Declarator) (read : Option tree.Declarator) → IsPart (a_declarator source) source before names declarator read
@@ -41,14 +42,14 @@ pub plain-read : (source : Source) (inner : Within) (is_type : Bool) (before nam
     → item_behind source inner is_type before first (view.declarator declarator.tree) ≡ Some (tree.plain (span_of first (declarator_span (view.declarator declarator.tree)).after) (view.declarator declarator.tree))
 plain-read source inner is_type before names now first declarator read p scoped none =
     let v : tree.Declarator = view.declarator declarator.tree in
-    if-not _ _ _ (ap (λ those. stands source those (declarator_span v).after symbol.Equals) (sym scoped) ∙ ap (λ n. stands source now n symbol.Equals) (sym p.ends) ∙ none)
+    if-false _ _ _ (ap (λ those. stands source those (declarator_span v).after symbol.Equals) (sym scoped) ∙ ap (λ n. stands source now n symbol.Equals) (sym p.ends) ∙ none)
 
 pub initialised-read : (source : Source) (depth : ℕ) (is_type : Bool) (before names now : List Declared) (first next : ℕ) (declarator : Part Declarator) (read : Option tree.Declarator) → IsPart (a_declarator source) source before names declarator read
     → now ≡ named_declares source is_type (view.declarator declarator.tree) ++ before → Passes (stands source now declarator.after symbol.Equals) declarator.after (length source.tokens) (Some next)
     → item_behind source (within source depth) is_type before first (view.declarator declarator.tree) ≡ option_map (initialised first (view.declarator declarator.tree)) (initialiser_of source depth now next)
 initialised-read source depth is_type before names now first next declarator read p scoped there =
     let v : tree.Declarator = view.declarator declarator.tree in
-    if-so _ _ _ (ap (λ those. stands source those (declarator_span v).after symbol.Equals) (sym scoped) ∙ ap (λ n. stands source now n symbol.Equals) (sym p.ends) ∙ there.0)
+    if-true _ _ _ (ap (λ those. stands source those (declarator_span v).after symbol.Equals) (sym scoped) ∙ ap (λ n. stands source now n symbol.Equals) (sym p.ends) ∙ there.0)
     ∙ ap (λ reads. option_map (initialised first v) (reads (named_declares source is_type v ++ before) ((declarator_span v).after + 1))) (within-initialiser source depth)
     ∙ ap (λ those. option_map (initialised first v) (initialiser_of source depth those ((declarator_span v).after + 1))) (sym scoped)
     ∙ ap (λ n. option_map (initialised first v) (initialiser_of source depth now n)) (ap (λ n. n + 1) (sym p.ends) ∙ sym there.1)
@@ -79,7 +80,7 @@ pub bare-read : (source : Source) (depth : ℕ) (before names : List Declared) (
     → declaration_of source (within source depth) before at ≡ declared_behind source names at (view.specifiers specifiers.tree) []
 bare-read source depth before names at specifiers p there =
     let s : tree.Specifiers = view.specifiers specifiers.tree in
-    declaration-begun source depth before names at specifiers p ∙ if-so _ _ _ (ap (λ n. stands source names n symbol.Semicolon) (sym p.ends) ∙ there)
+    declaration-begun source depth before names at specifiers p ∙ if-true _ _ _ (ap (λ n. stands source names n symbol.Semicolon) (sym p.ends) ∙ there)
 
 pub items-wanted : (source : Source) (depth : ℕ) (before names : List Declared) (at : ℕ) (specifiers : Part Specifiers) → IsPart (the_specifiers source) source before names specifiers ((lower source depth).specifiers before at)
     → stands source names specifiers.after symbol.Semicolon ≡ false
@@ -87,7 +88,7 @@ pub items-wanted : (source : Source) (depth : ℕ) (before names : List Declared
     ≡ and_then (declaration_with source (within source depth) names at (view.specifiers specifiers.tree)) (item_of source (within source depth) (defines_types source (view.specifiers specifiers.tree)) names specifiers.after)
 items-wanted source depth before names at specifiers p there =
     let s : tree.Specifiers = view.specifiers specifiers.tree in
-    declaration-begun source depth before names at specifiers p ∙ if-not _ _ _ (ap (λ n. stands source names n symbol.Semicolon) (sym p.ends) ∙ there)
+    declaration-begun source depth before names at specifiers p ∙ if-false _ _ _ (ap (λ n. stands source names n symbol.Semicolon) (sym p.ends) ∙ there)
     ∙ ap (λ n. and_then (declaration_with source (within source depth) names at s) (item_of source (within source depth) (defines_types source s) names n)) (sym p.ends)
 
 -- behind its first item
@@ -164,7 +165,7 @@ pub bare-external : (source : Source) (depth : ℕ) (before names : List Declare
     → stands source names specifiers.after symbol.Semicolon ≡ true
     → external_of source (within source depth) before at ≡ option_map (external_declared at) (declared_behind source names at (view.specifiers specifiers.tree) [])
 bare-external source depth before names at specifiers p there =
-    external-begun source depth before names at specifiers p ∙ if-so _ _ _ (ap (λ n. stands source names n symbol.Semicolon) (sym p.ends) ∙ there)
+    external-begun source depth before names at specifiers p ∙ if-true _ _ _ (ap (λ n. stands source names n symbol.Semicolon) (sym p.ends) ∙ there)
 
 pub declarator-wanted : (source : Source) (depth : ℕ) (before names : List Declared) (at : ℕ) (specifiers : Part Specifiers) → IsPart (the_specifiers source) source before names specifiers ((lower source depth).specifiers before at)
     → stands source names specifiers.after symbol.Semicolon ≡ false
@@ -172,7 +173,7 @@ pub declarator-wanted : (source : Source) (depth : ℕ) (before names : List Dec
     ≡ and_then (external_with source (within source depth) names at (view.specifiers specifiers.tree)) ((lower source depth).declarator named names specifiers.after)
 declarator-wanted source depth before names at specifiers p there =
     let s : tree.Specifiers = view.specifiers specifiers.tree in
-    external-begun source depth before names at specifiers p ∙ if-not _ _ _ (ap (λ n. stands source names n symbol.Semicolon) (sym p.ends) ∙ there)
+    external-begun source depth before names at specifiers p ∙ if-false _ _ _ (ap (λ n. stands source names n symbol.Semicolon) (sym p.ends) ∙ there)
     ∙ ap (λ n. and_then (external_with source (within source depth) names at s) ((within source depth).parts.declarator named names n)) (sym p.ends)
     ∙ ap (λ parts. and_then (external_with source (within source depth) names at s) (parts.declarator named names specifiers.after)) (within-parts source depth)
 
@@ -182,7 +183,7 @@ pub definition-wanted : (source : Source) (inner : Within) (names between : List
     → external_with source inner names at specifiers (view.declarator declarator.tree) ≡ definition_of source inner names at specifiers (view.declarator declarator.tree)
 definition-wanted source inner names between at specifiers declarator read p there =
     let v : tree.Declarator = view.declarator declarator.tree in
-    if-so _ _ _ (stands-same source names between (declarator_span v).after symbol.LeftBrace refl ∙ ap (λ n. stands source between n symbol.LeftBrace) (sym p.ends) ∙ there)
+    if-true _ _ _ (stands-same source names between (declarator_span v).after symbol.LeftBrace refl ∙ ap (λ n. stands source between n symbol.LeftBrace) (sym p.ends) ∙ there)
 
 pub declaration-wanted : (source : Source) (inner : Within) (names between : List Declared) (at start : ℕ) (specifiers : tree.Specifiers) (declarator : Part Declarator) (read : Option tree.Declarator)
     → start ≡ (specifiers_span specifiers).after → IsPart (a_declarator source) source names between declarator read → stands source between declarator.after symbol.LeftBrace ≡ false
@@ -190,7 +191,7 @@ pub declaration-wanted : (source : Source) (inner : Within) (names between : Lis
     ≡ option_map (external_declared at) (and_then (declaration_with source inner names at specifiers) (item_behind source inner (defines_types source specifiers) names start (view.declarator declarator.tree)))
 declaration-wanted source inner names between at start specifiers declarator read place p none =
     let v : tree.Declarator = view.declarator declarator.tree in
-    if-not _ _ _ (stands-same source names between (declarator_span v).after symbol.LeftBrace refl ∙ ap (λ n. stands source between n symbol.LeftBrace) (sym p.ends) ∙ none)
+    if-false _ _ _ (stands-same source names between (declarator_span v).after symbol.LeftBrace refl ∙ ap (λ n. stands source between n symbol.LeftBrace) (sym p.ends) ∙ none)
     ∙ ap (λ n. option_map (external_declared at) (and_then (declaration_with source inner names at specifiers) (item_behind source inner (defines_types source specifiers) names n v))) (sym place)
 
 -- no parameters, no definition

@@ -1,5 +1,6 @@
 -- External declarations that are put together of parts.
 use Rattle.std.proofs.Common.{◌≡◌, ◌<◌, ℕ, List, ◌++◌, max, Option, Some, None, option_map, nat_le, refl, sym, ap, ◌∙◌, arith, lit≤, append_assoc, if◌then◌else◌}
+use Rattle.dm_token.specs.Limits.{greatest_height}
 use Rattle.dm_syn.specs.declared.declared.Declared.{Declared}
 use Rattle.dm_syn.specs.declared.declaration.Specifiers.{Specifiers}
 use Rattle.dm_syn.specs.declared.declaration.Declarator.{Declarator}
@@ -13,7 +14,8 @@ use Rattle.dm_syn.specs.Heights.{specifiers_height, declarator_height, height_of
 use Rattle.dm_syn.specs.Scopes.{specifiers_declares, named_declares, external_declares, defines_types}
 use Rattle.dm_syn.specs.Views as view
 use Rattle.dm_pexpr.specs.declared.part.Part.{Part}
-use Rattle.dm_pexpr.specs.Parsing.{limit, span_of, checked, and_then}
+use Rattle.dm_pexpr.specs.Parsing.{span_of, checked, and_then}
+use Rattle.dm_pexpr.specs.Counted.{most_counted}
 use Rattle.dm_pexpr.specs.Parts.{IsPart, Gives, the_specifiers, a_declarator}
 use Rattle.dm_pexpr.proofs.PartLemmas.{made-gives, part-of}
 use Rattle.dm_pstmt.specs.Kinds.{a_declaration, a_stmt, an_external}
@@ -39,8 +41,8 @@ pub definition-made : (source : Source) (before names between behind within last
     → IsPart (the_specifiers source) source before names specifiers read → IsPart (a_declarator source) source names between declarator seen
     → behind ≡ named_declares source (defines_types source (view.specifiers specifiers.tree)) (view.declarator declarator.tree) ++ names
     → Gives (a_stmt source) source within last found wanted
-    → (first height : ℕ) (boxed : Stmt) (made : Option (Part External)) → boxed ≡ body.tree → (specifiers.height < 1000 → max declarator.height body.height < 1000 → height ≡ above specifiers.height (max declarator.height body.height))
-    → made ≡ (if nat_le height limit then Some (record { tree = record { span = record { first = first; after = body.after }; form = external_form.Function specifiers.tree declarator.tree boxed }; height = height; after = body.after }) else None)
+    → (first height : ℕ) (boxed : Stmt) (made : Option (Part External)) → boxed ≡ body.tree → (specifiers.height < most_counted → max declarator.height body.height < most_counted → height ≡ above specifiers.height (max declarator.height body.height))
+    → made ≡ (if nat_le height greatest_height then Some (record { tree = record { span = record { first = first; after = body.after }; form = external_form.Function specifiers.tree declarator.tree boxed }; height = height; after = body.after }) else None)
     → Gives (an_external source) source before behind made (and_then (definition_with first (view.specifiers specifiers.tree) (view.declarator declarator.tree)) wanted)
 unfolding height_of external_declares
 definition-made source before names between behind within last specifiers read declarator seen found body wanted there p q scoped given first height boxed made same high node =

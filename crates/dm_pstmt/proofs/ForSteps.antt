@@ -14,13 +14,14 @@ use Rattle.dm_pexpr.specs.declared.part.Part.{Part}
 use Rattle.dm_pexpr.specs.Parsing.{lower, and_then, where_true}
 use Rattle.dm_pexpr.specs.Parts.{IsPart, Gives}
 use Rattle.dm_pexpr.proofs.Expressions.{holds}
+use Rattle.dm_pexpr.proofs.TestLemmas.{fails}
 use Rattle.dm_pstmt.specs.declared.nodes.ForClauses.{ForClauses}
 use Rattle.dm_pstmt.specs.Kinds.{a_stmt, a_start, an_optional, clauses_from, seen_clauses}
 use Rattle.dm_pstmt.specs.Parsing.{Within, within, stands, optional_of, start_of, for_start, for_condition, for_step, for_body, stmt_by, looping}
 use Rattle.dm_pstmt.specs.Steps.{Clauses, closed_by, clause_of, with_step, behind_condition, behind_start, clauses_of, clauses_after, clauses_declare, looping_over}
 use Rattle.dm_pstmt.proofs.Results.{then-some}
 use Rattle.dm_pstmt.proofs.StatementSteps.{within-parts, stands-same, re-scoped, ended-after}
-use Rattle.dm_pstmt.proofs.Wholes.{then-none, then-is, fails, gives-along}
+use Rattle.dm_pstmt.proofs.Wholes.{then-none, then-is, gives-along}
 
 -- what is read behind a thing, in two steps
 then-along : {A B C : Type 0} (whole : A → Option C) (last : B → Option C) (first : A → Option B) (found : Option A) → ((it : A) → whole it ≡ and_then last (first it))

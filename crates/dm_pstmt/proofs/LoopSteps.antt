@@ -15,10 +15,11 @@ use Rattle.dm_pexpr.specs.declared.part.Part.{Part}
 use Rattle.dm_pexpr.specs.Parsing.{lower, and_then, all_turns}
 use Rattle.dm_pexpr.specs.Parts.{IsPart, Gives}
 use Rattle.dm_pexpr.proofs.Soundness.{inside}
+use Rattle.dm_pexpr.proofs.Expressions.{if-true, if-false}
 use Rattle.dm_pstmt.specs.Kinds.{an_initialiser, initialisers_from, an_item, items_from, a_block_item, block_items_from, a_labelled, switch_items_from}
 use Rattle.dm_pstmt.specs.Parsing.{Reads, Within, stands, initialiser_of, valued, braces_from, braces_with, braces_closed, more_initialisers, item_of, more_items, block_item_of, block_items, switch_items}
 use Rattle.dm_pstmt.specs.Steps.{with_row, with_item, braces_round}
-use Rattle.dm_pstmt.proofs.Wholes.{then-is, if-so, if-not}
+use Rattle.dm_pstmt.proofs.Wholes.{then-is}
 use Rattle.dm_pstmt.proofs.Rows.{joined-part, with-more}
 use Rattle.dm_pstmt.proofs.RowKinds.{initialiser_row, item_row, block_row, switch_row}
 use Rattle.dm_pstmt.proofs.Turns.{goes-on, initialisers-some, items-some, block-some, switch-some}
@@ -29,9 +30,6 @@ one-less n some = let there : n ≢ 0 = some in omega arith
 pub turns-left : (n : ℕ) → 0 < n → suc (n - 1) ≡ n
 turns-left n some = omega arith
 
-pub no-turns : (n : ℕ) → n ≤ 0 → n ≡ 0
-no-turns n none = omega arith
-
 -- an initialiser
 pub no-initialiser : (source : Source) (depth : ℕ) (names : List Declared) (at : ℕ) → depth ≡ 0 → initialiser_of source depth names at ≡ None
 unfolding initialiser_of
@@ -40,7 +38,7 @@ no-initialiser source depth names at is = ap (λ n. initialiser_of source n name
 braces-so : (source : Source) (left : ℕ) (names : List Declared) (at : ℕ) → stands source names at symbol.LeftBrace ≡ true
     → initialiser_of source (suc left) names at ≡ and_then (braces_from source (initialiser_of source left) names at) (initialiser_of source left names (at + 1))
 unfolding initialiser_of
-braces-so source left names at there = if-so _ _ _ there
+braces-so source left names at there = if-true _ _ _ there
 
 pub braces-wanted : (source : Source) (depth left : ℕ) (names : List Declared) (at : ℕ) → suc left ≡ depth → stands source names at symbol.LeftBrace ≡ true
     → initialiser_of source depth names at ≡ and_then (braces_from source (initialiser_of source left) names at) (initialiser_of source left names (at + 1))
@@ -49,7 +47,7 @@ braces-wanted source depth left names at less there = ap (λ n. initialiser_of s
 value-so : (source : Source) (left : ℕ) (names : List Declared) (at : ℕ) → stands source names at symbol.LeftBrace ≡ false
     → initialiser_of source (suc left) names at ≡ option_map (valued at) ((lower source (suc left)).expr 1 names at)
 unfolding initialiser_of
-value-so source left names at none = if-not _ _ _ none
+value-so source left names at none = if-false _ _ _ none
 
 pub value-wanted : (source : Source) (depth left : ℕ) (names : List Declared) (at : ℕ) → suc left ≡ depth → stands source names at symbol.LeftBrace ≡ false
     → initialiser_of source depth names at ≡ option_map (valued at) ((lower source depth).expr 1 names at)

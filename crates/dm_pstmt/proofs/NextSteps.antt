@@ -2,6 +2,7 @@
 use Rattle.std.specs.Prelude.{Result, Ok, Err, IfErr}
 use Rattle.std.proofs.Common.{◌≡◌, ℕ, List, [], Option, Some, None, refl, sym, ap, ◌∙◌, subst, arith, append-nil}
 use Rattle.std.specs.Prelude.{slice_get, MatchOption}
+use Rattle.dm_token.specs.Refusals.{syntax}
 use Rattle.dm_token.specs.declared.token.CToken.{CToken}
 use Rattle.dm_token.specs.declared.stop.Refusal.{Refusal}
 use Rattle.dm_token.specs.declared.stop.Stop.{Stop}
@@ -23,13 +24,13 @@ use Rattle.dm_pexpr.specs.NameMaps.{NameMap}
 use Rattle.dm_pexpr.specs.Scoping.{known_with}
 use Rattle.dm_pexpr.proofs.PartLemmas.{part-of}
 use Rattle.dm_pexpr.proofs.Soundness.{inside}
+use Rattle.dm_pexpr.proofs.ReadExprs.{nothing-of}
 use Rattle.dm_pstmt.specs.Kinds.{an_external}
 use Rattle.dm_pstmt.specs.Readings.{IsExternalAt, external_at}
 use Rattle.dm_pstmt.specs.Answers.{IsExternalFound, Refuses, Keeps}
 use Rattle.dm_pstmt.proofs.SoundExternals.{external-found}
 use Rattle.dm_pstmt.proofs.CompleteExternals.{external-only}
 use Rattle.dm_pstmt.proofs.Inside.{stands-inside}
-use Rattle.dm_pstmt.proofs.Wholes.{none-of}
 
 -- the span of what a tree of the code stands for
 span-of-form : (span : Span) (form : ExternalForm) → external_span (view.external_view span form) ≡ span
@@ -64,17 +65,17 @@ external-part source before now at found part fresh there given =
 
 -- the refusal where nothing is read
 abbrev refusal-at : CToken → Refusal
-refusal-at token = record { number = 16; detail = 0; place = token.place }
+refusal-at token = record { number = syntax; detail = 0; place = token.place }
 
 stands-there : (found : Option CToken) (token : CToken) → found ≡ Some token → MatchOption found ⊥ (λ it. refusal-at token ≡ refusal-at it)
 stands-there found token is = subst (λ (o : Option CToken). MatchOption o ⊥ (λ it. refusal-at token ≡ refusal-at it)) (sym is) refl
 
 pub external-refused : (source : Source) (before now : List Declared) (at : ℕ) (found : Option (Part External)) (token : CToken) (stop : Stop) → before ≡ [] → found ≡ None
     → Gives (an_external source) source before now found (external_at source before at) → slice_get source.tokens at ≡ Some token
-    → stop ≡ Refused (record { number = 16; detail = 0; place = token.place }) → Refuses source at stop
+    → stop ≡ Refused (record { number = syntax; detail = 0; place = token.place }) → Refuses source at stop
 external-refused source before now at found token stop fresh there given stands is =
     let none : external_at source [] at ≡ None =
-    none-of (an_external source) source [] now found (external_at source [] at) there (subst (λ ns. Gives (an_external source) source ns now found (external_at source ns at)) fresh given) in
+    nothing-of (an_external source) source [] now found (external_at source [] at) there (subst (λ ns. Gives (an_external source) source ns now found (external_at source ns at)) fresh given) in
     let refused : Refuses source at (Refused (refusal-at token)) = (λ it formed. external-none source at it none formed, stands-there (slice_get source.tokens at) token stands) in
     subst (Refuses source at) (sym is) refused
 

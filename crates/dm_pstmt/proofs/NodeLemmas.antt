@@ -1,5 +1,6 @@
 -- Statements that are put together of parts.
 use Rattle.std.proofs.Common.{◌≡◌, ◌≤◌, ◌<◌, ℕ, ◌+◌, List, ◌++◌, length, map, max, true, Option, Some, None, option_map, nat_le, refl, sym, ap, ◌∙◌, arith, lit≤, append_assoc, if◌then◌else◌}
+use Rattle.dm_token.specs.Limits.{greatest_height}
 use Rattle.dm_syn.specs.declared.declared.Declared.{Declared}
 use Rattle.dm_syn.specs.declared.expression.Expr.{Expr}
 use Rattle.dm_syn.specs.declared.statement.Stmt.{Stmt}
@@ -21,7 +22,8 @@ use Rattle.dm_syn.specs.Scopes.{expr_declares, optional_declares, start_declares
 use Rattle.dm_syn.specs.Statements.{optional_after}
 use Rattle.dm_syn.specs.Views as view
 use Rattle.dm_pexpr.specs.declared.part.Part.{Part}
-use Rattle.dm_pexpr.specs.Parsing.{limit, span_of, and_then}
+use Rattle.dm_pexpr.specs.Parsing.{span_of, and_then}
+use Rattle.dm_pexpr.specs.Counted.{most_counted}
 use Rattle.dm_pexpr.specs.Parts.{IsPart, Gives, an_expr}
 use Rattle.dm_pexpr.proofs.Expressions.{holds}
 use Rattle.dm_pexpr.proofs.PartLemmas.{made-gives, part-of, part-is}
@@ -34,7 +36,7 @@ use Rattle.dm_pstmt.proofs.Wholes.{pass-part}
 
 -- what a node of the code is
 abbrev pub made_node : ℕ → ℕ → ℕ → StmtForm → Option (Part Stmt)
-made_node first after height it = if nat_le height limit then Some (record { tree = record { span = record { first = first; after = after }; form = it }; height = height; after = after }) else None
+made_node first after height it = if nat_le height greatest_height then Some (record { tree = record { span = record { first = first; after = after }; form = it }; height = height; after = after }) else None
 
 -- the node of a statement
 pub node-gives : (source : Source) (before now : List Declared) (made : Option (Part Stmt)) (first after height : ℕ) (it : StmtForm) (whole : tree.Stmt) (wanted : Option tree.Stmt)
@@ -48,7 +50,7 @@ node-gives source before now made first after height it whole wanted node wants 
 
 pub block-made : (source : Source) (before behind : List Declared) (items : Part (List Item)) (wanted : Option tree.BlockItems) (first after height : ℕ) (made : Option (Part Stmt))
     → IsPart (block_items_from source (first + 1)) source before behind items wanted → after ≡ items.after + 1 → after ≤ length source.tokens
-    → (items.height < 1000 → height ≡ items.height + 1) → made ≡ made_node first after height (form.Block items.tree)
+    → (items.height < most_counted → height ≡ items.height + 1) → made ≡ made_node first after height (form.Block items.tree)
     → Gives (a_stmt source) source before before made (and_then (block_with first) wanted)
 unfolding stmt_height stmt_declares
 block-made source before behind items wanted first after height made g end within high node =
@@ -60,7 +62,7 @@ block-made source before behind items wanted first after height made g end withi
 pub while-made : (source : Source) (before names behind : List Declared) (condition : Part Expr) (read : Option tree.Expr) (found : Option (Part Stmt)) (body : Part Stmt) (wanted : Option tree.Stmt) → found ≡ Some body
     → IsPart (an_expr source) source before names condition read → Gives (a_stmt source) source names behind found wanted
     → (first height : ℕ) (boxed : Stmt) (made : Option (Part Stmt))
-    → boxed ≡ body.tree → (condition.height < 1000 → body.height < 1000 → height ≡ above condition.height body.height) → made ≡ made_node first body.after height (form.While condition.tree boxed)
+    → boxed ≡ body.tree → (condition.height < most_counted → body.height < most_counted → height ≡ above condition.height body.height) → made ≡ made_node first body.after height (form.While condition.tree boxed)
     → Gives (a_stmt source) source before before made (and_then (while_behind first (view.expr condition.tree)) wanted)
 unfolding stmt_height stmt_declares
 while-made source before names behind condition read found body wanted there k given first height boxed made same high node =
@@ -75,7 +77,7 @@ while-made source before names behind condition read found body wanted there k g
 pub if-only-made : (source : Source) (before names behind : List Declared) (condition : Part Expr) (read : Option tree.Expr) (body : Part Stmt) (seen : Option tree.Stmt)
     → IsPart (an_expr source) source before names condition read → IsPart (a_stmt source) source names behind body seen
     → (first height : ℕ) (boxed : Stmt) (made : Option (Part Stmt))
-    → boxed ≡ body.tree → (condition.height < 1000 → body.height < 1000 → height ≡ above condition.height body.height) → made ≡ made_node first body.after height (form.If condition.tree boxed None)
+    → boxed ≡ body.tree → (condition.height < most_counted → body.height < most_counted → height ≡ above condition.height body.height) → made ≡ made_node first body.after height (form.If condition.tree boxed None)
     → Gives (a_stmt source) source before before made (if_only_behind first (view.expr condition.tree) (view.stmt body.tree))
 unfolding stmt_height stmt_declares
 if-only-made source before names behind condition read body seen k g first height boxed made same high node =
@@ -90,7 +92,7 @@ pub if-else-made : (source : Source) (before names behind last : List Declared) 
     (found : Option (Part Stmt)) (other : Part Stmt) (wanted : Option tree.Stmt) → found ≡ Some other
     → IsPart (an_expr source) source before names condition read → IsPart (a_stmt source) source names behind body seen → Gives (a_stmt source) source names last found wanted
     → (first height : ℕ) (one two : Stmt) (made : Option (Part Stmt))
-    → one ≡ body.tree → two ≡ other.tree → (condition.height < 1000 → max body.height other.height < 1000 → height ≡ above condition.height (max body.height other.height))
+    → one ≡ body.tree → two ≡ other.tree → (condition.height < most_counted → max body.height other.height < most_counted → height ≡ above condition.height (max body.height other.height))
     → made ≡ made_node first other.after height (form.If condition.tree one (Some two))
     → Gives (a_stmt source) source before before made (and_then (else_with first (view.expr condition.tree) (view.stmt body.tree)) wanted)
 unfolding stmt_height stmt_declares
@@ -109,7 +111,7 @@ pub do-made : (source : Source) (before behind names : List Declared) (body : Pa
     → IsPart (a_stmt source) source before behind body seen → IsPart (an_expr source) source before names condition read
     → stands source before (condition.after + 1) symbol.Semicolon ≡ true
     → (first after height : ℕ) (boxed : Stmt) (made : Option (Part Stmt)) → after ≡ condition.after + 2 → after ≤ length source.tokens
-    → boxed ≡ body.tree → (body.height < 1000 → condition.height < 1000 → height ≡ above body.height condition.height) → made ≡ made_node first after height (form.Do boxed condition.tree)
+    → boxed ≡ body.tree → (body.height < most_counted → condition.height < most_counted → height ≡ above body.height condition.height) → made ≡ made_node first after height (form.Do boxed condition.tree)
     → Gives (a_stmt source) source before before made (do_behind source before first (view.stmt body.tree) (view.expr condition.tree))
 unfolding stmt_height stmt_declares
 do-made source before behind names body seen condition read b k test first after height boxed made end within same high node =
@@ -123,7 +125,7 @@ do-made source before behind names body seen condition read b k test first after
 pub switch-made : (source : Source) (before names behind : List Declared) (subject : Part Expr) (read : Option tree.Expr) (items : Part (List SwitchItem)) (wanted : Option tree.SwitchItems)
     → IsPart (an_expr source) source before names subject read → IsPart (switch_items_from source (subject.after + 2)) source names behind items wanted
     → (first after height inside : ℕ) (made : Option (Part Stmt)) → after ≡ items.after + 1 → after ≤ length source.tokens
-    → (items.height < 1000 → inside ≡ items.height + 1) → (subject.height < 1000 → inside < 1000 → height ≡ above subject.height inside) → made ≡ made_node first after height (form.Switch subject.tree items.tree)
+    → (items.height < most_counted → inside ≡ items.height + 1) → (subject.height < most_counted → inside < most_counted → height ≡ above subject.height inside) → made ≡ made_node first after height (form.Switch subject.tree items.tree)
     → Gives (a_stmt source) source before before made (and_then (switch_braced first (view.expr subject.tree)) wanted)
 unfolding stmt_height stmt_declares
 switch-made source before names behind subject read items wanted k g first after height inside made end within deep high node =
@@ -162,7 +164,7 @@ above-three one two three four = omega arith
 pub for-made : (source : Source) (before names behind : List Declared) (at : ℕ) (clauses : Part ForClauses) (read : Option Clauses) (found : Option (Part Stmt)) (body : Part Stmt) (wanted : Option tree.Stmt) → found ≡ Some body
     → IsPart (clauses_from source at) source before names clauses read → Gives (a_stmt source) source names behind found wanted
     → (first height : ℕ) (own : ForClauses) (boxed : Stmt) (made : Option (Part Stmt)) → own ≡ clauses.tree → boxed ≡ body.tree
-    → (clauses.height < 1000 → body.height < 1000 → height ≡ above clauses.height body.height) → made ≡ made_node first body.after height (form.For own.start own.condition own.step boxed)
+    → (clauses.height < most_counted → body.height < most_counted → height ≡ above clauses.height body.height) → made ≡ made_node first body.after height (form.For own.start own.condition own.step boxed)
     → Gives (a_stmt source) source before before made (and_then (looping_over first (seen_clauses clauses.tree)) wanted)
 unfolding stmt_height stmt_declares
 for-made source before names behind at clauses read found body wanted there h given first height own boxed made mine same high node =
@@ -178,7 +180,7 @@ for-made source before names behind at clauses read found body wanted there h gi
 
 pub expression-made : (source : Source) (before names : List Declared) (value : Part (Option Expr)) (wanted : Option (Option tree.Expr)) (first after height : ℕ) (made : Option (Part Stmt))
     → IsPart (an_optional source first) source before names value wanted → stands source names value.after symbol.Semicolon ≡ true → after ≡ value.after + 1 → after ≤ length source.tokens
-    → (value.height < 1000 → height ≡ value.height + 1) → made ≡ made_node first after height (form.Expression value.tree)
+    → (value.height < most_counted → height ≡ value.height + 1) → made ≡ made_node first after height (form.Expression value.tree)
     → Gives (a_stmt source) source before names made (and_then (expression_with source before first) wanted)
 unfolding stmt_height stmt_declares
 expression-made source before names value wanted first after height made g test end within high node =
@@ -190,7 +192,7 @@ expression-made source before names value wanted first after height made g test 
 
 pub return-made : (source : Source) (before names : List Declared) (value : Part (Option Expr)) (wanted : Option (Option tree.Expr)) (first after height : ℕ) (made : Option (Part Stmt))
     → IsPart (an_optional source (first + 1)) source before names value wanted → stands source names value.after symbol.Semicolon ≡ true → after ≡ value.after + 1 → after ≤ length source.tokens
-    → (value.height < 1000 → height ≡ value.height + 1) → made ≡ made_node first after height (form.Return value.tree)
+    → (value.height < most_counted → height ≡ value.height + 1) → made ≡ made_node first after height (form.Return value.tree)
     → Gives (a_stmt source) source before names made (and_then (return_with source before first) wanted)
 unfolding stmt_height stmt_declares
 return-made source before names value wanted first after height made g test end within high node =
@@ -216,7 +218,7 @@ continue-made source before first after made test end within node =
 
 -- what a node of the code is, with labels
 abbrev pub made_label : ℕ → ℕ → ℕ → SwitchForm → Option (Part SwitchItem)
-made_label first after height it = if nat_le height limit then Some (record { tree = record { span = record { first = first; after = after }; form = it }; height = height; after = after }) else None
+made_label first after height it = if nat_le height greatest_height then Some (record { tree = record { span = record { first = first; after = after }; form = it }; height = height; after = after }) else None
 
 label-gives : (source : Source) (before now : List Declared) (made : Option (Part SwitchItem)) (first after height : ℕ) (it : SwitchForm) (whole : tree.SwitchItem) (wanted : Option tree.SwitchItem)
     → made ≡ made_label first after height it
@@ -230,7 +232,7 @@ label-gives source before now made first after height it whole wanted node wants
 pub case-made : (source : Source) (before names now : List Declared) (label : Part Expr) (read : Option tree.Expr) (found : Option (Part SwitchItem)) (item : Part SwitchItem) (wanted : Option tree.SwitchItem) → found ≡ Some item
     → IsPart (an_expr source) source before names label read → Gives (a_labelled source) source names now found wanted
     → (first height : ℕ) (boxed : SwitchItem) (made : Option (Part SwitchItem))
-    → boxed ≡ item.tree → (label.height < 1000 → item.height < 1000 → height ≡ above label.height item.height) → made ≡ made_label first item.after height (label_form.Case label.tree boxed)
+    → boxed ≡ item.tree → (label.height < most_counted → item.height < most_counted → height ≡ above label.height item.height) → made ≡ made_label first item.after height (label_form.Case label.tree boxed)
     → Gives (a_labelled source) source before now made (and_then (case_behind first (view.expr label.tree)) wanted)
 unfolding switch_item_height switch_item_declares
 case-made source before names now label read found item wanted there k given first height boxed made same high node =
@@ -246,7 +248,7 @@ case-made source before names now label read found item wanted there k given fir
 pub default-made : (source : Source) (before now : List Declared) (found : Option (Part SwitchItem)) (item : Part SwitchItem) (wanted : Option tree.SwitchItem) → found ≡ Some item
     → Gives (a_labelled source) source before now found wanted
     → (first height : ℕ) (boxed : SwitchItem) (made : Option (Part SwitchItem))
-    → boxed ≡ item.tree → (item.height < 1000 → height ≡ item.height + 1) → made ≡ made_label first item.after height (label_form.Default boxed)
+    → boxed ≡ item.tree → (item.height < most_counted → height ≡ item.height + 1) → made ≡ made_label first item.after height (label_form.Default boxed)
     → Gives (a_labelled source) source before now made (and_then (default_behind first) wanted)
 unfolding switch_item_height switch_item_declares
 default-made source before now found item wanted there given first height boxed made same high node =

@@ -7,11 +7,7 @@ use Rattle.dm_syn.specs.Trees as tree
 use Rattle.dm_syn.specs.Spans.{expr_span, initialiser_span, initialisers_after, item_span, items_after, declaration_span, stmt_span, block_item_span, block_items_after, switch_item_span, switch_items_after}
 use Rattle.dm_syn.specs.Grammar.{trailing_after}
 use Rattle.dm_syn.specs.Statements.{IsInitialiser, AreMoreInitialisers, IsItem, AreMoreItems, AreItems, IsDeclaration, IsOptional, optional_after, IsStart, start_after, IsEnclosed, IsStmt, AreBlockItems, IsBlockItem, AreSwitchItems, IsSwitchItem}
-use Rattle.dm_pexpr.proofs.Positions.{expr-on, specifiers-on, declarator-on}
-
-trailing-on : (at : ℕ) (trailing : Bool) → at ≤ trailing_after at trailing
-trailing-on at true = omega arith
-trailing-on at false = omega arith
+use Rattle.dm_pexpr.proofs.Positions.{expr-on, specifiers-on, declarator-on, trailing-on}
 
 mutual
   unfolding IsInitialiser AreMoreInitialisers

@@ -1,11 +1,12 @@
 -- What a result that is there tells, and what symbols are whatever is in scope.
 use Rattle.std.proofs.Common.{◌≡◌, ◌≤◌, ℕ, Bool, true, false, List, Option, Some, None, refl, sym, ap, ◌∙◌, if◌then◌else◌, nat_le, option_map}
+use Rattle.dm_token.specs.Limits.{greatest_height}
 use Rattle.dm_syn.specs.declared.declared.Declared.{Declared}
 use Rattle.dm_syn.specs.declared.symbol.Symbol.{Symbol}
 use Rattle.dm_syn.specs.declared.symbol.Symbol.TheVariants as symbol
 use Rattle.dm_syn.specs.Symbols.{is, is_identifier}
 use Rattle.dm_syn.specs.Sources.{Source, symbol_at, symbol_in, seen_as, names_type, spelling_at}
-use Rattle.dm_pexpr.specs.Parsing.{limit, checked, and_then}
+use Rattle.dm_pexpr.specs.Parsing.{checked, and_then}
 use Rattle.dm_pexpr.proofs.SymbolLemmas.{is-same}
 use Rattle.dm_pexpr.proofs.Soundness.{inside, le-from}
 
@@ -19,13 +20,13 @@ pub map-some : {A B : Type 0} (next : A → B) (found : Option A) (it : B) → o
 map-some next None it h = absurd (cc)
 map-some next (Some one) it h = (one, refl, inside _ _ h)
 
-low-if : {A : Type 0} (height : ℕ) (test : Bool) (one it : A) → nat_le height limit ≡ test → (if test then Some one else None) ≡ Some it → (one ≡ it) × (height ≤ limit)
-low-if height true one it t h = (inside _ _ h, le-from height limit t)
+low-if : {A : Type 0} (height : ℕ) (test : Bool) (one it : A) → nat_le height greatest_height ≡ test → (if test then Some one else None) ≡ Some it → (one ≡ it) × (height ≤ greatest_height)
+low-if height true one it t h = (inside _ _ h, le-from height greatest_height t)
 low-if height false one it t h = absurd (cc)
 
 -- a tree that is let through isn't too high
-pub checked-low : {A : Type 0} (height : ℕ) (one it : A) → checked height one ≡ Some it → (one ≡ it) × (height ≤ limit)
-checked-low height one it h = low-if height (nat_le height limit) one it refl h
+pub checked-low : {A : Type 0} (height : ℕ) (one it : A) → checked height one ≡ Some it → (one ≡ it) × (height ≤ greatest_height)
+checked-low height one it h = low-if height (nat_le height greatest_height) one it refl h
 
 seen-back : (stands : Symbol) (names : Bool) (it : Symbol) → seen_as stands names ≡ it → is_identifier it ≡ false → stands ≡ it
 seen-back symbol.Identifier true it h k = let no : true ≡ false = ap is_identifier h ∙ k in absurd (cc)

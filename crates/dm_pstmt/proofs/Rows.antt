@@ -1,6 +1,7 @@
 -- Lists of trees that are read one after another, as one tree.
-use Rattle.std.proofs.Common.{◌≡◌, ◌≤◌, ℕ, max, length, arith, List, [], ◌∷◌, ◌++◌, map, Option, Some, None, option_map, refl, sym, ap, ◌∙◌, subst, append_assoc}
+use Rattle.std.proofs.Common.{◌≡◌, ◌≤◌, ℕ, ◌+◌, max, length, arith, List, [], ◌∷◌, ◌++◌, map, Option, Some, None, option_map, refl, sym, ap, ◌∙◌, subst, append_assoc}
 use Rattle.std.proofs.lemmas.List.{map-append, append-nil}
+use Rattle.dm_token.specs.Limits.{greatest_height}
 use Rattle.dm_syn.specs.declared.declared.Declared.{Declared}
 use Rattle.dm_syn.specs.Sources.{Source}
 use Rattle.dm_pexpr.specs.declared.part.Part.{Part}
@@ -23,11 +24,11 @@ pub record Row (A T L : Type 0) (item : Kind A T) : Type 0 where
   pub after_more : (at : ℕ) (first : T) (others : L) → after at (put first others) ≡ after (item.after first) others
   pub declares_none : declares empty ≡ []
   pub declares_more : (first : T) (others : L) → declares (put first others) ≡ declares others ++ item.declares first
-  pub low : item.highest ≤ 513
+  pub low : item.highest ≤ greatest_height + 1
 
 -- such lists as a kind of trees, from a place on
 abbrev pub row_from : {A T L : Type 0} {item : Kind A T} → Row A T L item → ℕ → Kind (List A) L
-row_from row at = record { view = row.seen; begins = λ _. 0; first = λ _. 0; height = row.height; after = row.after at; declares = row.declares; highest = 513 }
+row_from row at = record { view = row.seen; begins = λ _. 0; first = λ _. 0; height = row.height; after = row.after at; declares = row.declares; highest = greatest_height + 1 }
 
 -- a list with one more at its end
 snoc-height : {A T L : Type 0} (item : Kind A T) (row : Row A T L item) (items : List A) (last : A) → row.height (row.seen (items ++ last ∷ [])) ≡ max (row.height (row.seen items)) (item.height (item.view last))

@@ -1,5 +1,6 @@
 -- Initialisers and declarations that are read are well formed, where what reads their parts gives well-formed parts.
 use Rattle.std.proofs.Common.{◌≡◌, ◌≤◌, ℕ, zero, suc, ◌+◌, Bool, true, false, not, ◌&&◌, ⊎_elim, List, [], ◌∷◌, ◌++◌, Some, IsSome, refl, subst, option_map}
+use Rattle.dm_token.specs.Limits.{greatest_height}
 use Rattle.dm_syn.specs.declared.declared.Declared.{Declared}
 use Rattle.dm_syn.specs.declared.symbol.Symbol.TheVariants as symbol
 use Rattle.dm_syn.specs.Symbols.{is}
@@ -11,10 +12,11 @@ use Rattle.dm_syn.specs.Scopes.{declarator_name, specifiers_declares, named_decl
 use Rattle.dm_syn.specs.Heights.{declaration_height}
 use Rattle.dm_syn.specs.Grammar.{IsSpecifiers, IsDeclarator, IsTrailing, trailing_after}
 use Rattle.dm_syn.specs.Statements.{IsInitialiser, AreMoreInitialisers, IsItem, AreMoreItems, AreItems, IsDeclaration, IsStmt, IsSwitchItem}
-use Rattle.dm_pexpr.specs.Parsing.{named, limit, span_of, all_turns, lower}
+use Rattle.dm_pexpr.specs.Parsing.{named, span_of, all_turns, lower}
 use Rattle.dm_pexpr.proofs.SymbolTests.{is-it}
 use Rattle.dm_pexpr.proofs.Soundness.{GivesFormed, inside, where-some, checked-some, branch, both-hold}
 use Rattle.dm_pexpr.proofs.AllFormed.{all-formed}
+use Rattle.dm_pexpr.proofs.SoundSpecifiers.{trailing-is}
 use Rattle.dm_pstmt.specs.Parsing.{Reads, Within, stands, more_initialisers, braces_with, braces_from, valued, initialiser_of, initialised, item_behind, item_of, more_items, declaration_closed, declaration_rest, declaration_with, declaration_behind, declaration_of}
 use Rattle.dm_pstmt.proofs.Results.{then-some, map-some, checked-low, alike}
 
@@ -26,7 +28,7 @@ abbrev pub ItemAt : Source → List Declared → Bool → ℕ → Item → Type 
 ItemAt source names is_type at it = IsItem source names is_type it × ((item_span it).first ≡ at)
 
 abbrev pub DeclarationAt : Source → List Declared → ℕ → Declaration → Type 0
-DeclarationAt source names at it = IsDeclaration source names it × ((declaration_span it).first ≡ at) × (declaration_height it ≤ limit)
+DeclarationAt source names at it = IsDeclaration source names it × ((declaration_span it).first ≡ at) × (declaration_height it ≤ greatest_height)
 
 abbrev pub StmtAt : Source → List Declared → ℕ → Stmt → Type 0
 StmtAt source names at it = IsStmt source names it × ((stmt_span it).first ≡ at)
@@ -40,11 +42,6 @@ pub record GivesWithin (source : Source) (inner : Within) : Type 0 where
   pub initialiser : (names : List Declared) (at : ℕ) (it : Initialiser) → inner.initialiser names at ≡ Some it → InitialiserAt source names at it
   pub stmt : (names : List Declared) (at : ℕ) (it : Stmt) → inner.stmt names at ≡ Some it → StmtAt source names at it
   pub labelled : (names : List Declared) (at : ℕ) (it : SwitchItem) → inner.labelled names at ≡ Some it → LabelledAt source names at it
-
--- the comma before a closing brace
-trailing-is : (source : Source) (names : List Declared) (at : ℕ) (test : Bool) → is (symbol_in source names at) symbol.Comma ≡ test → IsTrailing source names at test
-trailing-is source names at true t = is-it _ symbol.Comma t
-trailing-is source names at false t = tt
 
 -- initialisers
 module _ (source : Source) (read : Reads Initialiser) (formed : (names : List Declared) (at : ℕ) (it : Initialiser) → read names at ≡ Some it → InitialiserAt source names at it) where

@@ -1,5 +1,6 @@
 -- External declarations that are read are well formed.
 use Rattle.std.proofs.Common.{◌≡◌, ℕ, zero, suc, false, ⊎_elim, List, ◌++◌, Option, Some, None, IsSome, refl, ap, ◌∙◌, subst, option_map}
+use Rattle.dm_token.specs.Limits.{greatest_height}
 use Rattle.dm_syn.specs.declared.declared.Declared.{Declared}
 use Rattle.dm_syn.specs.declared.symbol.Symbol.TheVariants as symbol
 use Rattle.dm_syn.specs.Sources.{Source, symbol_in}
@@ -86,4 +87,4 @@ module _ (source : Source) (inner : Within) (formed : GivesWithin source inner) 
 
 -- An external declaration that is read stands there.
 pub external-found : (source : Source) (names : List Declared) (at : ℕ) (it : External) → external_at source names at ≡ Some it → IsExternalAt source names at it
-external-found source names at it h = external-formed source (within source 512) (all-within source 512) names at it h
+external-found source names at it h = external-formed source (within source greatest_height) (all-within source greatest_height) names at it h

@@ -17,15 +17,16 @@ use Rattle.dm_syn.specs.Statements.{optional_after}
 use Rattle.dm_pexpr.specs.declared.part.Part.{Part}
 use Rattle.dm_pexpr.specs.Parsing.{Parts, lower, and_then, where_true, all_turns}
 use Rattle.dm_pexpr.specs.Parts.{Kind, IsPart, Gives, Passes, an_expr}
-use Rattle.dm_pexpr.proofs.Expressions.{holds}
+use Rattle.dm_pexpr.proofs.Expressions.{holds, if-true, if-false}
 use Rattle.dm_pexpr.proofs.SymbolLemmas.{is-same}
 use Rattle.dm_pexpr.proofs.SymbolTests.{is-it}
 use Rattle.dm_pexpr.proofs.Soundness.{inside}
+use Rattle.dm_pexpr.proofs.TestLemmas.{fails, unless}
 use Rattle.dm_pstmt.specs.Kinds.{a_stmt, block_items_from, switch_items_from, switch_items_declares}
 use Rattle.dm_pstmt.specs.Parsing.{Within, within, initialiser_of, stands, optional_of, enclosed_of, block_items, block_with, if_with, if_behind, else_with, if_only_behind, switch_items, switch_with, switch_braced, while_with, while_behind, do_with, do_behind, start_of, stmt_by, stmt_of, lead_kind, evaluating, labelled_of, opening, choosing, switching, repeating, doing, block_item_of, declaration_of, start_with, case_with, case_behind, default_behind, unlabelled_with}
 use Rattle.dm_pstmt.specs.Steps.{closed_by, clause_of, default_from}
 use Rattle.dm_pstmt.proofs.Results.{then-some, alike}
-use Rattle.dm_pstmt.proofs.Wholes.{then-none, then-is, fails, if-so, if-not, gives-along}
+use Rattle.dm_pstmt.proofs.Wholes.{then-none, then-is, gives-along}
 
 -- what reads the parts of a node
 pub within-parts : (source : Source) (depth : ℕ) → (within source depth).parts ≡ lower source depth
@@ -179,7 +180,7 @@ else-read source inner before mid behind last now first next kept condition body
     let v : tree.Expr = view.expr condition.tree in
     let w : tree.Stmt = view.stmt body.tree in
     gives-along (a_stmt source) source before now made (and_then (else_with first v w) (inner.stmt mid next)) _
-    (if-so _ _ _ (stands-same source before mid (stmt_span w).after symbol.Else refl ∙ ap (λ n. stands source mid n symbol.Else) (sym b.ends) ∙ there.0)
+    (if-true _ _ _ (stands-same source before mid (stmt_span w).after symbol.Else refl ∙ ap (λ n. stands source mid n symbol.Else) (sym b.ends) ∙ there.0)
     ∙ ap (λ names. and_then (else_with first v w) (inner.stmt names ((stmt_span w).after + 1))) (sym k.scoped)
     ∙ ap (λ n. and_then (else_with first v w) (inner.stmt mid n)) (ap (λ n. n + 1) (sym b.ends) ∙ sym there.1))
     (re-scoped (a_stmt source) source before before now made _
@@ -195,7 +196,7 @@ no-else-read source inner before mid behind now first kept condition body read s
     let v : tree.Expr = view.expr condition.tree in
     let w : tree.Stmt = view.stmt body.tree in
     gives-along (a_stmt source) source before now made (if_only_behind first v w) _
-    (if-not _ _ _ (stands-same source before mid (stmt_span w).after symbol.Else refl ∙ ap (λ n. stands source mid n symbol.Else) (sym b.ends) ∙ none))
+    (if-false _ _ _ (stands-same source before mid (stmt_span w).after symbol.Else refl ∙ ap (λ n. stands source mid n symbol.Else) (sym b.ends) ∙ none))
     (re-scoped (a_stmt source) source before before now made _ (λ it is. ended (expr_declares source v) before mid now kept count k.scoped cut) given)
 
 -- `switch`
@@ -327,23 +328,23 @@ no-body source inner names at none = then-none _ _ none
 pub declared-item-wanted : (source : Source) (inner : Within) (names : List Declared) (at : ℕ) → begins_specifiers (symbol_in source names at) ≡ true
     → block_item_of source inner names at ≡ option_map tree.declared_item (declaration_of source inner names at)
 unfolding block_item_of
-declared-item-wanted source inner names at begins = if-so _ _ _ begins
+declared-item-wanted source inner names at begins = if-true _ _ _ begins
 
 pub stated-item-wanted : (source : Source) (inner : Within) (names : List Declared) (at : ℕ) → begins_specifiers (symbol_in source names at) ≡ false
     → block_item_of source inner names at ≡ option_map tree.stated_item (inner.stmt names at)
 unfolding block_item_of
-stated-item-wanted source inner names at begins = if-not _ _ _ begins
+stated-item-wanted source inner names at begins = if-false _ _ _ begins
 
 pub declaring-wanted : (source : Source) (inner : Within) (names : List Declared) (at : ℕ) → begins_specifiers (symbol_in source names at) ≡ true
     → start_of source inner names at ≡ option_map tree.declares (declaration_of source inner names at)
 unfolding start_of
-declaring-wanted source inner names at begins = if-so _ _ _ begins
+declaring-wanted source inner names at begins = if-true _ _ _ begins
 
 pub no-start-clause : (source : Source) (depth : ℕ) (names : List Declared) (at : ℕ) → begins_specifiers (symbol_in source names at) ≡ false
     → clause_of source (lower source depth) symbol.Semicolon names at ≡ None → start_of source (within source depth) names at ≡ None
 unfolding start_of
 no-start-clause source depth names at begins none =
-    if-not _ _ _ begins ∙ ap (λ parts. and_then (start_with source names at) (optional_of source parts symbol.Semicolon names at)) (within-parts source depth)
+    if-false _ _ _ begins ∙ ap (λ parts. and_then (start_with source names at) (optional_of source parts symbol.Semicolon names at)) (within-parts source depth)
     ∙ no-clause-in (λ it. Some (tree.evaluates it)) (λ it. stands source (optional_declares source it ++ names) (optional_after at it) symbol.Semicolon)
     (λ it. stands source (optional_declares source it ++ names) (optional_after at it) symbol.Semicolon) (optional_of source (lower source depth) symbol.Semicolon names at) (λ it. refl) none
 
@@ -352,30 +353,26 @@ pub evaluated-wanted : (source : Source) (depth : ℕ) (names : List Declared) (
 unfolding start_of
 evaluated-wanted source depth names at it begins is =
     let there = clause-there source (lower source depth) symbol.Semicolon names at it is in
-    if-not _ _ _ begins ∙ ap (λ parts. and_then (start_with source names at) (optional_of source parts symbol.Semicolon names at)) (within-parts source depth)
+    if-false _ _ _ begins ∙ ap (λ parts. and_then (start_with source names at) (optional_of source parts symbol.Semicolon names at)) (within-parts source depth)
     ∙ then-is (start_with source names at) _ it there.0 ∙ holds _ _ there.1
 
 -- what a statement with labels is by its first symbol
 pub case-wanted : (source : Source) (depth left : ℕ) (names : List Declared) (at : ℕ) → suc left ≡ depth → symbol_in source names at ≡ symbol.Case
     → (within source depth).labelled names at ≡ and_then (case_with source (within source left) names at) ((within source left).parts.expr 2 names (at + 1))
 unfolding labelled_of
-case-wanted source depth left names at less seen = one-labelled source depth left names at less ∙ if-so _ _ _ (ap (λ it. is it symbol.Case) seen)
+case-wanted source depth left names at less seen = one-labelled source depth left names at less ∙ if-true _ _ _ (ap (λ it. is it symbol.Case) seen)
 
 pub default-wanted : (source : Source) (depth left : ℕ) (names : List Declared) (at : ℕ) → suc left ≡ depth → symbol_in source names at ≡ symbol.Default
     → (within source depth).labelled names at ≡ default_from source (within source left) names at
 unfolding labelled_of
 default-wanted source depth left names at less seen =
-    one-labelled source depth left names at less ∙ if-not _ _ _ (ap (λ it. is it symbol.Case) seen) ∙ if-so _ _ _ (ap (λ it. is it symbol.Default) seen)
+    one-labelled source depth left names at less ∙ if-false _ _ _ (ap (λ it. is it symbol.Case) seen) ∙ if-true _ _ _ (ap (λ it. is it symbol.Default) seen)
 
 pub unlabelled-wanted : (source : Source) (depth left : ℕ) (names : List Declared) (at : ℕ) → suc left ≡ depth → stands source names at symbol.Case ≡ false → stands source names at symbol.Default ≡ false
     → (within source depth).labelled names at ≡ option_map (unlabelled_with at) ((within source depth).stmt names at)
 unfolding labelled_of
 unlabelled-wanted source depth left names at less no_case no_default =
-    one-labelled source depth left names at less ∙ if-not _ _ _ no_case ∙ if-not _ _ _ no_default ∙ ap (option_map (unlabelled_with at)) (sym (one-stmt source depth left names at less))
-
-unless : (test : Bool) → (test ≡ true → ⊥) → test ≡ false
-unless true not_so = absurd (not_so refl)
-unless false not_so = refl
+    one-labelled source depth left names at less ∙ if-false _ _ _ no_case ∙ if-false _ _ _ no_default ∙ ap (option_map (unlabelled_with at)) (sym (one-stmt source depth left names at less))
 
 pub is-not : (it other : Symbol) → (it ≡ other → ⊥) → is it other ≡ false
 is-not it other not_so = unless (is it other) (λ yes. not_so (is-it it other yes))

@@ -7,11 +7,6 @@ use Rattle.dm_pexpr.specs.declared.part.Part.{Part}
 use Rattle.dm_pexpr.specs.Parsing.{and_then, where_true}
 use Rattle.dm_pexpr.specs.Parts.{Kind, IsPart, Gives}
 
--- where nothing is read, none is there
-pub none-of : {A T : Type 0} (kind : Kind A T) (source : Source) (before behind : List Declared) (found : Option (Part A)) (wanted : Option T)
-    → found ≡ None → Gives kind source before behind found wanted → wanted ≡ None
-none-of kind source before behind found wanted is given = subst (λ it. Gives kind source before behind it wanted) is given
-
 -- a step behind nothing, and behind something
 pub then-none : {A B : Type 0} (next : A → Option B) (found : Option A) → found ≡ None → and_then next found ≡ None
 then-none next found is = ap (and_then next) is
@@ -22,35 +17,10 @@ then-is next found it is = ap (and_then next) is
 pub map-none : {A B : Type 0} (next : A → B) (found : Option A) → found ≡ None → option_map next found ≡ None
 map-none next found is = ap (option_map next) is
 
-pub map-is : {A B : Type 0} (next : A → B) (found : Option A) (it : A) → found ≡ Some it → option_map next found ≡ Some (next it)
-map-is next found it is = ap (option_map next) is
-
-pub fails : {A : Type 0} (test : Bool) (found : Option A) → test ≡ false → where_true test found ≡ None
-fails test found is = ap (λ it. where_true it found) is
-
-pub if-so : {A : Type 0} (test : Bool) (one other : A) → test ≡ true → (if test then one else other) ≡ one
-if-so test one other is = ap (λ it. if it then one else other) is
-
-pub if-not : {A : Type 0} (test : Bool) (one other : A) → test ≡ false → (if test then one else other) ≡ other
-if-not test one other is = ap (λ it. if it then one else other) is
-
-guarded : {A B : Type 0} (test : Bool) (next : A → Option B) (it : A) → where_true test (next it) ≡ and_then next (where_true test (Some it))
-guarded true next it = refl
-guarded false next it = refl
-
--- a test before a step may come at the end of the step before
-pub guard-first : {A B : Type 0} (test : A → Bool) (next : A → Option B) (found : Option A)
-    → and_then (λ it. where_true (test it) (next it)) found ≡ and_then next (and_then (λ it. where_true (test it) (Some it)) found)
-guard-first test next None = refl
-guard-first test next (Some it) = guarded (test it) next it
-
 -- what is read is what was to be read
 pub gives-along : {A T : Type 0} (kind : Kind A T) (source : Source) (before behind : List Declared) (found : Option (Part A)) (wanted other : Option T)
     → other ≡ wanted → Gives kind source before behind found wanted → Gives kind source before behind found other
 gives-along kind source before behind found wanted other is given = subst (λ it. Gives kind source before behind found it) (sym is) given
-
-pub none-gives : {A T : Type 0} (kind : Kind A T) (source : Source) (before behind : List Declared) (made : Option (Part A)) (wanted : Option T) → made ≡ None → wanted ≡ None → Gives kind source before behind made wanted
-none-gives kind source before behind made wanted none unread = subst (λ it. Gives kind source before behind it wanted) (sym none) unread
 
 -- a tree that is put together
 pub whole-part : {A T : Type 0} (kind : Kind A T) (source : Source) (before behind : List Declared) (made : Part A) (tree : T) (wanted : Option T)

@@ -1,5 +1,6 @@
 -- What is given for an external declaration.
 use Rattle.std.specs.Prelude.{◌≡◌, ◌≤◌, ◌<◌, ℕ, [], length, slice_get, MatchOption}
+use Rattle.dm_token.specs.Refusals.{syntax}
 use Rattle.dm_token.specs.declared.stop.Stop.{Stop}
 use Rattle.dm_token.specs.declared.stop.Stop.TheVariants.{Memory, Refused, Limit, ReadFault}
 use Rattle.dm_syn.specs.declared.statement.External.{External}
@@ -17,12 +18,12 @@ pub record IsExternalFound (source : Source) (at : ℕ) (found : External × ℕ
   pub onward : at < found.1
   pub within : found.1 ≤ length source.tokens
 
--- refusal 16 at the token there, where no external declaration begins
+-- the refusal of syntax at the token there, where no external declaration begins
 abbrev pub Refuses : Source → ℕ → Stop → Type 0
 Refuses source at Memory = Unit {0}
 Refuses source at (Refused given) =
     ((it : tree.External) → ¬ IsExternalAt source [] at it)
-    × MatchOption (slice_get source.tokens at) ⊥ (λ token. given ≡ record { number = 16; detail = 0; place = token.place })
+    × MatchOption (slice_get source.tokens at) ⊥ (λ token. given ≡ record { number = syntax; detail = 0; place = token.place })
 Refuses source at (Limit given) = ⊥
 Refuses source at (ReadFault file) = ⊥
 

@@ -15,8 +15,11 @@ ghost use Rattle.dm_pstmt.specs.Parsing.{stands, within, declaration_of, declara
 ghost use Rattle.dm_pstmt.specs.Steps.{with_row, with_item, declared_behind};
 
 use crate::initialiser::initialiser;
-use dm_pexpr::{Part, Reader, Scope, Shape, above, begun, checked, declarator_name, joined};
-use dm_syn::{Declaration, Declarator, InitDeclarator, Initialiser, Specifier, Specifiers, Symbol};
+use dm_pexpr::{Part, Reader, Scope, Shape, above, begun, checked, joined};
+use dm_syn::{
+    Declaration, Declarator, InitDeclarator, Initialiser, Specifier, Specifiers, Symbol,
+    declarator_name,
+};
 use dm_token::{List, Memory, Span};
 
 /// The declaration at a position, if there is one whose parts nest no deeper. What it declares is in scope behind it.

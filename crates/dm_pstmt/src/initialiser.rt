@@ -1,15 +1,14 @@
 //! Initialisers (6.7.9), read from left to right.
 
-ghost use Rattle.std.specs.Prelude.{◌≡◌, ◌+◌, ◌&&◌, not, ℕ, List, Option, IfOk, length, map, option_map};
+ghost use Rattle.std.specs.Prelude.{◌≡◌, ◌+◌, ℕ, List, Option, IfOk, map, option_map};
 ghost use Rattle.dm_syn.specs.declared.declared.Declared.{Declared};
-ghost use Rattle.dm_syn.specs.declared.symbol.Symbol.TheVariants.{Comma, RightBrace};
 ghost use Rattle.dm_syn.specs.Sources.{Source};
 ghost use Rattle.dm_syn.specs.Trees as tree;
 ghost use Rattle.dm_syn.specs.Views as view;
 ghost use Rattle.dm_pexpr.specs.Parsing.{all_turns, and_then};
-ghost use Rattle.dm_pexpr.specs.Parts.{source_of, Gives, IsPart, Passes, an_expr};
+ghost use Rattle.dm_pexpr.specs.Parts.{source_of, Gives, IsPart, an_expr};
 ghost use Rattle.dm_pstmt.specs.Kinds.{an_initialiser, initialisers_from};
-ghost use Rattle.dm_pstmt.specs.Parsing.{stands, initialiser_of, braces_from, more_initialisers as meant_more, valued as meant_valued};
+ghost use Rattle.dm_pstmt.specs.Parsing.{initialiser_of, braces_from, more_initialisers as meant_more, valued as meant_valued};
 ghost use Rattle.dm_pstmt.specs.Steps.{with_row, braces_round};
 
 use dm_pexpr::{Part, Reader, Scope, begun, checked, joined, over};
@@ -74,7 +73,7 @@ fn more_initialisers(
     let mut items = items;
     let mut turns = reader.tokens.len() + 1;
     while turns > 0 {
-        let Some(next) = comma(reader, scope, items.after) else {
+        let Some(next) = reader.behind_separator(scope, items.after) else {
             return Ok(Some(items));
         };
         let Some(item) = initialiser(reader, scope, next, depth)? else {
@@ -84,18 +83,6 @@ fn more_initialisers(
         turns -= 1;
     }
     Ok(Some(items))
-}
-
-// The position behind a comma, if one stands here and no closing brace behind it.
-fn comma(reader: &Reader, scope: &Scope, at: u32) -> Option<u32>
-    ensures { Passes (stands (source_of reader.now) scope.now at Comma && not (stands (source_of reader.now) scope.now (at + 1) RightBrace)) at (length reader.now.tokens.now) result }
-{
-    let next = reader.behind(scope, at, Symbol::Comma)?;
-    if reader.symbol(scope, next).is(Symbol::RightBrace) {
-        None
-    } else {
-        Some(next)
-    }
 }
 
 // An expression as an initialiser.

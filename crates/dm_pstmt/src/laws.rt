@@ -12,8 +12,8 @@ pub fn one_external()
     ensures { (source : Source) (names : List Declared) (at : ℕ) (a b : External) → IsExternalAt source names at a → IsExternalAt source names at b → a ≡ b }
 {}
 
-/// Reading from left to right, with one look at each token, gives the well-formed external declaration at a place, and
-/// none exactly where there is none.
+/// Reading from left to right, as `specs/Parsing.antt` defines it, gives the well-formed external declaration at a place,
+/// and none exactly where there is none.
 pub fn reads_externals()
     ensures found { (source : Source) (names : List Declared) (at : ℕ) (it : External) → external_at source names at ≡ Some it → IsExternalAt source names at it }
     ensures only { (source : Source) (names : List Declared) (at : ℕ) (it : External) → IsExternalAt source names at it → external_at source names at ≡ Some it }

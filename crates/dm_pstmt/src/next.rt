@@ -1,6 +1,7 @@
 //! The next external declaration of a unit.
 
 ghost use Rattle.std.specs.Prelude.{◌≡◌, ◌≤◌, ◌<◌, [], length, IfOk, IfErr};
+ghost use Rattle.dm_token.specs.Refusals.{syntax};
 ghost use Rattle.dm_token.specs.declared.stop.Stop.TheVariants.{Refused};
 ghost use Rattle.dm_syn.specs.Scopes.{external_declares};
 ghost use Rattle.dm_syn.specs.Trees as tree;
@@ -16,16 +17,13 @@ use crate::external::external;
 use crate::nodes::boxed_external;
 use dm_pexpr::{Names, Part, Reader, Scope};
 use dm_syn::External;
-use dm_token::{Boxed, CToken, Refusal, Stop};
+use dm_token::{Boxed, CToken, GREATEST_HEIGHT, Refusal, Stop, refusals};
 use std::alloc::Global;
 
-// The greatest height.
-const LIMIT: u32 = 512;
-
-/// The external declaration that begins at a position (6.9), with a height of at most 512, and the position behind it;
-/// refusal 16 at the token there exactly where there is none. Behind it the names have what it declares in file scope,
-/// each with whether it names a type, the latest declaration of a name counting. A refusal leaves them as they were.
-/// After want of memory some of the declarations are in, so they aren't used again.
+/// The external declaration that begins at a position (6.9), with a height of at most [`GREATEST_HEIGHT`], and the
+/// position behind it; the refusal of syntax at the token there exactly where there is none. Behind it the names have what
+/// it declares in file scope, each with whether it names a type, the latest declaration of a name counting. A refusal
+/// leaves them as they were; what they are after want of memory is left open.
 pub fn next_external(
     alloc: Global,
     tokens: &[CToken],
@@ -87,18 +85,18 @@ fn read(
         typedefs,
     };
     let start = at as usize;
-    match external(&reader, scope, at, LIMIT)? {
+    match external(&reader, scope, at, GREATEST_HEIGHT)? {
         Some(found) => Ok(found),
         None => Err(refused(&tokens[start])),
     }
 }
 
-// What isn't the syntax of C is refused as 16, at a token.
+// The refusal of what isn't the syntax of C, at a token.
 fn refused(token: &CToken) -> Stop
-    ensures { result ≡ Refused (record { number = 16; detail = 0; place = token.now.place }) }
+    ensures { result ≡ Refused (record { number = syntax; detail = 0; place = token.now.place }) }
 {
     Stop::Refused(Refusal {
-        number: 16,
+        number: refusals::SYNTAX,
         detail: 0,
         place: token.place,
     })

@@ -1,13 +1,14 @@
 //! Statements and external declarations that are put together of their parts.
 
 ghost use Rattle.std.specs.Prelude.{◌≡◌, ◌+◌, ◌≤◌, ◌++◌, ℕ, true, List, Option, Some, None, IfOk, length, nat_le, option_map, if◌then◌else◌};
+ghost use Rattle.dm_token.specs.Limits.{greatest_height};
 ghost use Rattle.dm_syn.specs.declared.declared.Declared.{Declared};
 ghost use Rattle.dm_syn.specs.declared.symbol.Symbol.TheVariants.{Semicolon};
 ghost use Rattle.dm_syn.specs.Sources.{Source};
 ghost use Rattle.dm_syn.specs.Scopes.{named_declares, defines_types as types_meant};
 ghost use Rattle.dm_syn.specs.Trees as tree;
 ghost use Rattle.dm_syn.specs.Views as view;
-ghost use Rattle.dm_pexpr.specs.Parsing.{limit, span_of, and_then};
+ghost use Rattle.dm_pexpr.specs.Parsing.{span_of, and_then};
 ghost use Rattle.dm_pexpr.specs.Parts.{Gives, IsPart, an_expr, the_specifiers, a_declarator};
 ghost use Rattle.dm_pstmt.specs.Kinds.{a_declaration, an_external, a_stmt, a_labelled, a_block_item, an_optional, a_start, block_items_from, switch_items_from, clauses_from, seen_clauses};
 ghost use Rattle.dm_pstmt.specs.Parsing.{stands, expression_with, return_with, jump, block_with, if_only_behind, else_with, while_behind, do_behind, switch_braced, case_behind, default_behind, unlabelled_with, external_declared, definition_with};
@@ -37,7 +38,7 @@ fn node(
     height: u32,
     form: StmtForm,
 ) -> Result<Option<Part<Boxed<Stmt>>>, Memory>
-    ensures { IfOk result (λ made. made ≡ (if nat_le height limit then Some (record { tree = record { span = record { first = first; after = after }; form = form }; height = height; after = after }) else None)) }
+    ensures { IfOk result (λ made. made ≡ (if nat_le height greatest_height then Some (record { tree = record { span = record { first = first; after = after }; form = form }; height = height; after = after }) else None)) }
 {
     let tree = Stmt {
         span: Span { first, after },
@@ -292,7 +293,7 @@ pub(crate) fn continue_at(
 
 // A statement with labels of that form, unless it is too high.
 fn label_node(first: u32, after: u32, height: u32, form: SwitchForm) -> Option<Part<SwitchItem>>
-    ensures { result ≡ (if nat_le height limit then Some (record { tree = record { span = record { first = first; after = after }; form = form }; height = height; after = after }) else None) }
+    ensures { result ≡ (if nat_le height greatest_height then Some (record { tree = record { span = record { first = first; after = after }; form = form }; height = height; after = after }) else None) }
 {
     let tree = SwitchItem {
         span: Span { first, after },

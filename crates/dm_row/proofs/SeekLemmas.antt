@@ -1,6 +1,5 @@
 -- Moving the place in a row.
-use Rattle.std.proofs.Common.{◌≡◌, ℕ, suc, ◌+◌, ◌<◌, ◌≤◌, Bool, true, false, ◌&&◌, nat_le, nat_eq, List, [], ◌∷◌, ◌++◌, length, refl, sym, ap, ◌∙◌, arith, append_assoc, append-nil, leb-true, eqb-true, eq-eqb}
-use Rattle.std.proofs.lemmas.List.{length-append}
+use Rattle.std.proofs.Common.{◌≡◌, ℕ, ◌+◌, ◌≤◌, Bool, true, false, ◌&&◌, nat_le, nat_eq, List, [], ◌∷◌, ◌++◌, refl, sym, ap, ◌∙◌, arith, append_assoc, leb-true, eqb-true, eq-eqb}
 use Rattle.dm_row.specs.declared.item.Item.{Item}
 use Rattle.dm_row.specs.declared.item.Item.TheVariants.{Done, Waits}
 use Rattle.dm_row.specs.Counts.{one_if, ready_in, results_after, is_next_ready}
@@ -14,25 +13,6 @@ Sides R N = List (Item R N) × List (Item R N)
 pub behind-same : {R N : Type 0} (first second : Sides R N) → IsBehind first second → first.0 ++ first.1 ≡ second.0 ++ second.1
 behind-same first second h =
     ap (λ xs. first.0 ++ xs) h.behind ∙ (sym (append_assoc first.0 (h.item ∷ []) second.1) ∙ ap (λ xs. xs ++ second.1) (sym h.in_front))
-
-pub behind-longer : {R N : Type 0} (first second : Sides R N) → IsBehind first second → length second.0 ≡ length first.0 + 1
-behind-longer first second h = ap length h.in_front ∙ length-append first.0 (h.item ∷ [])
-
-pub behind-shorter : {R N : Type 0} (first second : Sides R N) → IsBehind first second → length first.1 ≡ suc (length second.1)
-behind-shorter first second h = ap length h.behind
-
--- where some node is ready, there is an item
-pub some-item : {R N : Type 0} (items : List (Item R N)) (n : ℕ) → n < ready_in 0 items → 0 < length items
-some-item [] n less = omega (arith, less)
-some-item (item ∷ items) n less = omega arith
-
--- where fewer nodes are ready in front of the place than in all, there is an item behind it
-pub some-behind : {R N : Type 0} (both : Sides R N) (number : ℕ) → ready_in 0 both.0 ≤ number → number < ready_in 0 (both.0 ++ both.1) → 0 < length both.1
-some-behind both number few there = from both.1 there
-  where
-    from : (rest : List _) → number < ready_in 0 (both.0 ++ rest) → 0 < length rest
-    from [] less = let e = ap (ready_in 0) (append-nil both.0) in omega (arith, few, less, e)
-    from (item ∷ rest) less = omega arith
 
 own-ready : {R N : Type 0} (item : Item R N) (results : ℕ) (rest : List (Item R N)) → is_next_ready results (item ∷ rest) ≡ false → ready_in results (item ∷ []) ≡ 0
 own-ready (Done result weight) results rest is = refl
@@ -84,15 +64,8 @@ sought {R} {N} before after number same is =
     from (Waits node operands ∷ rest) e next counted =
         record { same = same; node = node; operands = operands; rest = rest; there = e; enough = leb-true operands (results_after 0 after.0) next; counted = counted }
 
-pub sought-through : {R N : Type 0} (before middle after : Sides R N) (number : ℕ) → before.0 ++ before.1 ≡ middle.0 ++ middle.1 → IsSought number middle after → IsSought number before after
-sought-through before middle after number same h =
-    record { same = same ∙ h.same; node = h.node; operands = h.operands; rest = h.rest; there = h.there; enough = h.enough; counted = h.counted }
-
 -- ---- the last item
 
 -- behind a node stands no result
 pub behind-node : {R N : Type 0} (xs : List (Item R N)) (node : N) (operands : ℕ) → results_after 0 (xs ++ Waits node operands ∷ []) ≡ 0
 behind-node xs node operands = results-append 0 xs (Waits node operands ∷ [])
-
-pub behind-result : {R N : Type 0} (xs : List (Item R N)) (result : R) (weight : ℕ) → results_after 0 (xs ++ Done result weight ∷ []) ≡ suc (results_after 0 xs)
-behind-result xs result weight = results-append 0 xs (Done result weight ∷ [])

@@ -2,7 +2,7 @@ ghost use Rattle.std.specs.Prelude.{◌≡◌, ◌++◌, [], slice_index_or, IfO
 ghost use Rattle.dm_run.specs.Texts.{cause_name as name_of_cause, end_text, exit_text, output_of, run_text as text_of_run, undefined_text};
 
 use dm_exec::Outcome;
-use dm_lines::append_all;
+use dm_lines::{append_all, name_by_number};
 use dm_meaning::Cause;
 use dm_token::{Memory, Place, Text};
 use itoa::Buffer;
@@ -94,16 +94,6 @@ fn append_undefined_in(
             b"]\n",
         ],
     )
-}
-
-/// The name of a number, which is empty where there is none.
-fn name_by_number(names: &[Text], file: u32) -> &[u8]
-    ensures { result.now ≡ slice_index_or names.now file [] }
-{
-    match names.get(file as usize) {
-        Some(name) => name.bytes(),
-        None => &[],
-    }
 }
 
 /// The name of a cause.

@@ -1,10 +1,8 @@
 -- From what comes behind a reading to its finish.
-use Rattle.std.proofs.Common.{◌≡◌, ◌⊎◌, inl, inr, ℕ, true, false, List, Option, Some, None, MatchOption, Result, Ok, Err, IfOk, OnOk, OnErr, ap, subst}
+use Rattle.std.proofs.Common.{◌≡◌, ◌⊎◌, inl, inr, ℕ, false, List, Option, Some, None, MatchOption, Result, Ok, Err, IfOk, OnErr, ap, subst}
 use Rattle.dm_token.specs.declared.stop.Memory.{Memory}
 use Rattle.dm_io.specs.Output.{appended, MayHaveAppended}
 use Rattle.dm_io.specs.Faults.{Rose}
-use Rattle.dm_lines.specs.Lines.{limit_line, refusal_line}
-use Rattle.dm_lines.specs.Puts.{PutsText}
 use Rattle.dm_meaning.specs.Units.{main_of}
 use Rattle.dm_exec.specs.declared.outcome.Outcome.{Outcome}
 use Rattle.dm_exec.specs.Outcomes.{IsRun}
@@ -13,7 +11,7 @@ use Rattle.dm_read.specs.declared.unit.Reading.{Reading}
 use Rattle.dm_run.specs.Texts.{run_text}
 use Rattle.dm_words.specs.Requests.{RunRequest}
 use Rattle.dm_running.specs.Readings.{exceeds, program_of}
-use Rattle.dm_running.specs.Finishes.{ran, unput, too_many_definitions, main_missing, without_main, Runs, IsFinishedAs}
+use Rattle.dm_running.specs.Finishes.{ran, unput, Runs, IsFinishedAs}
 
 -- the run of the program that is made of a reading
 pub reading_runs : (request : RunRequest) (reading : Reading) (input : List ℕ) (made : Option Source) (program : Source) (outcome : Outcome) → exceeds reading.pp.read ≡ false → made ≡ Some program
@@ -25,25 +23,6 @@ reading_runs request reading input made program outcome few is makes runs =
     (few, subst (λ (one : Source). IsRun (meant one) request.order request.steps input outcome) same runs)
 
 module _ (request : RunRequest) (reading : Reading) (names : List (List ℕ)) (input : List ℕ) (before after : Option (List ℕ)) (faults_before faults_after : ℕ) (result : Result ℕ Memory) where
-  pub finished_full : exceeds reading.pp.read ≡ true → OnOk result (PutsText before after faults_before faults_after (limit_line 8 request.project)) → IfOk result (λ status. status ≡ 4)
-      → OnErr result (after ≡ before) → IsFinishedAs request reading names input before after faults_before faults_after result
-  finished_full many = at result
-    where
-      at : (given : Result ℕ Memory) → OnOk given (PutsText before after faults_before faults_after (limit_line 8 request.project)) → IfOk given (λ status. status ≡ 4)
-          → OnErr given (after ≡ before) → IsFinishedAs request reading names input before after faults_before faults_after given
-      at (Ok status) puts is unwritten = (too_many_definitions, is, (many, puts))
-      at (Err error) puts is unwritten = unwritten
-
-  pub finished_mainless : exceeds reading.pp.read ≡ false → main_of (program_of reading.types reading.core) ≡ None
-      → OnOk result (PutsText before after faults_before faults_after (refusal_line reading.unit.file without_main)) → IfOk result (λ status. status ≡ 3)
-      → OnErr result (after ≡ before) → IsFinishedAs request reading names input before after faults_before faults_after result
-  finished_mainless few none = at result
-    where
-      at : (given : Result ℕ Memory) → OnOk given (PutsText before after faults_before faults_after (refusal_line reading.unit.file without_main)) → IfOk given (λ status. status ≡ 3)
-          → OnErr given (after ≡ before) → IsFinishedAs request reading names input before after faults_before faults_after given
-      at (Ok status) puts is unwritten = (main_missing, is, (few, none, puts))
-      at (Err error) puts is unwritten = unwritten
-
   pub finished_run : (outcome : Outcome) → Runs request reading input outcome → (result ≡ Ok 0 → after ≡ appended before (run_text names outcome))
       → (result ≡ Ok 7 → Rose faults_before faults_after × MayHaveAppended before after (run_text names outcome)) → IfOk result (λ status. (status ≡ 0) ⊎ (status ≡ 7))
       → OnErr result (after ≡ before) → IsFinishedAs request reading names input before after faults_before faults_after result

@@ -10,19 +10,16 @@ use Rattle.dm_token.specs.declared.unit.Unit.{Unit as Source}
 use Rattle.dm_io.specs.Files.{Files}
 use Rattle.dm_io.specs.Faults.{Rose}
 use Rattle.dm_search.specs.Loaded.{Loaded}
-use Rattle.dm_search.specs.Fresh.{fresh}
-use Rattle.dm_unit.specs.Units.{setting_of}
 use Rattle.dm_manifest.specs.Defines.{is_define}
 use Rattle.dm_manifest.specs.Units.{IsLawful, is_definable}
 use Rattle.dm_lines.specs.Outside.{Outside, KeepsFiles, Puts}
 use Rattle.dm_lines.specs.Puts.{PutsText}
 use Rattle.dm_lines.specs.Stops.{line_of_stop, status_of_stop}
 use Rattle.dm_read.specs.declared.unit.Reading.{Reading}
-use Rattle.dm_read.specs.Reading.{IsReading}
 use Rattle.dm_words.specs.Requests.{RunRequest}
 use Rattle.dm_running.specs.declared.input.NoInput.{NoInput}
 use Rattle.dm_running.specs.declared.input.NoInput.TheVariants.{Missing, TooLong, ReadFault}
-use Rattle.dm_running.specs.Inputs.{HasInput, HasInputFile, HasNoInput, IsNoInputFile, line_of_no_input, line_without_input, status_of_no_input}
+use Rattle.dm_running.specs.Inputs.{HasInput, HasNoInput, IsNoInputFile, line_of_no_input, line_without_input, status_of_no_input}
 use Rattle.dm_running.specs.Readings.{IsUnitReading}
 use Rattle.dm_running.specs.Finishes.{IsFinishedAs}
 use Rattle.dm_running.specs.Endings.{RunEnding, finished, stopped, input_missing, memory_wanted, HasCause, EndsWithInput, EndsWithInputAs, EndsRun, EndsRunAs}
@@ -30,12 +27,6 @@ use Rattle.dm_running.specs.Endings.{RunEnding, finished, stopped, input_missing
 -- faults that rose since a later moment rose since an earlier one
 pub Rose-earlier : (before middle after : ℕ) → before ≤ middle → Rose middle after → Rose before after
 Rose-earlier before middle after order rose = omega arith
-
--- what a reading by a loader that knows nothing gives
-pub is_unit_reading : (told : Option Files) (unit : Source) (old new : Loaded) (result : Result Reading Stop) → old ≡ fresh
-    → ((files : Files) → told ≡ Some files → IsReading (setting_of old new files unit) unit old result new) → IsUnitReading told unit result new
-is_unit_reading None unit old new result is gives = tt
-is_unit_reading (Some files) unit old new result is gives = subst (λ (loaded : Loaded). IsReading (setting_of loaded new files unit) unit loaded result new) is (gives files refl)
 
 -- the defines of a lawful unit are no longer than a file
 short_defines : (defines : List (List ℕ)) → list_all is_definable defines ≡ true → All (λ (define : List ℕ). length define ≤ source_length_limit) defines
@@ -88,10 +79,6 @@ module _ (request : RunRequest) (unit : Source) (input : List ℕ) (before middl
   ends_earlier (input_missing why) ends = absurd ends
   ends_earlier memory_wanted ends = (ends.0 ∙ same_files, ends.1 ∙ same_written)
 
-  pub ends_on : (result : Result ℕ Memory) → EndsWithInputAs request unit input middle after result → EndsRunAs request unit before after result
-  ends_on (Ok status) ends = (ends.0, ends.1, ends_earlier ends.0 ends.2)
-  ends_on (Err error) ends = ends_earlier memory_wanted ends
-
 -- there is no input
 pub ends_without : (request : RunRequest) (unit : Source) (name : List ℕ) (before after : Outside) (why : NoInput) (result : Result ℕ Memory) → request.input ≡ Some name
     → IsNoInputFile before.files name before.folder_faults after.folder_faults why → KeepsFiles before after → OnOk result (Puts before after (line_of_no_input name why))
@@ -106,10 +93,6 @@ ends_without request unit name before after why (Ok status) named none keeps put
   ),
 )
 ends_without request unit name before after why (Err error) named none keeps puts is unwritten = (keeps, unwritten)
-
--- the input of a file, and no input
-pub has_named : (told : Option Files) (given : Option (List ℕ)) (name bytes : List ℕ) → given ≡ Some name → HasInputFile told name bytes → HasInput told given bytes
-has_named told given name bytes named has = subst (λ one. HasInput told one bytes) (sym named) has
 
 -- what a run ends as from a later moment on, at which the files and the output are as before, it ends as from the earlier one
 lacks_earlier : (told : Option Files) (given : Option (List ℕ)) (before middle after : ℕ) (why : NoInput) → before ≤ middle → HasNoInput told given middle after why → HasNoInput told given before after why

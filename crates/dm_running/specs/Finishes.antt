@@ -2,6 +2,8 @@
 use Rattle.std.specs.Prelude.{◌≡◌, ℕ, true, false, List, Option, None, Result, Ok, Err}
 use Rattle.dm_token.specs.declared.stop.Memory.{Memory}
 use Rattle.dm_token.specs.declared.stop.Refusal.{Refusal}
+use Rattle.dm_token.specs.LimitNumbers.{definitions}
+use Rattle.dm_token.specs.Refusals.{no_main}
 use Rattle.dm_io.specs.Output.{appended, MayHaveAppended}
 use Rattle.dm_io.specs.Faults.{Rose}
 use Rattle.dm_lines.specs.Lines.{limit_line, refusal_line}
@@ -29,7 +31,7 @@ status_of_finish main_missing = 3
 
 -- a unit without `main` is refused at the beginning of its main file
 abbrev pub without_main : Refusal
-without_main = record { number = 19; detail = 0; place = record { file = 0; byte = 0; line = 1; column = 1 } }
+without_main = record { number = no_main; detail = 0; place = record { file = 0; byte = 0; line = 1; column = 1 } }
 
 -- the one run of the unit's program on an input that the request's order and number of steps choose
 abbrev pub Runs : RunRequest → Reading → List ℕ → Outcome → Type 0
@@ -42,7 +44,7 @@ IsFinish request reading names input before after faults_before faults_after (ra
 IsFinish request reading names input before after faults_before faults_after (unput outcome) =
     Runs request reading input outcome × Rose faults_before faults_after × MayHaveAppended before after (run_text names outcome)
 IsFinish request reading names input before after faults_before faults_after too_many_definitions =
-    (exceeds reading.pp.read ≡ true) × PutsText before after faults_before faults_after (limit_line 8 request.project)
+    (exceeds reading.pp.read ≡ true) × PutsText before after faults_before faults_after (limit_line definitions request.project)
 IsFinish request reading names input before after faults_before faults_after main_missing =
     (exceeds reading.pp.read ≡ false) × (main_of (program_of reading.types reading.core) ≡ None)
     × PutsText before after faults_before faults_after (refusal_line reading.unit.file without_main)

@@ -1,6 +1,7 @@
 -- The file that a program reads.
 use Rattle.std.specs.Prelude.{◌≡◌, ◌≤◌, ◌⊎◌, ℕ, true, false, List, [], length, Option, Some, None}
 use Rattle.dm_token.specs.Limits.{source_length_limit}
+use Rattle.dm_token.specs.LimitNumbers.{file_bytes}
 use Rattle.dm_token.specs.Names.{is_normal_name}
 use Rattle.dm_io.specs.Files.{Files}
 use Rattle.dm_io.specs.Faults.{Rose}
@@ -38,7 +39,7 @@ IsInputSought told name before after (Lacking why) = IsNoInputFile told name bef
 -- the line that says why there is none, and the status
 abbrev pub line_of_no_input : List ℕ → NoInput → List ℕ
 line_of_no_input name Missing = manifest_line 8 name
-line_of_no_input name TooLong = limit_line 1 name
+line_of_no_input name TooLong = limit_line file_bytes name
 line_of_no_input name ReadFault = read_fault_line name
 
 abbrev pub line_without_input : Option (List ℕ) → NoInput → List ℕ

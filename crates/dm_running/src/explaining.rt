@@ -1,6 +1,7 @@
 //! Why there is no run.
 
 ghost use Rattle.std.specs.Prelude.{◌≡◌, ◌≤◌, IfOk, OnOk, OnErr};
+ghost use Rattle.dm_token.specs.LimitNumbers.{definitions};
 ghost use Rattle.dm_lines.specs.Puts.{PutsText};
 ghost use Rattle.dm_lines.specs.Lines.{limit_line as limit_text, refusal_line as refusal_text};
 ghost use Rattle.dm_running.specs.Inputs.{line_of_no_input, status_of_no_input};
@@ -9,6 +10,8 @@ ghost use Rattle.dm_running.specs.Finishes.{without_main as lacks_main};
 use crate::input::NoInput;
 use dm_io::Sink;
 use dm_lines::{limit_line, manifest_line, put_line, read_fault_line, refusal_line};
+use dm_token::limit_numbers::{DEFINITIONS, FILE_BYTES};
+use dm_token::refusals::NO_MAIN;
 use dm_token::{Memory, Place, Refusal};
 use std::alloc::Global;
 
@@ -34,7 +37,7 @@ fn line_about_no_input(alloc: Global, name: &[u8], why: NoInput) -> Result<Vec<u
 {
     match why {
         NoInput::Missing => manifest_line(alloc, 8, name),
-        NoInput::TooLong => limit_line(alloc, 1, name),
+        NoInput::TooLong => limit_line(alloc, FILE_BYTES, name),
         NoInput::ReadFault => read_fault_line(alloc, name),
     }
 }
@@ -55,12 +58,12 @@ pub(crate) fn explain_definitions<S: Sink>(
     out: &mut S,
     project: &[u8],
 ) -> Result<u8, Memory>
-    ensures put { OnOk result (PutsText (S.written out.old) (S.written out.new) (S.faults out.old) (S.faults out.new) (limit_text 8 project.now)) }
+    ensures put { OnOk result (PutsText (S.written out.old) (S.written out.new) (S.faults out.old) (S.faults out.new) (limit_text definitions project.now)) }
     ensures status { IfOk result (λ status. status ≡ 4) }
     ensures err { OnErr result (S.written out.new ≡ S.written out.old) }
     ensures later { S.faults out.old ≤ S.faults out.new }
 {
-    let line = limit_line(alloc, 8, project)?;
+    let line = limit_line(alloc, DEFINITIONS, project)?;
     put_line(alloc, out, line.as_slice())?;
     Ok(4)
 }
@@ -85,7 +88,7 @@ fn without_main() -> Refusal
     ensures { result ≡ lacks_main }
 {
     Refusal {
-        number: 19,
+        number: NO_MAIN,
         detail: 0,
         place: Place {
             file: 0,

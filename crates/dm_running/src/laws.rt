@@ -16,6 +16,7 @@ pub fn complete_run()
         → EndsRun request unit before after ending → ¬ Rose before.folder_faults after.folder_faults → ¬ Rose before.sink_faults after.sink_faults
         → (status_of_run ending ≡ 0) ⊎ (status_of_run ending ≡ 8) }
 {
+    // The laws on which its proof rests.
     one_syntax();
     no_refusal_of_syntax();
 }

@@ -21,7 +21,7 @@ use Rattle.dm_program.specs.Initials.{are_known_in_initial, view_of_initial}
 use Rattle.dm_value.specs.declared.value.Value.{Value}
 use Rattle.dm_value.specs.Views.{view_of_value}
 use Rattle.dm_start.specs.declared.scene.Scene.{Scene}
-use Rattle.dm_start.specs.Scenes.{memory_in, parts_from, program_in, scalar_in, types_in, value_in}
+use Rattle.dm_start.specs.Scenes.{memory_in, parts_from, program_in, types_in, value_in}
 
 -- the first of them, and the others
 pub parts-first : (scene : Scene) (kind : CType) (n : ℕ) (first : Initial) (rest : List Initial)
@@ -78,10 +78,6 @@ counted (first ∷ rest) = ap suc (counted rest)
 module _ (scene : Scene) (kind : CType) where
   abbrev given : OpenedInitial → values.Value
   given one = static_value (program_in scene) scene.names.now (memory_in scene) kind one.initialiser one.expressions
-
-  -- one expression
-  pub value-Value : (one : Initial) (a : Core) → one ≡ initial.Value a → value_in scene kind one ≡ scalar_in scene (bare kind) a
-  value-Value one a is = ap given (ap (view_of_initial (types_in scene)) is ∙ initial-Value (types_in scene) a)
 
   -- a list in braces
   pub value-Parts : (one : Initial) (items : List Initial) → one ≡ initial.Parts items

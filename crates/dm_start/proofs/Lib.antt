@@ -1,4 +1,3 @@
-mod CompletingLemmas
 mod LoopLemmas
 mod MakingLemmas
 mod InitialLemmas

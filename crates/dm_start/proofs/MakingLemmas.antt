@@ -1,18 +1,16 @@
 -- New objects, one after the other.
-use Rattle.std.proofs.Common.{◌≡◌, ℕ, suc, ◌+◌, List, [], ◌∷◌, ◌++◌, length, map, length-append, Option, Some, None, Bor, refl, ap, sym, arith, ◌∙◌}
-use Rattle.dm_type.specs.Tables.{Table, type_of}
+use Rattle.std.proofs.Common.{◌≡◌, ℕ, suc, List, [], ◌∷◌, length, map, Option, Some, None, Bor, refl, ap, arith, ◌∙◌}
+use Rattle.dm_type.specs.Tables.{Table}
 use Rattle.dm_tree.specs.declared.tree.Initial.{Initial}
-use Rattle.dm_layout.specs.LaidOut.{laid_out}
-use Rattle.dm_memory.proofs.ChangedLemmas.{more-view}
 use Rattle.dm_memory.specs.declared.blocks.Block.{Block}
-use Rattle.dm_memory.specs.Blocks.{view_of_block, view_of_blocks, AreKnown}
+use Rattle.dm_memory.specs.Blocks.{view_of_blocks, AreKnown}
 use Rattle.dm_meaning.specs.Operations.{Objects}
-use Rattle.dm_meaning.specs.Programs.{Program, layout}
-use Rattle.dm_meaning.specs.Statements.{named_from, type_declared}
+use Rattle.dm_meaning.specs.Programs.{Program}
+use Rattle.dm_meaning.specs.Statements.{named_from}
 use Rattle.dm_meaning.specs.Units.{static_numbers, zeroed_from}
 use Rattle.dm_program.specs.declared.fixed.Static.{Static}
 use Rattle.dm_program.specs.Statics.{view_of_static}
-use Rattle.dm_start.specs.Making.{zero_block, IsMade}
+use Rattle.dm_start.specs.Making.{IsMade}
 
 pub none-made : (program : Program) (objects : Objects) (blocks : List Block) → AreKnown program.table blocks → IsMade program [] objects blocks objects blocks
 none-made program objects blocks known = record { names = refl; memory = refl; count = omega arith; known = known }
@@ -31,19 +29,6 @@ more-made program d ds objects between named blocks more made first later =
       count = omega (arith, later.count, count);
       known = later.known;
     }
-
--- the object of a declaration
-pub one-made : (program : Program) (d kind : ℕ) (block : Block) (objects named : Objects) (blocks made : List Block) → type_declared program d ≡ type_of program.table kind
-    → view_of_block program.table block ≡ zero_block (laid_out program.table) (type_of program.table kind) → named ≡ (d, length blocks) ∷ objects → made ≡ blocks ++ block ∷ []
-    → AreKnown program.table made → IsMade program (d ∷ []) objects blocks named made
-one-made program d kind block objects named blocks made typed seen is makes known = record {
-  names = is;
-  memory = ap (view_of_blocks program.table) makes
-      ∙ (more-view program.table blocks block
-      ∙ ap (λ one. (length blocks, one) ∷ view_of_blocks program.table blocks) (seen ∙ ap (zero_block (layout program)) (sym typed)));
-  count = let l : length (blocks ++ block ∷ []) ≡ length blocks + 1 = length-append blocks (block ∷ []) in ap length makes ∙ omega (arith, l);
-  known = known;
-}
 
 -- ---- declarations
 

@@ -1,20 +1,16 @@
 -- First values that are found before they are stored are those that the definition stores one after the other.
-use Rattle.std.proofs.Common.{◌≡◌, ℕ, suc, length, List, [], ◌∷◌, ◌++◌, map, append_assoc, Option, Some, None, option_map, option_to_list, Bor, refl, ap, sym, ◌∙◌}
+use Rattle.std.proofs.Common.{◌≡◌, ℕ, suc, length, List, [], ◌∷◌, ◌++◌, map, append_assoc, Option, Some, None, option_map, option_to_list, refl, ap, sym, ◌∙◌}
 use Rattle.std.proofs.lemmas.List.{map-append}
-use Rattle.dm_type.specs.CTypes.{CType}
-use Rattle.dm_tree.specs.declared.tree.Initial.{Initial}
 use Rattle.dm_tree.specs.Trees.{Initialiser}
 use Rattle.dm_meaning.specs.Memory.{Block, Memory, changed_block, written}
 use Rattle.dm_meaning.specs.Operations.{object_named, whole}
 use Rattle.dm_meaning.specs.Programs.{Static}
-use Rattle.dm_meaning.specs.Statements.{type_declared}
 use Rattle.dm_meaning.specs.Units.{all_initialised, initialised}
 use Rattle.dm_meaning.specs.Values as values
 use Rattle.dm_program.specs.declared.fixed.Static as fixed
-use Rattle.dm_program.specs.Statics.{view_of_static}
 use Rattle.dm_start.specs.declared.scene.Scene.{Scene}
 use Rattle.dm_start.specs.declared.storing.Kept.{Kept}
-use Rattle.dm_start.specs.Scenes.{memory_in, program_in, types_in, value_in}
+use Rattle.dm_start.specs.Scenes.{memory_in, program_in}
 use Rattle.dm_start.specs.Storing.{kept_all, kept_by, kept_one, view_of_kept, with_values}
 
 listed-map : (kept : Option Kept) → map view_of_kept (option_to_list kept) ≡ option_to_list (option_map view_of_kept kept)
@@ -47,31 +43,6 @@ module _ (scene : Scene) where
   stored-by static (Some n) (Some initialiser) rest memory = refl
 
   -- ---- the first value of an object
-
-  without-initialiser : (static : Static) (n : Option ℕ) → kept_by scene static n None ≡ []
-  without-initialiser static None = refl
-  without-initialiser static (Some n) = refl
-
-  pub kept-none : (one : fixed.Static) → one.initial ≡ None → kept_one scene (view_of_static (types_in scene) one) ≡ []
-  kept-none one is =
-      ap (λ (given : Option (Bor Initial)). kept_one scene (view_of_static (types_in scene) (record { declared = one.declared; initial = given }))) is
-      ∙ without-initialiser (record { declared = one.declared; initialiser = None; expressions = [] }) (object_named scene.names.now one.declared)
-
-  pub kept-unnamed : (one : fixed.Static) (initial : Bor Initial) → one.initial ≡ Some initial → object_named scene.names.now one.declared ≡ None
-      → kept_one scene (view_of_static (types_in scene) one) ≡ []
-  kept-unnamed one initial is named =
-      let seen = view_of_static (types_in scene) (record { declared = one.declared; initial = Some initial }) in
-      ap (λ (given : Option (Bor Initial)). kept_one scene (view_of_static (types_in scene) (record { declared = one.declared; initial = given }))) is
-      ∙ ap (λ found. kept_by scene seen found seen.initialiser) named
-
-  pub kept-some : (one : fixed.Static) (initial : Bor Initial) (n : ℕ) (kind : CType) → one.initial ≡ Some initial → object_named scene.names.now one.declared ≡ Some n
-      → type_declared (program_in scene) one.declared ≡ kind
-      → kept_one scene (view_of_static (types_in scene) one) ≡ (n, value_in scene kind initial.now) ∷ []
-  kept-some one initial n kind is named typed =
-      let seen = view_of_static (types_in scene) (record { declared = one.declared; initial = Some initial }) in
-      ap (λ (given : Option (Bor Initial)). kept_one scene (view_of_static (types_in scene) (record { declared = one.declared; initial = given }))) is
-      ∙ (ap (λ found. kept_by scene seen found seen.initialiser) named
-      ∙ ap (λ type. (n, value_in scene type initial.now) ∷ []) typed)
 
   -- one more first value, if there is one
   pub one-kept : (view : fixed.Static → Static) (all more : List Kept) (kept : Option Kept) (one : fixed.Static) (left rest : List fixed.Static) (whole : List (ℕ × values.Value))

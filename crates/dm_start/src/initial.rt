@@ -5,9 +5,9 @@ ghost use Rattle.dm_layout.specs.Kinds.{type_of_object, IsKnownType};
 ghost use Rattle.dm_value.specs.Views.{view_of_value};
 ghost use Rattle.dm_start.specs.Scenes.{parts_from, types_in, value_in, InitialFits, InitialsFit, SceneFits};
 
-use crate::completing::completed;
 use crate::scalar::scalar;
 use crate::scene::Scene;
+use dm_first_value::completed;
 use dm_layout::{ObjectType, bare_kind, inner};
 use dm_token::Memory;
 use dm_tree::Initial;

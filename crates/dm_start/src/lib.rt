@@ -4,7 +4,6 @@
 
 mod address;
 mod beginning;
-mod completing;
 mod initial;
 mod making;
 mod moving;

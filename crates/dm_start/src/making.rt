@@ -9,7 +9,7 @@ ghost use Rattle.dm_program.specs.Sources.{meant};
 ghost use Rattle.dm_program.specs.Statics.{StaticFits};
 ghost use Rattle.dm_start.specs.Making.{numbers_of, zero_block, IsMade};
 
-use dm_first::{Scalars, first_value};
+use dm_first_value::{Scalars, first_value};
 use dm_layout::{Layout, is_const};
 use dm_memory::{Block, Blocks};
 use dm_program::{Program, Static};

@@ -12,12 +12,12 @@ ghost use Rattle.dm_meaning.specs.Programs as programs;
 ghost use Rattle.dm_meaning.specs.Units as units;
 ghost use Rattle.dm_meaning.specs.Values as values;
 ghost use Rattle.dm_value.specs.Views.{view_of_pointer, view_of_value};
-ghost use Rattle.dm_first.specs.Texts.{characters_in};
+ghost use Rattle.dm_first_value.specs.Texts.{characters_in};
 ghost use Rattle.dm_start.specs.Scenes.{address_in, program_in, scalar_in, types_in, SceneFits, TreeFits};
 
 use crate::address::address;
 use crate::scene::Scene;
-use dm_first::text_array;
+use dm_first_value::text_array;
 use dm_int::{Kind, convert};
 use dm_layout::{ObjectType, bare_kind};
 use dm_token::Memory;

@@ -18,7 +18,7 @@ use crate::running::Running;
 use crate::turn::Turn;
 use dm_frame::Task;
 use dm_int::Kind;
-use dm_layout::Layout;
+use dm_layout::{Layout, bare};
 use dm_meaning::Cause;
 use dm_program::Program;
 use dm_token::{Memory, Place};
@@ -66,7 +66,7 @@ fn is_main(program: &Program, number: u32) -> bool
     }
 }
 
-/// Whether a function's result is void.
+/// Whether a function's result is void, const or not.
 fn gives_nothing(program: &Program, number: u32) -> bool
     ensures { result ≡ steps.gives_nothing (type_declared (meant program.now) number) }
 {
@@ -76,13 +76,13 @@ fn gives_nothing(program: &Program, number: u32) -> bool
     }
 }
 
-/// Whether a type is that of functions whose result is void.
+/// Whether a type is that of functions whose result is void, const or not.
 fn results_in_void(layout: &Layout, kind: TypeId) -> bool
     requires { IsId layout.now kind }
     ensures { result ≡ steps.gives_nothing (type_of layout.now kind) }
 {
     match layout.types().shape(kind) {
-        Shape::Function(result, _) => is_void(layout, *result),
+        Shape::Function(result, _) => is_void(layout, bare(layout.types(), *result)),
         _ => false,
     }
 }

@@ -3,6 +3,7 @@
 --     IsStmt source names stmt      and likewise a statement
 --     IsExternal source names external      and an external declaration
 use Rattle.std.specs.Prelude.{◌≡◌, ◌≢◌, ◌≤◌, ℕ, ◌+◌, Bool, false, List, [], ◌∷◌, ◌++◌, Option, Some, None, IsSome}
+use Rattle.dm_token.specs.Limits.{greatest_height}
 use Rattle.dm_syn.specs.declared.declared.Declared.{Declared}
 use Rattle.dm_syn.specs.declared.symbol.Symbol.TheVariants as symbol
 use Rattle.dm_syn.specs.Sources.{Source, symbol_in}
@@ -235,6 +236,6 @@ IsExternal source names (tree.definition span specifiers declarator body) =
     ++ (named_declares source (defines_types source specifiers) declarator ++ (specifiers_declares source specifiers ++ names))) body
     × (span.after ≡ (stmt_span body).after)
 
--- an external declaration is well formed, with a height of at most 512
+-- an external declaration is well formed, and no higher than the greatest height
 abbrev pub IsWellFormed : Source → List Declared → External → Type 0
-IsWellFormed source names one = IsExternal source names one × (height_of one ≤ 512)
+IsWellFormed source names one = IsExternal source names one × (height_of one ≤ greatest_height)

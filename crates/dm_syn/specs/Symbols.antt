@@ -1,46 +1,54 @@
 -- What the grammar sees of a token.
 --     symbol_of class      the terminal symbol of a token of this class
 --     infix_level symbol      the level of an operator between two operands, if it can be one
-use Rattle.std.specs.Prelude.{ℕ, Bool, true, false, ◌==◌, ◌||◌, nat_le, Option, Some, None, if◌then◌else◌}
+use Rattle.std.specs.Prelude.{ℕ, Bool, true, false, ◌==◌, ◌||◌, Option, Some, None, if◌then◌else◌}
 use Rattle.dm_token.specs.declared.token.Class.{Class}
 use Rattle.dm_token.specs.declared.token.Class.TheVariants as class
+use Rattle.dm_spell.specs.Keywords as keyword
+use Rattle.dm_spell.specs.Punctuators as punctuator
 use Rattle.dm_syn.specs.declared.symbol.Symbol.{Symbol}
 use Rattle.dm_syn.specs.declared.symbol.Symbol.TheVariants as symbol
 
 -- by the row in the table of punctuators (6.4.6)
 abbrev pub punctuator_symbol : ℕ → Symbol
 punctuator_symbol row =
-    if row == 0 then symbol.LeftBracket else if row == 1 then symbol.RightBracket
-    else if row == 2 then symbol.LeftParen else if row == 3 then symbol.RightParen
-    else if row == 4 then symbol.LeftBrace else if row == 5 then symbol.RightBrace
-    else if row == 6 then symbol.Dot else if row == 7 then symbol.Arrow
-    else if row == 8 || row == 9 then symbol.Increment
-    else if row == 10 then symbol.Ampersand else if row == 11 then symbol.Star
-    else if row == 12 || row == 13 then symbol.Additive
-    else if row == 14 || row == 15 then symbol.Complement
-    else if row == 16 || row == 17 then symbol.Multiplicative
-    else if row == 18 || row == 19 then symbol.Shift
-    else if row == 20 || row == 21 || row == 22 || row == 23 then symbol.Relational
-    else if row == 24 || row == 25 then symbol.Equality
-    else if row == 26 then symbol.Caret else if row == 27 then symbol.Bar
-    else if row == 28 then symbol.And else if row == 29 then symbol.Or
-    else if row == 30 then symbol.Question else if row == 31 then symbol.Colon
-    else if row == 32 then symbol.Semicolon else if row == 33 then symbol.Other
-    else if row == 34 then symbol.Equals else if nat_le row 44 then symbol.Compound
-    else if row == 45 then symbol.Comma else symbol.Other
+    if row == punctuator.left_bracket then symbol.LeftBracket else if row == punctuator.right_bracket then symbol.RightBracket
+    else if row == punctuator.left_parenthesis then symbol.LeftParen else if row == punctuator.right_parenthesis then symbol.RightParen
+    else if row == punctuator.left_brace then symbol.LeftBrace else if row == punctuator.right_brace then symbol.RightBrace
+    else if row == punctuator.dot then symbol.Dot else if row == punctuator.arrow then symbol.Arrow
+    else if row == punctuator.increment || row == punctuator.decrement then symbol.Increment
+    else if row == punctuator.ampersand then symbol.Ampersand else if row == punctuator.star then symbol.Star
+    else if row == punctuator.plus || row == punctuator.minus then symbol.Additive
+    else if row == punctuator.tilde || row == punctuator.exclamation then symbol.Complement
+    else if row == punctuator.slash || row == punctuator.percent then symbol.Multiplicative
+    else if row == punctuator.left_shift || row == punctuator.right_shift then symbol.Shift
+    else if row == punctuator.less || row == punctuator.greater || row == punctuator.less_equal || row == punctuator.greater_equal then symbol.Relational
+    else if row == punctuator.equal_equal || row == punctuator.not_equal then symbol.Equality
+    else if row == punctuator.caret then symbol.Caret else if row == punctuator.bar then symbol.Bar
+    else if row == punctuator.and_and then symbol.And else if row == punctuator.or_or then symbol.Or
+    else if row == punctuator.question then symbol.Question else if row == punctuator.colon then symbol.Colon
+    else if row == punctuator.semicolon then symbol.Semicolon else if row == punctuator.comma then symbol.Comma
+    else if row == punctuator.equals then symbol.Equals
+    else if row == punctuator.star_equals || row == punctuator.slash_equals || row == punctuator.percent_equals then symbol.Compound
+    else if row == punctuator.plus_equals || row == punctuator.minus_equals then symbol.Compound
+    else if row == punctuator.left_shift_equals || row == punctuator.right_shift_equals then symbol.Compound
+    else if row == punctuator.ampersand_equals || row == punctuator.caret_equals || row == punctuator.bar_equals then symbol.Compound
+    else symbol.Other
 
 -- by the row in the table of keywords (6.4.1)
 abbrev pub keyword_symbol : ℕ → Symbol
 keyword_symbol row =
-    if row == 0 then symbol.Break else if row == 1 then symbol.Case else if row == 2 then symbol.TypeWord
-    else if row == 3 then symbol.Const else if row == 4 then symbol.Continue else if row == 5 then symbol.Default
-    else if row == 6 then symbol.Do else if row == 7 then symbol.Else else if row == 8 then symbol.Enum
-    else if row == 9 then symbol.Storage else if row == 10 then symbol.For else if row == 11 then symbol.If
-    else if row == 12 then symbol.Storage else if row == 13 then symbol.TypeWord else if row == 14 then symbol.TypeWord
-    else if row == 15 then symbol.Return else if row == 16 then symbol.TypeWord else if row == 17 then symbol.TypeWord
-    else if row == 18 then symbol.Sizeof else if row == 19 then symbol.Storage else if row == 20 then symbol.Struct
-    else if row == 21 then symbol.Switch else if row == 22 then symbol.Typedef else if row == 23 then symbol.TypeWord
-    else if row == 24 then symbol.TypeWord else if row == 25 then symbol.While else if row == 26 then symbol.TypeWord
+    if row == keyword.break_word then symbol.Break else if row == keyword.case_word then symbol.Case
+    else if row == keyword.const_word then symbol.Const else if row == keyword.continue_word then symbol.Continue
+    else if row == keyword.default_word then symbol.Default else if row == keyword.do_word then symbol.Do
+    else if row == keyword.else_word then symbol.Else else if row == keyword.enum_word then symbol.Enum
+    else if row == keyword.for_word then symbol.For else if row == keyword.if_word then symbol.If
+    else if row == keyword.return_word then symbol.Return else if row == keyword.sizeof_word then symbol.Sizeof
+    else if row == keyword.struct_word then symbol.Struct else if row == keyword.switch_word then symbol.Switch
+    else if row == keyword.typedef_word then symbol.Typedef else if row == keyword.while_word then symbol.While
+    else if row == keyword.extern_word || row == keyword.static_word || row == keyword.inline_word then symbol.Storage
+    else if row == keyword.void_word || row == keyword.bool_word || row == keyword.char_word || row == keyword.int_word then symbol.TypeWord
+    else if row == keyword.short_word || row == keyword.long_word || row == keyword.signed_word || row == keyword.unsigned_word then symbol.TypeWord
     else symbol.Other
 
 -- the terminal symbol of a token of this class, where an identifier counts as one that names no type

@@ -9,6 +9,7 @@ use crate::declaration::{
     Declaration, Declarator, Direct, EnumForm, EnumItem, InitDeclarator, InitForm, Initialiser,
     MemberForm, Parameter, Specifier, Specifiers, StructForm, TypeName,
 };
+use crate::declarators::is_absent;
 use crate::expression::{Expr, ExprForm};
 use crate::statement::{
     External, ExternalForm, ForStart, Item, Stmt, StmtForm, SwitchForm, SwitchItem,
@@ -98,20 +99,6 @@ fn type_name_height(name: &TypeName) -> u32
     } else {
         above(specifiers, declarator_height(&name.declarator))
     }
-}
-
-// Whether an abstract declarator is empty.
-fn is_absent(declarator: &Declarator) -> bool
-    ensures { result ≡ height.is_absent (view.declarator declarator.now) }
-{
-    declarator.pointers.is_empty() && is_nothing(&declarator.direct)
-}
-
-// Whether nothing stands behind the pointers.
-fn is_nothing(direct: &Direct) -> bool
-    ensures { result ≡ height.is_nothing (view.direct direct.now) }
-{
-    matches!(direct, Direct::Absent)
 }
 
 #[tactic(auto, unfolding(crate::specs::Heights::specifiers_height, crate::specs::Heights::highest_word))]

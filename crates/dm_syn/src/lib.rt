@@ -2,6 +2,7 @@
 #![tactic(auto)]
 
 mod declaration;
+mod declarators;
 mod declared;
 mod expression;
 mod heights;
@@ -13,6 +14,7 @@ pub use declaration::{
     Declaration, Declarator, Direct, EnumForm, EnumItem, InitDeclarator, InitForm, Initialiser,
     MemberForm, Parameter, Specifier, Specifiers, StructForm, TypeName,
 };
+pub use declarators::{declarator_name, is_absent, is_nothing};
 pub use declared::Declared;
 pub use expression::{Expr, ExprForm};
 pub use heights::height;

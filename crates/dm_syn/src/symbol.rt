@@ -3,6 +3,7 @@
 ghost use Rattle.std.specs.Prelude.{◌≡◌};
 ghost use Rattle.dm_syn.specs.Symbols.{symbol_of as meant, infix_level as level_meant, punctuator_symbol, keyword_symbol};
 
+use dm_spell::{keyword, punctuator};
 use dm_token::Class;
 
 /// A terminal symbol of the grammar: a token, or tokens that stand in the same places.
@@ -152,33 +153,45 @@ fn of_punctuator(row: u16) -> Symbol
     ensures { result ≡ punctuator_symbol row }
 {
     match row {
-        0 => Symbol::LeftBracket,
-        1 => Symbol::RightBracket,
-        2 => Symbol::LeftParen,
-        3 => Symbol::RightParen,
-        4 => Symbol::LeftBrace,
-        5 => Symbol::RightBrace,
-        6 => Symbol::Dot,
-        7 => Symbol::Arrow,
-        8 | 9 => Symbol::Increment,
-        10 => Symbol::Ampersand,
-        11 => Symbol::Star,
-        12 | 13 => Symbol::Additive,
-        14 | 15 => Symbol::Complement,
-        16 | 17 => Symbol::Multiplicative,
-        18 | 19 => Symbol::Shift,
-        20..=23 => Symbol::Relational,
-        24 | 25 => Symbol::Equality,
-        26 => Symbol::Caret,
-        27 => Symbol::Bar,
-        28 => Symbol::And,
-        29 => Symbol::Or,
-        30 => Symbol::Question,
-        31 => Symbol::Colon,
-        32 => Symbol::Semicolon,
-        34 => Symbol::Equals,
-        35..=44 => Symbol::Compound,
-        45 => Symbol::Comma,
+        punctuator::LEFT_BRACKET => Symbol::LeftBracket,
+        punctuator::RIGHT_BRACKET => Symbol::RightBracket,
+        punctuator::LEFT_PARENTHESIS => Symbol::LeftParen,
+        punctuator::RIGHT_PARENTHESIS => Symbol::RightParen,
+        punctuator::LEFT_BRACE => Symbol::LeftBrace,
+        punctuator::RIGHT_BRACE => Symbol::RightBrace,
+        punctuator::DOT => Symbol::Dot,
+        punctuator::ARROW => Symbol::Arrow,
+        punctuator::INCREMENT | punctuator::DECREMENT => Symbol::Increment,
+        punctuator::AMPERSAND => Symbol::Ampersand,
+        punctuator::STAR => Symbol::Star,
+        punctuator::PLUS | punctuator::MINUS => Symbol::Additive,
+        punctuator::TILDE | punctuator::EXCLAMATION => Symbol::Complement,
+        punctuator::SLASH | punctuator::PERCENT => Symbol::Multiplicative,
+        punctuator::LEFT_SHIFT | punctuator::RIGHT_SHIFT => Symbol::Shift,
+        punctuator::LESS
+        | punctuator::GREATER
+        | punctuator::LESS_EQUAL
+        | punctuator::GREATER_EQUAL => Symbol::Relational,
+        punctuator::EQUAL_EQUAL | punctuator::NOT_EQUAL => Symbol::Equality,
+        punctuator::CARET => Symbol::Caret,
+        punctuator::BAR => Symbol::Bar,
+        punctuator::AND_AND => Symbol::And,
+        punctuator::OR_OR => Symbol::Or,
+        punctuator::QUESTION => Symbol::Question,
+        punctuator::COLON => Symbol::Colon,
+        punctuator::SEMICOLON => Symbol::Semicolon,
+        punctuator::COMMA => Symbol::Comma,
+        punctuator::EQUALS => Symbol::Equals,
+        punctuator::STAR_EQUALS
+        | punctuator::SLASH_EQUALS
+        | punctuator::PERCENT_EQUALS
+        | punctuator::PLUS_EQUALS
+        | punctuator::MINUS_EQUALS
+        | punctuator::LEFT_SHIFT_EQUALS
+        | punctuator::RIGHT_SHIFT_EQUALS
+        | punctuator::AMPERSAND_EQUALS
+        | punctuator::CARET_EQUALS
+        | punctuator::BAR_EQUALS => Symbol::Compound,
         _ => Symbol::Other,
     }
 }
@@ -188,24 +201,31 @@ fn of_keyword(row: u16) -> Symbol
     ensures { result ≡ keyword_symbol row }
 {
     match row {
-        0 => Symbol::Break,
-        1 => Symbol::Case,
-        3 => Symbol::Const,
-        4 => Symbol::Continue,
-        5 => Symbol::Default,
-        6 => Symbol::Do,
-        7 => Symbol::Else,
-        8 => Symbol::Enum,
-        9 | 12 | 19 => Symbol::Storage,
-        10 => Symbol::For,
-        11 => Symbol::If,
-        2 | 13 | 14 | 16 | 17 | 23 | 24 | 26 => Symbol::TypeWord,
-        15 => Symbol::Return,
-        18 => Symbol::Sizeof,
-        20 => Symbol::Struct,
-        21 => Symbol::Switch,
-        22 => Symbol::Typedef,
-        25 => Symbol::While,
+        keyword::BREAK => Symbol::Break,
+        keyword::CASE => Symbol::Case,
+        keyword::CONST => Symbol::Const,
+        keyword::CONTINUE => Symbol::Continue,
+        keyword::DEFAULT => Symbol::Default,
+        keyword::DO => Symbol::Do,
+        keyword::ELSE => Symbol::Else,
+        keyword::ENUM => Symbol::Enum,
+        keyword::FOR => Symbol::For,
+        keyword::IF => Symbol::If,
+        keyword::RETURN => Symbol::Return,
+        keyword::SIZEOF => Symbol::Sizeof,
+        keyword::STRUCT => Symbol::Struct,
+        keyword::SWITCH => Symbol::Switch,
+        keyword::TYPEDEF => Symbol::Typedef,
+        keyword::WHILE => Symbol::While,
+        keyword::EXTERN | keyword::STATIC | keyword::INLINE => Symbol::Storage,
+        keyword::VOID
+        | keyword::BOOL
+        | keyword::CHAR
+        | keyword::INT
+        | keyword::SHORT
+        | keyword::LONG
+        | keyword::SIGNED
+        | keyword::UNSIGNED => Symbol::TypeWord,
         _ => Symbol::Other,
     }
 }

@@ -77,9 +77,6 @@ are_known-Choose n a b c = search (rules, q.the_lemmas)
 pub opened-SizeofTree : (types : Table) (a : Core) → opened_form types (form.SizeofTree a) ≡ opened label.sizeof_tree (view types a ∷ [])
 opened-SizeofTree types a = search (rules, q.the_lemmas)
 
-pub are_known-SizeofTree : (n : ℕ) (a : Core) → are_known_in_form n (form.SizeofTree a) ≡ are_known n a
-are_known-SizeofTree n a = search (rules, q.the_lemmas)
-
 -- ---- known parts
 
 -- the second of two that both hold
@@ -91,15 +88,6 @@ pub known-form : (n : ℕ) (core : Core) → IsTrue (are_known n core) → IsTru
 known-form n core h = second _ _ _ (are_known-core n core) h
 
 -- so have the second and the third part of a form
-pub known-second-Binary : (n : ℕ) (f : Form) (op : Op) (a b : Core) → f ≡ form.Binary op a b → IsTrue (are_known_in_form n f) → IsTrue (are_known n b)
-known-second-Binary n f op a b is h = second _ _ _ (are_known-Binary n op a b) (ap (are_known_in_form n) (sym is) ∙ h)
-
-pub known-second-Both : (n : ℕ) (f : Form) (a b : Core) → f ≡ form.Both a b → IsTrue (are_known_in_form n f) → IsTrue (are_known n b)
-known-second-Both n f a b is h = second _ _ _ (are_known-Both n a b) (ap (are_known_in_form n) (sym is) ∙ h)
-
-pub known-second-Either : (n : ℕ) (f : Form) (a b : Core) → f ≡ form.Either a b → IsTrue (are_known_in_form n f) → IsTrue (are_known n b)
-known-second-Either n f a b is h = second _ _ _ (are_known-Either n a b) (ap (are_known_in_form n) (sym is) ∙ h)
-
 pub known-second-Comma : (n : ℕ) (f : Form) (a b : Core) → f ≡ form.Comma a b → IsTrue (are_known_in_form n f) → IsTrue (are_known n b)
 known-second-Comma n f a b is h = second _ _ _ (are_known-Comma n a b) (ap (are_known_in_form n) (sym is) ∙ h)
 
@@ -123,11 +111,6 @@ and_true : (p : Bool) → (p && true) ≡ p
 and_true true = refl
 and_true false = refl
 
-falsely : (p q : Bool) → (p && (q && false)) ≡ false
-falsely true true = refl
-falsely true false = refl
-falsely false q = refl
-
 -- a comma of an integer type whose right operand has the form has it where its left operand has
 pub form-Comma : (types : Table) (core a b : Core) → (out-Core core).form ≡ form.Comma a b
     → is_some (integer_kind (type_of types (out-Core core).kind)) ≡ true → is_constant_form (view types b) ≡ true
@@ -137,12 +120,3 @@ form-Comma types core a b is integer right =
     ∙ (ap (λ (o : Opened). has_constant_form o.label (type_of types (out-Core core).kind) (constant_forms (trees o.parts))) (ap (opened_form types) is ∙ opened-Comma types a b)
     ∙ (ap (λ p. p && (is_constant_form (view types a) && (is_constant_form (view types b) && true))) integer
     ∙ (ap (λ q. is_constant_form (view types a) && (q && true)) right ∙ and_true (is_constant_form (view types a)))))
-
--- and fails where one of these does
-pub form-Comma-fails : (types : Table) (core a b : Core) → (out-Core core).form ≡ form.Comma a b
-    → is_constant_form (view types b) ≡ false → is_constant_form (view types core) ≡ false
-form-Comma-fails types core a b is right =
-    ap is_constant_form (view-core types core)
-    ∙ (ap (λ (o : Opened). has_constant_form o.label (type_of types (out-Core core).kind) (constant_forms (trees o.parts))) (ap (opened_form types) is ∙ opened-Comma types a b)
-    ∙ (ap (λ q. is_some (integer_kind (type_of types (out-Core core).kind)) && (is_constant_form (view types a) && (q && true))) right
-    ∙ falsely (is_some (integer_kind (type_of types (out-Core core).kind))) (is_constant_form (view types a))))

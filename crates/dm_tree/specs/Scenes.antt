@@ -79,10 +79,6 @@ abbrev pub is_array : CType → Bool
 is_array (array type n) = true
 is_array type = false
 
-abbrev pub is_struct : CType → Bool
-is_struct (struct at) = true
-is_struct type = false
-
 abbrev pub is_function : CType → Bool
 is_function (function_type result parameters) = true
 is_function type = false

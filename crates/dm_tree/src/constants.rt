@@ -123,6 +123,7 @@ fn value(core: &Core, declared: &List<Declared>, types: &Types) -> Option<i128>
 fn enumerator_value(declared: &List<Declared>, at: u32, types: &Types) -> Option<i128>
     ensures { result ≡ constants.enumerator_value (entries_of types.now declared.now) at }
 {
+    // Only the clause speaks of the types.
     let _ = types;
     match declared.items().get(at as usize)?.sort {
         Sort::Enumerator(value) => Some(value),

@@ -13,9 +13,9 @@ use Rattle.std.proofs.Math.Seq.{take-append_seam, drop-append_seam}
 use Rattle.dm_type.specs.declared.compose.Step.{Step}
 use Rattle.dm_type.specs.declared.compose.Step.TheVariants.{Is, Pointer, Array, Const, Function}
 use Rattle.dm_type.specs.CTypes.{CType, CTypes, void, integer, pointer, array, struct, function, const, all_of, more_types, bare, with_const}
-use Rattle.dm_type.specs.Tables.{Table, type_of, IsId, IsLength, Has, Extends}
+use Rattle.dm_type.specs.Tables.{Table, type_of, IsId, Has, Extends}
 use Rattle.dm_type.specs.TableLaws.{type_of-kept, id-kept}
-use Rattle.dm_type.specs.Alike.{composite, composite_parameters, known_length}
+use Rattle.dm_type.specs.Alike.{composite, composite_parameters}
 use Rattle.dm_type.specs.Writing.{work}
 use Rattle.dm_type.specs.Composing.{composed, composites, stacked, grouped, applied, carried_out, IsOver, work_of}
 
@@ -68,13 +68,6 @@ needs table Const [] some = absurd (false≢true some)
 needs table Const (type ∷ made) some = omega arith
 needs table (Function count) [] some = absurd (false≢true some)
 needs table (Function count) (type ∷ made) some = let n = grouped-needs type count made some in omega (arith, n)
-
-pub takes-made : (table : Table) (step : Step) (ids : List ℕ) → IsSome (applied table step (stacked table ids)) → takes step ≤ length ids
-takes-made table step ids some =
-    let n = needs table step (stacked table ids) some in
-    let turned = length-reverse (map (type_of table) ids) in
-    let same = length-map ids (type_of table) in
-    omega (arith, n, turned, same)
 
 -- a function type of the types in front
 pub grouped-front : (result : CType) (front back : List CType) (count : ℕ) → length front ≡ count
@@ -177,11 +170,6 @@ length-composites [] those = sym (zero-min (length those))
 length-composites (a ∷ these) [] = sym (min-zero (length (a ∷ these)))
 length-composites (a ∷ these) (b ∷ those) = ap suc (length-composites these those) ∙ sym (suc-min-suc (length these) (length those))
 
--- the length of an array that is known is that of one of the two
-pub length-known : (length other : Option ℕ) → IsLength length → IsLength other → IsLength (known_length length other)
-length-known None other first second = second
-length-known (Some count) other first second = first
-
 -- the const of a type is a part too
 pub work-bare : (type : CType) → work (bare type) ≤ work type
 work-bare void = omega arith
@@ -211,24 +199,6 @@ pub composite-of : (one other these those : CType) → one ≡ these → other �
 composite-of one other these those first second = ap (λ t. composite t other) first ∙ ap (composite these) second
 
 module _ (table : Table) (a b : ℕ) (made rest : List CType) where
-  pub last-pointer : (one other : ℕ) → type_of table a ≡ pointer (type_of table one) → type_of table b ≡ pointer (type_of table other)
-      → made ≡ composed table (one, other) ∷ rest → applied table Pointer made ≡ Some (composed table (a, b) ∷ rest)
-  last-pointer one other first second is =
-      ap (applied table Pointer) is
-      ∙ ap (λ t. Some (t ∷ rest)) (sym (composite-of (type_of table a) (type_of table b) (pointer (type_of table one)) (pointer (type_of table other)) first second))
-
-  pub last-array : (one other : ℕ) (length count : Option ℕ) → type_of table a ≡ array (type_of table one) length → type_of table b ≡ array (type_of table other) count
-      → made ≡ composed table (one, other) ∷ rest → applied table (Array (known_length length count)) made ≡ Some (composed table (a, b) ∷ rest)
-  last-array one other length count first second is =
-      ap (applied table (Array (known_length length count))) is
-      ∙ ap (λ t. Some (t ∷ rest)) (sym (composite-of (type_of table a) (type_of table b) (array (type_of table one) length) (array (type_of table other) count) first second))
-
-  pub last-const : (one other : ℕ) → type_of table a ≡ const (type_of table one) → type_of table b ≡ const (type_of table other)
-      → made ≡ composed table (one, other) ∷ rest → applied table Const made ≡ Some (composed table (a, b) ∷ rest)
-  last-const one other first second is =
-      ap (applied table Const) is
-      ∙ ap (λ t. Some (t ∷ rest)) (sym (composite-of (type_of table a) (type_of table b) (const (type_of table one)) (const (type_of table other)) first second))
-
   pub last-function : (one other : ℕ) (these those : List ℕ) (count : ℕ)
       → type_of table a ≡ function (type_of table one) (all_of (map (type_of table) these)) → type_of table b ≡ function (type_of table other) (all_of (map (type_of table) those))
       → length (composites (map (type_of table) these) (map (type_of table) those)) ≡ count
@@ -243,9 +213,6 @@ module _ (table : Table) (a b : ℕ) (made rest : List CType) where
       ∙ ap (λ t. Some (t ∷ rest)) (sym (composite-of (type_of table a) (type_of table b) (function (type_of table one) (all_of types)) (function (type_of table other) (all_of others)) first second))
 
 -- ---- the type that a step makes
-
-pub makes-is : (table : Table) (ids : List ℕ) (id : ℕ) → applied table (Is id) (stacked table ids) ≡ Some (stacked table (ids ++ id ∷ []))
-makes-is table ids id = ap Some (sym (turned-push (type_of table) ids id))
 
 module _ (old new : Table) (before after : List ℕ) (one id : ℕ) where
   pub makes-pointer : before ≡ after ++ one ∷ [] → Extends old new → All (IsId old) after → Has new id (pointer (type_of old one))

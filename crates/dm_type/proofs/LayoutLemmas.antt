@@ -13,7 +13,8 @@ use Rattle.dm_int.specs.declared.Kind.TheVariants.{Bool}
 use Rattle.dm_int.specs.Kinds as kinds
 use Rattle.dm_type.specs.CTypes.{CType, void, integer, pointer, array, struct, function, const, with_const}
 use Rattle.dm_type.specs.Tables.{Table, type_of, content_of}
-use Rattle.dm_type.specs.Layouts.{greatest_size, layout_of, times, if_fits, repeated, scalar, joined, followed_by, padded, round_up}
+use Rattle.dm_token.specs.Limits.{most_type_bytes}
+use Rattle.dm_type.specs.Layouts.{layout_of, times, if_fits, repeated, scalar, joined, followed_by, padded, round_up}
 use Rattle.dm_type.specs.Sound.{IsSound, IsWithin}
 use Rattle.dm_type.specs.TableLaws.{injected}
 
@@ -28,38 +29,38 @@ layout-const table (function result parameters) = refl
 layout-const table (const type) = refl
 
 -- once is as it is
-pub times-one : (layout : Layout) → layout.size ≤ greatest_size → if_fits (repeated 1 layout) ≡ Some layout
+pub times-one : (layout : Layout) → layout.size ≤ most_type_bytes → if_fits (repeated 1 layout) ≡ Some layout
 times-one layout fits =
     let one : 1 * layout.size ≡ layout.size = omega arith in
-    ap (λ n. cond (nat_le n greatest_size) (Some (record { size = n; alignment = layout.alignment })) None) one
-    ∙ ap (λ b. cond b (Some layout) None) (le-leb layout.size greatest_size fits)
+    ap (λ n. cond (nat_le n most_type_bytes) (Some (record { size = n; alignment = layout.alignment })) None) one
+    ∙ ap (λ b. cond b (Some layout) None) (le-leb layout.size most_type_bytes fits)
 
 -- what fits is itself, and is no larger than the greatest size
-fits-same : (layout other : Layout) → if_fits layout ≡ Some other → (layout ≡ other) × (layout.size ≤ greatest_size)
-fits-same layout other e = go (nat_le layout.size greatest_size) refl e
+fits-same : (layout other : Layout) → if_fits layout ≡ Some other → (layout ≡ other) × (layout.size ≤ most_type_bytes)
+fits-same layout other e = go (nat_le layout.size most_type_bytes) refl e
   where
-    go : (b : Truth) → nat_le layout.size greatest_size ≡ b → cond b (Some layout) None ≡ Some other → (layout ≡ other) × (layout.size ≤ greatest_size)
-    go true le is = (injected layout other is, leb-true layout.size greatest_size le)
+    go : (b : Truth) → nat_le layout.size most_type_bytes ≡ b → cond b (Some layout) None ≡ Some other → (layout ≡ other) × (layout.size ≤ most_type_bytes)
+    go true le is = (injected layout other is, leb-true layout.size most_type_bytes le)
     go false le is = absurd (none-some other is)
 
 -- what is too large doesn't fit
-pub fits-not : (layout : Layout) → greatest_size < layout.size → if_fits layout ≡ None
-fits-not layout over = go (nat_le layout.size greatest_size) refl
+pub fits-not : (layout : Layout) → most_type_bytes < layout.size → if_fits layout ≡ None
+fits-not layout over = go (nat_le layout.size most_type_bytes) refl
   where
-    go : (b : Truth) → nat_le layout.size greatest_size ≡ b → cond b (Some layout) None ≡ None
-    go true le = absurd (let fits = leb-true layout.size greatest_size le in omega (arith, fits, over))
+    go : (b : Truth) → nat_le layout.size most_type_bytes ≡ b → cond b (Some layout) None ≡ None
+    go true le = absurd (let fits = leb-true layout.size most_type_bytes le in omega (arith, fits, over))
     go false le = refl
 
-pub over-fits : (layout : Layout) → if_fits layout ≡ None → greatest_size < layout.size
-over-fits layout e = go (nat_le layout.size greatest_size) refl e
+pub over-fits : (layout : Layout) → if_fits layout ≡ None → most_type_bytes < layout.size
+over-fits layout e = go (nat_le layout.size most_type_bytes) refl e
   where
-    go : (b : Truth) → nat_le layout.size greatest_size ≡ b → cond b (Some layout) None ≡ None → greatest_size < layout.size
+    go : (b : Truth) → nat_le layout.size most_type_bytes ≡ b → cond b (Some layout) None ≡ None → most_type_bytes < layout.size
     go true le is = absurd (none-some layout (sym is))
-    go false le is = leb-false layout.size greatest_size le
+    go false le is = leb-false layout.size most_type_bytes le
 
 -- the bounds that a layout keeps
 abbrev pub Bounds : Layout → Type 0
-Bounds layout = (layout.size ≤ greatest_size) × (0 < layout.alignment)
+Bounds layout = (layout.size ≤ most_type_bytes) × (0 < layout.alignment)
 
 kind-bounds : (kind : Kind) → Bounds (scalar (kinds.size kind))
 kind-bounds Bool = (omega arith, omega arith)
@@ -104,8 +105,8 @@ round-up alignment n aligned =
     omega (arith, aligned, parts, rest)
 
 -- a member behind what is too large doesn't fit, whatever stands behind it
-joined-behind : (table : Table) (member : Member) (members : List Member) (before : Layout) → IsSound table → greatest_size < before.size → 0 < before.alignment
-    → ((behind : Layout) → greatest_size < behind.size → 0 < behind.alignment → option_and_then (λ layout. if_fits (padded layout)) (joined table behind members) ≡ None)
+joined-behind : (table : Table) (member : Member) (members : List Member) (before : Layout) → IsSound table → most_type_bytes < before.size → 0 < before.alignment
+    → ((behind : Layout) → most_type_bytes < behind.size → 0 < behind.alignment → option_and_then (λ layout. if_fits (padded layout)) (joined table behind members) ≡ None)
     → (found : Option Layout) → layout_of table (type_of table member.kind) ≡ found
     → option_and_then (λ layout. if_fits (padded layout)) (option_and_then (λ layout. joined table (followed_by before layout) members) found) ≡ None
 joined-behind table member members before sound over aligned rest None is = refl
@@ -115,7 +116,7 @@ joined-behind table member members before sound over aligned rest (Some layout) 
     rest (followed_by before layout) (omega (arith, over, up)) (omega (arith, aligned, greater))
 
 -- members behind what is too large don't fit
-pub joined-over : (table : Table) (members : List Member) (before : Layout) → IsSound table → greatest_size < before.size → 0 < before.alignment
+pub joined-over : (table : Table) (members : List Member) (before : Layout) → IsSound table → most_type_bytes < before.size → 0 < before.alignment
     → option_and_then (λ layout. if_fits (padded layout)) (joined table before members) ≡ None
 joined-over table [] before sound over aligned =
     let up = round-up before.alignment before.size aligned in

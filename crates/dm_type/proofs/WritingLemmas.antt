@@ -79,26 +79,6 @@ completed-none table visible result (suc next) text = alone (is_spellable table 
     alone true x = refl
     alone false x = refl
 
--- a function type with one parameter more
-pub finished-more : (table : Table) (visible : List ℕ) (type result one : CType) (types : List CType) (next : ℕ) (text : List ℕ) → type ≡ function result (all_of types)
-    → drop next types ≡ one ∷ drop (suc next) types
-    → finished table visible type next text ≡ option_and_then (λ inner. finished table visible type (next + 1) ((text ++ between next) ++ inner)) (written table visible one false [])
-finished-more table visible type result one types next text is more =
-    let after : next + 1 ≡ suc next = omega arith in
-    let behind : (inner : List ℕ) → finished table visible (function result (all_of types)) (suc next) inner ≡ completed table visible result (all_of (drop (suc next) types)) (suc next) inner =
-    λ inner. ap (λ ts. completed table visible result (all_of (drop (suc next) ts)) (suc next) inner) (list-again types) in
-    ap (λ t. finished table visible t next text) is
-    ∙ ap (λ ts. completed table visible result (all_of (drop next ts)) next text) (list-again types)
-    ∙ ap (λ ts. completed table visible result (all_of ts) next text) more
-    ∙ completed-more table visible result one (all_of (drop (suc next) types)) next text
-    ∙ alike (written table visible one false []) (λ inner. sym (behind ((text ++ between next) ++ inner)))
-    ∙ ap (λ k. option_and_then (λ inner. finished table visible (function result (all_of types)) k ((text ++ between next) ++ inner)) (written table visible one false [])) (sym after)
-    ∙ ap (λ t. option_and_then (λ inner. finished table visible t (next + 1) ((text ++ between next) ++ inner)) (written table visible one false [])) (sym is)
-  where
-    alike : {f g : List ℕ → Option (List ℕ)} (value : Option (List ℕ)) → ((x : List ℕ) → f x ≡ g x) → option_and_then f value ≡ option_and_then g value
-    alike None same = refl
-    alike (Some x) same = same x
-
 -- and with none
 pub finished-last : (table : Table) (visible : List ℕ) (type result : CType) (types : List CType) (next : ℕ) (text : List ℕ) → type ≡ function result (all_of types)
     → drop next types ≡ [] → finished table visible type next text ≡ written table visible result false (text ++ closing next)
@@ -107,16 +87,6 @@ finished-last table visible type result types next text is last =
     ∙ ap (λ ts. completed table visible result (all_of (drop next ts)) next text) (list-again types)
     ∙ ap (λ ts. completed table visible result (all_of ts) next text) last
     ∙ completed-none table visible result next text
-
-pub work-more : (type result one : CType) (types : List CType) (next : ℕ) → type ≡ function result (all_of types) → drop next types ≡ one ∷ drop (suc next) types
-    → work_behind type next ≡ 1 + (work one + work_behind type (next + 1))
-work-more type result one types next is more =
-    let after : next + 1 ≡ suc next = omega arith in
-    let here : work_behind type next ≡ 1 + (work result + (1 + (work one + works (all_of (drop (suc next) types))))) =
-    ap (λ t. work_behind t next) is ∙ ap (λ ts. 1 + (work result + works (all_of (drop next ts)))) (list-again types) ∙ ap (λ ts. 1 + (work result + works (all_of ts))) more in
-    let there : work_behind type (next + 1) ≡ 1 + (work result + works (all_of (drop (suc next) types))) =
-    ap (λ k. work_behind type k) after ∙ ap (λ t. work_behind t (suc next)) is ∙ ap (λ ts. 1 + (work result + works (all_of (drop (suc next) ts)))) (list-again types) in
-    omega (arith, here, there)
 
 pub work-start : (type result : CType) (types : List CType) → type ≡ function result (all_of types) → work type ≡ 1 + work_behind type 0
 work-start type result types is =

@@ -4,6 +4,7 @@
 --     offsets_of table members      where each member of a struct begins
 --     contained table members      the content of a struct with these members
 use Rattle.std.specs.Prelude.{ℕ, ◌+◌, ◌-◌, ◌*◌, ◌/◌, max, nat_le, if◌then◌else◌, List, [], ◌∷◌, Option, Some, None, option_map, option_and_then}
+use Rattle.dm_token.specs.Limits.{most_type_bytes}
 use Rattle.dm_int.specs.Kinds as kinds
 use Rattle.dm_type.specs.declared.shape.Content.{Content}
 use Rattle.dm_type.specs.declared.layout.Layout.{Layout}
@@ -11,13 +12,9 @@ use Rattle.dm_type.specs.declared.shape.Member.{Member}
 use Rattle.dm_type.specs.CTypes.{CType, void, integer, pointer, array, struct, function, const}
 use Rattle.dm_type.specs.Tables.{Table, type_of, content_of}
 
--- the greatest size of a type, in bytes
-abbrev pub greatest_size : ℕ
-greatest_size = 1073741824
-
--- a layout, unless its size is above the greatest
+-- a layout, unless its size is above the greatest of a type
 abbrev pub if_fits : Layout → Option Layout
-if_fits layout = if nat_le layout.size greatest_size then Some layout else None
+if_fits layout = if nat_le layout.size most_type_bytes then Some layout else None
 
 -- a scalar is aligned to its size
 abbrev pub scalar : ℕ → Layout

@@ -6,7 +6,7 @@ use Rattle.dm_type.specs.declared.shape.Shape.TheVariants.{Void, Integer, Pointe
 use Rattle.dm_type.specs.declared.shape.Content.{Content}
 use Rattle.dm_type.specs.declared.layout.Layout.{Layout}
 use Rattle.dm_type.specs.Tables.{Table, IsId, IsLength, content_of}
-use Rattle.dm_type.specs.Layouts.{greatest_size}
+use Rattle.dm_token.specs.Limits.{most_type_bytes}
 
 -- the shape is made of types below one number and of structs below another
 abbrev pub IsBelow : ℕ → ℕ → Shape → Type 0
@@ -41,7 +41,7 @@ IsPlain shapes (Const id) = CanBeConst (slice_index_or shapes id Void)
 -- a layout that a type can have
 pub record IsWithin (layout : Layout) : Type 0 where
   pub positive : 0 < layout.size
-  pub fits : layout.size ≤ greatest_size
+  pub fits : layout.size ≤ most_type_bytes
   pub aligned : 0 < layout.alignment
   pub least : layout.alignment ≤ 8
 

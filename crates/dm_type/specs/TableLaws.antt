@@ -9,7 +9,7 @@ use Rattle.std.proofs.Math.Seq.{get_or-append_seam}
 use Rattle.dm_type.specs.declared.shape.Shape.{Shape}
 use Rattle.dm_type.specs.declared.shape.Shape.TheVariants.{Void, Integer, Pointer, Array, Struct, Function, Const}
 use Rattle.dm_type.specs.CTypes.{CType, void, pointer, array, function, all_of, with_const}
-use Rattle.dm_type.specs.Tables.{Table, at, written_out, types_of, type_of, IsId, Has, Extends}
+use Rattle.dm_type.specs.Tables.{Table, at, written_out, types_of, type_of, IsId, Extends}
 use Rattle.dm_type.specs.Sound.{IsBelow}
 
 -- the types after one more shape
@@ -118,9 +118,6 @@ id-kept old new id kept inside =
     let l = length-append old.shapes kept.0.0 in
     let n : length new.shapes ≡ length (old.shapes ++ kept.0.0) = ap length kept.0.1 in
     omega (arith, l, n, inside)
-
-pub has-kept : (old new : Table) (id : ℕ) (type : CType) → Extends old new → Has old id type → Has new id type
-has-kept old new id type kept has = (id-kept old new id kept has.0, type_of-kept old new id kept has.0 ∙ has.1)
 
 -- A table extends itself, and what extends an extension extends the first.
 pub extends-itself : (table : Table) → Extends table table

@@ -19,8 +19,9 @@ pub(crate) enum Compared {
 }
 
 impl Types {
-    /// Whether two types are compatible (6.2.7). It takes no memory. Its time is that of reading the types written out,
-    /// and the stack that it needs grows with the logarithm of their length.
+    /// Whether two types are compatible (6.2.7). It takes no memory. Its time is that of reading the types written out.
+    /// Of two pairs of parts it calls itself for the one that has fewer, so that the stack is meant to grow with the
+    /// logarithm of their length. That rests on counts of which no clause speaks; what is proved is that it ends.
     #[cycle(comparison)]
     pub fn compatible(&self, a: TypeId, b: TypeId) -> bool
         requires left { tables.IsId self.now a }

@@ -162,6 +162,7 @@ impl Types {
     {
         match step {
             Step::Is(id) => {
+                // Says that the types of the table differ.
                 let _ = self.shape(id);
                 Ok(id)
             }

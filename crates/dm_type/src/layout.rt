@@ -1,11 +1,14 @@
 //! How many bytes objects take, and where they may stand (6.2.8, 6.7.2.1).
 
 ghost use Rattle.std.specs.Prelude.{◌≡◌, ◌<◌, ◌≤◌, Some};
+ghost use Rattle.dm_token.specs.Limits.{most_type_bytes};
 ghost use Rattle.dm_type.specs.Layouts as layouts;
 ghost use Rattle.dm_type.specs.Sound.{IsWithin};
 
+use dm_token::MOST_TYPE_BYTES;
+
 /// The greatest size of a type, in bytes.
-const GREATEST_SIZE: u64 = 1 << 30;
+const GREATEST_SIZE: u64 = MOST_TYPE_BYTES as u64;
 
 /// The size and the alignment of a pointer.
 const POINTER_SIZE: u64 = 8;
@@ -71,7 +74,7 @@ impl Layout {
 
     /// One member more, behind these.
     pub(crate) fn followed_by(self, member: Layout) -> Layout
-        requires before { self.size ≤ layouts.greatest_size }
+        requires before { self.size ≤ most_type_bytes }
         requires member { IsWithin member }
         ensures { result ≡ layouts.followed_by self member }
     {
@@ -83,7 +86,7 @@ impl Layout {
 
     /// With padding at the end, so that the structs of an array are aligned (6.7.2.1p17).
     pub(crate) fn padded(self) -> Layout
-        requires size { self.size ≤ layouts.greatest_size }
+        requires size { self.size ≤ most_type_bytes }
         requires aligned { 0 < self.alignment }
         requires least { self.alignment ≤ 8 }
         ensures { result ≡ layouts.padded self }
@@ -97,7 +100,7 @@ impl Layout {
 
 /// The least multiple of an alignment that isn't below a number of bytes.
 fn round_up(alignment: u64, bytes: u64) -> u64
-    requires bytes { bytes ≤ layouts.greatest_size }
+    requires bytes { bytes ≤ most_type_bytes }
     requires aligned { 0 < alignment }
     requires least { alignment ≤ 8 }
     ensures { result ≡ layouts.round_up alignment bytes }

@@ -13,7 +13,7 @@ use dm_int::size;
 
 impl Types {
     /// The bytes of an object of the type. None where the type is incomplete, void, a function or an array of such a
-    /// type, or takes more than 1,073,741,824 bytes.
+    /// type, or takes more than `MOST_TYPE_BYTES`.
     pub fn size(&self, id: TypeId) -> Option<u64>
         requires { tables.IsId self.now id }
         ensures size { result ≡ layouts.size_of self.now (tables.type_of self.now id) }
@@ -38,6 +38,7 @@ impl Types {
         ensures layout { result ≡ layouts.layout_of self.now (tables.type_of self.now id) }
         ensures within { IfSome result IsWithin }
     {
+        // With it the invariant of the table is known in the loop.
         let _ = &self.shapes;
         let mut count = 1u64;
         let mut element = id;
@@ -85,6 +86,7 @@ impl Types {
         ensures layout { result ≡ layouts.struct_layout self.now members.now }
         ensures within { IfSome result IsWithin }
     {
+        // With it the invariant of the table is known in the loop.
         let _ = &self.shapes;
         let mut all = Layout::empty();
         for member in members {

@@ -21,7 +21,8 @@ use std::marker::Model;
 #[derive(Drop)]
 pub struct Types {
     pub(crate) shapes: IndexSet<Shape>,
-    /// How many parts each of these types has, written out.
+    /// How many parts each of these types has, written out. No clause says so: the numbers only steer in which order
+    /// `compatible` looks at parts.
     pub(crate) parts: Vec<u32>,
     pub(crate) structs: Vec<Struct>,
 }
@@ -69,8 +70,8 @@ impl Types {
     }
 
     /// The number of a type. Types that are equal, such as an array of const elements and the const version of the
-    /// array, have one number. After an `Err` nothing is changed. A type of more than 4,294,967,295 parts, written out,
-    /// counts as want of memory.
+    /// array, have one number. After an `Err` nothing is changed. Parts of a type, written out, that 32 bits can't
+    /// count are meant to be want of memory too.
     pub fn intern(&mut self, shape: Shape) -> Result<TypeId, Memory>
         requires { tables.IsShape self.old shape }
         ensures typed { IfOk result (λ id. tables.Has self.new id (tables.shaped self.old shape)) }
@@ -153,6 +154,7 @@ impl Types {
         ensures distinct { OnOk result (tables.AreDistinct self.new) }
         ensures kept { tables.Extends self.old self.new }
     {
+        // With it the invariant of the table is known in the loop.
         let _ = &self.shapes;
         let mut lengths = lengths;
         let mut id = element;

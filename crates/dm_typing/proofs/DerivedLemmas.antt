@@ -1,15 +1,15 @@
 -- The types that specifiers name and declarators derive are proper, and those of the table.
-use Rattle.std.specs.Prelude.{◌≡◌, ℕ, ◌==◌, Bool, true, false, ◌&&◌, ◌||◌, not, if◌then◌else◌, List, [], ◌∷◌, ◌++◌, length, Option, Some, None, refl}
+use Rattle.std.specs.Prelude.{◌≡◌, ℕ, ◌==◌, Bool, true, false, ◌&&◌, ◌||◌, not, if◌then◌else◌, List, [], ◌∷◌, ◌++◌, length, Option, Some, None, unwrap_or, refl}
 use Rattle.std.proofs.Common.{sym, subst}
 use Rattle.dm_type.specs.CTypes.{CType, void, integer, pointer, array, struct, function as function_type, const, all_of, with_const}
 use Rattle.dm_type.specs.TableLaws.{injected}
-use Rattle.dm_scope.specs.Scopes.{Scopes, is_declared}
+use Rattle.dm_scope.specs.Scopes.{Scopes}
 use Rattle.dm_syn.specs.Sources.{spelling_at}
 use Rattle.dm_tree.specs.Scenes.{is_function}
-use Rattle.dm_typing.specs.Known.{Known, Setting, Outcome, given, broken, after, declaring}
+use Rattle.dm_typing.specs.Known.{Known, Setting, Outcome, given, broken, after}
 use Rattle.dm_typing.specs.Conversions.{is_complete}
 use Rattle.dm_typing.specs.Specifiers.{Said, with_word, with_type, sets, Row, type_among, are_words, one_type, type_said, Where, are_allowed, with_said_const}
-use Rattle.dm_typing.specs.Typing.{number_if_struct, TypedParameter, Step, pointing, arraying, calling, kinds_of, length_fits, is_result, stepped, derived, pointers, adjusted, is_no_parameters, without_void, parameter_entry, parameter_declared, typed_parameter, entered, left, typed_said, name_ended}
+use Rattle.dm_typing.specs.Typing.{number_if_struct, TypedParameter, Step, pointing, arraying, calling, kinds_of, length_fits, is_result, stepped, derived, pointers, adjusted, is_no_parameters, without_void, parameter_entry, is_new_parameter, parameter_declared, typed_parameter, entered, left, typed_said, name_ended}
 use Rattle.dm_typing.specs.Sound.{AreTypes, IsStep, AreSteps, AreProper, IsType, IsSoundKnown, KnowsMore, IsTypedName, GivesMore}
 use Rattle.dm_typing.proofs.TypeLemmas.{both-hold}
 use Rattle.dm_typing.proofs.MemberLemmas.{with-const-proper}
@@ -179,7 +179,8 @@ adjusted-object type h = h
 pub parameter-gives : (setting : Setting) (known : Known) (here : ℕ) (type : CType) (name : Option ℕ) → IsSoundKnown known → IsType known type
     → GivesMore known IsParameterType (typed_parameter setting known here type name)
 parameter-gives setting known here type name sound is =
-    obeys-more known IsParameterType (not (is_function type)) 5 here (parameter_declared setting known (adjusted type) name) (λ object. go object name)
+    obeys-more known IsParameterType (is_new_parameter setting known name) 2 (unwrap_or name here) _ (λ new.
+    obeys-more known IsParameterType (not (is_function type)) 5 here (parameter_declared setting known (adjusted type) name) (λ object. go object name))
   where
     go : not (is_function type) ≡ true → (name : Option ℕ) → GivesMore known IsParameterType (parameter_declared setting known (adjusted type) name)
     go object None = stays-so known IsParameterType (record { kind = adjusted type; declared = None }) sound (adjusted-type known type is)
@@ -187,9 +188,7 @@ parameter-gives setting known here type name sound is =
         let name = spelling_at setting.source at in
         let entry = parameter_entry setting at (adjusted type) in
         let fits = adjusted-type known type is in
-        let fine : GivesMore known IsParameterType (given (declaring known name entry) (record { kind = adjusted type; declared = Some (length known.declared) })) =
-        (knows-entry known sound name entry, sound-entry known sound name entry (adjusted-object type object, (λ linked. absurd (cc))) fits, refl, fits) in
-        obeys-more known IsParameterType (not (is_declared known.scopes name)) 2 at _ (λ new. fine)
+        (knows-entry known sound name entry, sound-entry known sound name entry (adjusted-object type object, (λ linked. absurd (cc))) fits, refl, fits)
 
 pub without-void-fits : (known : Known) (all : List TypedParameter) → AreParameterTypes known all → AreParameterTypes known (without_void all)
 without-void-fits known all h = go (is_no_parameters all)

@@ -14,7 +14,7 @@ use Rattle.dm_tree.specs.Typing.{IsEntry, IsWellTyped, AreWellTyped}
 use Rattle.dm_tree.specs.Units.{Declaration}
 use Rattle.dm_typing.specs.Known.{Known, Setting, Outcome, given, broken, after, with_it, obeys, if_given, meaning_of, declaring}
 use Rattle.dm_typing.specs.Conversions.{constant_of}
-use Rattle.dm_typing.specs.Typing.{is_int, enumerator_entry, enumerator_declared, enumerator_implied, enumerator_valued, with_constant, natural, length_of}
+use Rattle.dm_typing.specs.Typing.{is_int, enumerator_entry, enumerator_declared, enumerator_valued, with_constant, natural, length_of}
 use Rattle.dm_typing.specs.Sound.{IsType, IsSoundKnown, KnowsMore, scene_of, IsSoundValue, Gives, GivesMore}
 use Rattle.dm_typing.proofs.TypeLemmas.{both-hold}
 use Rattle.dm_typing.proofs.GrowthLemmas.{constants-sound-stay}
@@ -193,20 +193,18 @@ in-range value h =
     let parts = both-hold (int_le (least k.Int) value) (int_le value (greatest k.Int)) h in (below (least k.Int) value parts.0, below value (greatest k.Int) parts.1)
 
 module _ (setting : Setting) where
-  declared-more : (known : Known) (at : ℕ) (value : ℤ) → IsSoundKnown known → is_int value ≡ true → GivesMore known Any (enumerator_declared setting known at value)
-  declared-more known at value sound fits =
+  pub declared-more : (known : Known) (at : ℕ) (value : ℤ) → IsSoundKnown known → GivesMore known Any (enumerator_declared setting known at value)
+  declared-more known at value sound =
       let name = spelling_at setting.source at in
       let entry = enumerator_entry setting at value in
       let behind = declaring known name entry in
-      let fine : GivesMore known Any (given behind value) =
-      (knows-entry known sound name entry, sound-entry known sound name entry (refl, in-range value fits, refl) (tt, λ number e. absurd (cc)), refl, tt) in
-      obeys-more known Any (not (is_declared known.scopes name)) 2 at _ (λ new. obeys-more known Any _ 36 at (given behind value) (λ plain. fine))
-
-  pub implied-more : (known : Known) (at : ℕ) (value : ℤ) → IsSoundKnown known → GivesMore known Any (enumerator_implied setting known at value)
-  implied-more known at value sound = obeys-more known Any (is_int value) 7 at _ (λ fits. declared-more known at value sound fits)
+      let fine : is_int value ≡ true → GivesMore known Any (given behind value) =
+      λ fits. (knows-entry known sound name entry, sound-entry known sound name entry (refl, in-range value fits, refl) (tt, λ number e. absurd (cc)), refl, tt) in
+      obeys-more known Any (not (is_declared known.scopes name)) 2 at _ (λ new. obeys-more known Any (is_int value) 7 at _ (λ fits.
+      obeys-more known Any _ 36 at (given behind value) (λ plain. fine fits)))
 
   pub valued-more : (known : Known) (at here : ℕ) (tree : Tree) → IsSoundKnown known → IsSoundValue known tree → GivesMore known Any (enumerator_valued setting known at here tree)
   valued-more known at here tree sound value =
       if-more known Any (constant_of known tree) 7 here _ (λ it e. obeys-more known Any (is_int it) 7 here _ (λ fits.
       from-more known (with_constant known tree) Any (enumerator_declared setting (with_constant known tree) at it) (knows-constant known sound tree) refl
-      (declared-more (with_constant known tree) at it (sound-constant known sound tree value (ap is_some e)) fits)))
+      (declared-more (with_constant known tree) at it (sound-constant known sound tree value (ap is_some e)))))

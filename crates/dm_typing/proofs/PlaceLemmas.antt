@@ -21,7 +21,7 @@ use Rattle.dm_typing.specs.Operators.{row_at, operator_of_row, operator_of_assig
 use Rattle.dm_typing.specs.Conversions.{made, as_value, as_type, is_complete, complete_target, constant_of}
 use Rattle.dm_typing.specs.Rules.{named_by_sort, Pair, indexed, member_by_name, is_modifiable, may_be_counted, signed, may_be_cast, operated, rule_of, arms, is_assignable, called, updated}
 use Rattle.dm_typing.specs.Specifiers.{Said, type_said, Where, are_allowed, with_said_const}
-use Rattle.dm_typing.specs.Typing.{may_be_used, named, index_tree, typed_index, typed_member, typed_arrow, is_plus_plus, typed_count, typed_sign, typed_prefix, typed_sizeof, typed_sizeof_name, typed_cast, typed_operation, typed_logic, typed_binary, typed_choice, typed_update, typed_assignment, is_name, is_function_label, typed_call, comma_of, number_if_struct, struct_named, enum_named, TypedMember, is_named, name_of, typed_field, fields, struct_ended, is_int, is_file_scope, enumerator_entry, enumerator_declared, enumerator_implied, enumerator_valued, with_constant, Step, pointing, arraying, calling, kinds_of, length_fits, is_result, stepped, derived, natural, length_of, adjusted, parameter_entry, parameter_declared, typed_parameter, left, typed_said, name_ended, extent}
+use Rattle.dm_typing.specs.Typing.{may_be_used, named, index_tree, typed_index, typed_member, typed_arrow, is_plus_plus, typed_count, typed_sign, typed_prefix, typed_sizeof, typed_sizeof_name, typed_cast, typed_operation, typed_logic, typed_binary, typed_choice, typed_update, typed_assignment, is_name, is_function_label, typed_call, comma_of, number_if_struct, struct_named, enum_named, TypedMember, is_named, name_of, typed_field, fields, struct_ended, is_int, is_file_scope, enumerator_entry, enumerator_declared, enumerator_valued, with_constant, Step, pointing, arraying, calling, kinds_of, length_fits, is_result, stepped, derived, natural, length_of, adjusted, is_new_parameter, parameter_declared, typed_parameter, left, typed_said, name_ended, extent}
 use Rattle.dm_typing.specs.Sound.{BreaksWithin, step_at, StepsWithin}
 
 -- a rule is broken within these tokens, or what is given is such
@@ -211,16 +211,13 @@ module _ (span : Span) (on : span.first < span.after) where
 -- ---- enumerators, members, lengths
 
 module _ (setting : Setting) (first behind : ℕ) where
-  declared-places : (known : Known) (at : ℕ) (value : ℤ) → first ≤ at → at < behind → Places first behind Plain (enumerator_declared setting known at value)
+  pub declared-places : (known : Known) (at : ℕ) (value : ℤ) → first ≤ at → at < behind → Places first behind Plain (enumerator_declared setting known at value)
   declared-places known at value low high =
       let name = spelling_at setting.source at in
       let fine : Outcome ℤ = given (declaring known name (enumerator_entry setting at value)) value in
       let plain = not (is_file_scope known.scopes && bytes_eq name (codes "main")) in
-      obeys-places first behind Plain (not (is_declared known.scopes name)) 2 at (obeys plain 36 at fine) low high (obeys-places first behind Plain plain 36 at fine low high tt)
-
-  pub implied-places : (known : Known) (at : ℕ) (value : ℤ) → first ≤ at → at < behind → Places first behind Plain (enumerator_implied setting known at value)
-  implied-places known at value low high =
-      obeys-places first behind Plain (is_int value) 7 at (enumerator_declared setting known at value) low high (declared-places known at value low high)
+      obeys-places first behind Plain (not (is_declared known.scopes name)) 2 at (obeys (is_int value) 7 at (obeys plain 36 at fine)) low high
+      (obeys-places first behind Plain (is_int value) 7 at (obeys plain 36 at fine) low high (obeys-places first behind Plain plain 36 at fine low high tt))
 
   pub valued-places : (known : Known) (at here : ℕ) (tree : Tree) → first ≤ at → at < behind → first ≤ here → here < behind
       → Places first behind Plain (enumerator_valued setting known at here tree)
@@ -267,15 +264,18 @@ derived-places known first behind type (step ∷ steps) h =
 pub parameter-places : (setting : Setting) (known : Known) (first behind here : ℕ) (type : CType) (name : Option ℕ) → first ≤ here → here < behind
     → ((at : ℕ) → name ≡ Some at → (first ≤ at) × (at < behind)) → Places first behind Plain (typed_parameter setting known here type name)
 parameter-places setting known first behind here type name low high named-at =
-    obeys-places first behind Plain (not (is_function type)) 5 here (parameter_declared setting known (adjusted type) name) low high (go (adjusted type) name named-at)
+    let rest = obeys (not (is_function type)) 5 here (parameter_declared setting known (adjusted type) name) in
+    let at = at-name name named-at in
+    obeys-places first behind Plain (is_new_parameter setting known name) 2 (unwrap_or name here) rest at.0 at.1
+    (obeys-places first behind Plain (not (is_function type)) 5 here (parameter_declared setting known (adjusted type) name) low high (go (adjusted type) name))
   where
-    go : (kind : CType) (name : Option ℕ) → ((at : ℕ) → name ≡ Some at → (first ≤ at) × (at < behind)) → Places first behind Plain (parameter_declared setting known kind name)
-    go kind None named-at = tt
-    go kind (Some at) named-at =
-        let it = named-at at refl in
-        let name = spelling_at setting.source at in
-        obeys-places first behind Plain (not (is_declared known.scopes name)) 2 at
-        (given (declaring known name (parameter_entry setting at kind)) (record { kind = kind; declared = Some (length known.declared) })) it.0 it.1 tt
+    at-name : (name : Option ℕ) → ((at : ℕ) → name ≡ Some at → (first ≤ at) × (at < behind)) → (first ≤ unwrap_or name here) × (unwrap_or name here < behind)
+    at-name None named-at = (low, high)
+    at-name (Some at) named-at = named-at at refl
+
+    go : (kind : CType) (name : Option ℕ) → Places first behind Plain (parameter_declared setting known kind name)
+    go kind None = tt
+    go kind (Some at) = tt
 
 pub left-places : {A : Type 0} (first behind : ℕ) (P : A → Type 0) (scopes : Scopes) (outcome : Outcome A) → Places first behind P outcome → Places first behind P (left scopes outcome)
 left-places first behind P scopes (given known it) h = h

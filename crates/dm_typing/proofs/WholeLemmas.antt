@@ -37,7 +37,7 @@ use Rattle.dm_typing.proofs.RuleLemmas.{value-sound, binary-gives, comma-gives, 
 use Rattle.dm_typing.proofs.WriteLemmas.{as-value-sound, gives-sound, assignment-gives, count-gives, prefix-gives}
 use Rattle.dm_typing.proofs.GrowthLemmas.{sound-stays, constants-sound-stay}
 use Rattle.dm_typing.proofs.StructLemmas.{layered-all}
-use Rattle.dm_typing.proofs.KnownLemmas.{Any, knows-through, type-stays, stays-so, gives-more, from-more, after-more, with-more, obeys-more, if-more, IsFound, found-entry, meaning-found, length-more, implied-more, valued-more}
+use Rattle.dm_typing.proofs.KnownLemmas.{Any, knows-through, type-stays, stays-so, gives-more, from-more, after-more, with-more, obeys-more, if-more, IsFound, found-entry, meaning-found, length-more, declared-more, valued-more}
 use Rattle.dm_typing.proofs.DerivedLemmas.{SaidFits, said-stays, word-fits, type-fits, said-more, steps-stay, pointers-fit, declarator-gives, type-gives, IsParameterType, AreParameterTypes, parameter-gives, without-void-fits, entered-sound, left-more, name-gives}
 use Rattle.dm_typing.proofs.TagLemmas.{Grown, tag-inside-found, tag-seen-found, enum-grown, enum-gives, struct-gives, struct-starts, beginning-sound, struct-ends}
 
@@ -402,7 +402,7 @@ module _ (setting : Setting) (tokens : AreSoundTokens setting.source.tokens) whe
 
     enumerator-more : (used : Bool) (known : Known) (names : List Declared) (last : ℤ) (enumerator : Enumerator) → IsEnumerator setting.source names enumerator
         → IsSoundKnown known → GivesMore known Any (enumerator_of setting used known last enumerator)
-    enumerator-more used known names last (tree.bare span at) h sound = implied-more setting known at (last +ℤ pos 1) sound
+    enumerator-more used known names last (tree.bare span at) h sound = declared-more setting known at (last +ℤ pos 1) sound
     enumerator-more used known names last (tree.valued span at value) h sound =
         after-more known IsSound Any (typed setting used known value) _ (expr-more used known _ (expr_span value) value h.4 sound)
         (λ behind made more still is. valued-more setting behind at (expr_span value).first (as_value made) still (as-value-sound behind made is))

@@ -19,7 +19,7 @@ use Rattle.dm_typing.specs.Specifiers.{Said, nothing_said, Where, elsewhere}
 use Rattle.dm_typing.specs.Typing.{typed_index, typed_member, typed_arrow, typed_count, typed_prefix, typed_sizeof, typed_sizeof_name, typed_cast, typed_binary, typed_choice, typed_assignment, tag_declared, tag_inside, tag_seen, struct_named, with_new_struct, struct_begun, beginning, TypedMember, typed_field, TypedParameter, Step, arraying, calling, derived, pointers, direct_at, length_of, without_void, typed_parameter, parameter_at, entered, left, extent, typed, typed_within, typed_values, typed_name, typed_specifiers, words_said, word_said, fields_of, fields_declared, fields_with, enumerators_of, enumerator_of, steps_of, direct_steps, parameters_of, parameter_of}
 use Rattle.dm_typing.specs.Sound.{StepsWithin}
 use Rattle.dm_typing.proofs.GrowthLemmas.{some-of}
-use Rattle.dm_typing.proofs.PlaceLemmas.{Places, Plain, wider, after-places, with-places, if-places, named-here, index-here, member-here, arrow-here, count-here, prefix-here, sizeof-here, sizeof-name-here, cast-here, binary-here, choice-here, assignment-here, call-here, comma-here, struct-here, enum-here, ended-here, said-here, enum-ended-here, implied-places, valued-places, length-places, field-places, steps-wider, derived-places, parameter-places, left-places, name-places}
+use Rattle.dm_typing.proofs.PlaceLemmas.{Places, Plain, wider, after-places, with-places, if-places, named-here, index-here, member-here, arrow-here, count-here, prefix-here, sizeof-here, sizeof-name-here, cast-here, binary-here, choice-here, assignment-here, call-here, comma-here, struct-here, enum-here, ended-here, said-here, enum-ended-here, declared-places, valued-places, length-places, field-places, steps-wider, derived-places, parameter-places, left-places, name-places}
 
 -- ---- spans
 
@@ -549,7 +549,7 @@ module _ (setting : Setting) where
         → ((enumerator_span enumerator).first < (enumerator_span enumerator).after)
         × ((used : Bool) (known : Known) (last : ℤ) → Places (enumerator_span enumerator).first (enumerator_span enumerator).after Plain (enumerator_of setting used known last enumerator))
     enumerator-placed names (tree.bare span at) h =
-        (omega (arith, h.0, h.2), λ used known last. implied-places setting span.first span.after known at (last +ℤ pos 1) (omega (arith, h.0)) (omega (arith, h.2)))
+        (omega (arith, h.0, h.2), λ used known last. declared-places setting span.first span.after known at (last +ℤ pos 1) (omega (arith, h.0)) (omega (arith, h.2)))
     enumerator-placed names (tree.valued span at value) h =
         let one = expr-placed _ (expr_span value) value h.4 in (
           omega (arith, h.0, h.3, h.6, one.0),

@@ -4,6 +4,8 @@
 --     rule_of tokens expr      the rule that it breaks, and the token at which it does
 use Rattle.std.specs.Prelude.{ℕ, ◌+◌, ℤ, pos, false, true, List, [], ◌∷◌, Option, Some, None}
 use Rattle.std.specs.FinMap as map
+use Rattle.dm_spell.specs.Keywords.{char_word, sizeof_word}
+use Rattle.dm_spell.specs.Punctuators.{ampersand, colon, left_parenthesis, less as less_sign, minus, plus, question, right_parenthesis, star}
 use Rattle.dm_token.specs.declared.place.Span.{Span}
 use Rattle.dm_token.specs.declared.token.Class.{Class}
 use Rattle.dm_token.specs.declared.token.Class.TheVariants.{Keyword, Punctuator, Integer}
@@ -73,35 +75,35 @@ rule_of tokens expr = rule_in (typing tokens expr)
 
 -- 'a' + 1u
 abbrev pub sum_tokens : List CToken
-sum_tokens = int 97 ∷ punctuator 12 ∷ unsigned 1 ∷ []
+sum_tokens = int 97 ∷ punctuator plus ∷ unsigned 1 ∷ []
 
 abbrev pub sum : Expr
 sum = tree.binary (span 0 3) (constant 0) 1 (constant 2)
 
 -- -1 < 1u
 abbrev pub less_tokens : List CToken
-less_tokens = punctuator 13 ∷ int 1 ∷ punctuator 20 ∷ unsigned 1 ∷ []
+less_tokens = punctuator minus ∷ int 1 ∷ punctuator less_sign ∷ unsigned 1 ∷ []
 
 abbrev pub less : Expr
 less = tree.binary (span 0 4) (tree.prefix (span 0 2) 0 (constant 1)) 2 (constant 3)
 
 -- &5
 abbrev pub address_tokens : List CToken
-address_tokens = punctuator 10 ∷ int 5 ∷ []
+address_tokens = punctuator ampersand ∷ int 5 ∷ []
 
 abbrev pub address : Expr
 address = tree.prefix (span 0 2) 0 (constant 1)
 
 -- sizeof (char)
 abbrev pub size_tokens : List CToken
-size_tokens = token (Keyword 18) (pos 0) 0 ∷ punctuator 2 ∷ token (Keyword 2) (pos 0) 0 ∷ punctuator 3 ∷ []
+size_tokens = token (Keyword sizeof_word) (pos 0) 0 ∷ punctuator left_parenthesis ∷ token (Keyword char_word) (pos 0) 0 ∷ punctuator right_parenthesis ∷ []
 
 abbrev pub size : Expr
 size = tree.sizeof_name (span 0 4) (tree.type_name (span 2 3) (tree.listed (span 2 3) (tree.more_words (tree.keyword 2) tree.no_words)) (tree.shaped (span 3 3) [] tree.absent))
 
 -- 1 ? 2 : *3, in which `*` has an integer
 abbrev pub follow_tokens : List CToken
-follow_tokens = int 1 ∷ punctuator 30 ∷ int 2 ∷ punctuator 31 ∷ punctuator 11 ∷ int 3 ∷ []
+follow_tokens = int 1 ∷ punctuator question ∷ int 2 ∷ punctuator colon ∷ punctuator star ∷ int 3 ∷ []
 
 abbrev pub follow : Expr
 follow = tree.conditional (span 0 6) (constant 0) (constant 2) (tree.prefix (span 4 6) 4 (constant 5))

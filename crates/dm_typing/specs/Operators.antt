@@ -1,6 +1,7 @@
 -- Operators by their tokens.
 --     row_at source at      the row of a punctuator in the table of punctuators, and `keyword_at` that of a keyword
 use Rattle.std.specs.Prelude.{ℕ, ◌==◌, if◌then◌else◌, Option, Some, None, slice_get}
+use Rattle.dm_spell.specs.Punctuators as punctuator
 use Rattle.dm_token.specs.declared.token.Class.{Class}
 use Rattle.dm_token.specs.declared.token.Class.TheVariants as class
 use Rattle.dm_token.specs.declared.token.CToken.{CToken}
@@ -37,26 +38,26 @@ keyword_at source at = keyword_of_token (slice_get source.tokens at)
 -- 6.5.5 to 6.5.12
 abbrev pub operator_of_row : ℕ → Option Op
 operator_of_row row =
-    if row == 11 then Some o.Mul else if row == 16 then Some o.Div else if row == 17 then Some o.Rem
-    else if row == 12 then Some o.Add else if row == 13 then Some o.Sub
-    else if row == 18 then Some o.Shl else if row == 19 then Some o.Shr
-    else if row == 20 then Some o.Less else if row == 21 then Some o.Greater
-    else if row == 22 then Some o.LessEq else if row == 23 then Some o.GreaterEq
-    else if row == 24 then Some o.Equal else if row == 25 then Some o.NotEqual
-    else if row == 10 then Some o.And else if row == 26 then Some o.Xor else if row == 27 then Some o.Or
+    if row == punctuator.star then Some o.Mul else if row == punctuator.slash then Some o.Div else if row == punctuator.percent then Some o.Rem
+    else if row == punctuator.plus then Some o.Add else if row == punctuator.minus then Some o.Sub
+    else if row == punctuator.left_shift then Some o.Shl else if row == punctuator.right_shift then Some o.Shr
+    else if row == punctuator.less then Some o.Less else if row == punctuator.greater then Some o.Greater
+    else if row == punctuator.less_equal then Some o.LessEq else if row == punctuator.greater_equal then Some o.GreaterEq
+    else if row == punctuator.equal_equal then Some o.Equal else if row == punctuator.not_equal then Some o.NotEqual
+    else if row == punctuator.ampersand then Some o.And else if row == punctuator.caret then Some o.Xor else if row == punctuator.bar then Some o.Or
     else None
 
 -- 6.5.16.2
 abbrev pub operator_of_assignment : ℕ → Option Op
 operator_of_assignment row =
-    if row == 35 then Some o.Mul else if row == 36 then Some o.Div else if row == 37 then Some o.Rem
-    else if row == 38 then Some o.Add else if row == 39 then Some o.Sub
-    else if row == 40 then Some o.Shl else if row == 41 then Some o.Shr
-    else if row == 42 then Some o.And else if row == 43 then Some o.Xor else if row == 44 then Some o.Or
+    if row == punctuator.star_equals then Some o.Mul else if row == punctuator.slash_equals then Some o.Div else if row == punctuator.percent_equals then Some o.Rem
+    else if row == punctuator.plus_equals then Some o.Add else if row == punctuator.minus_equals then Some o.Sub
+    else if row == punctuator.left_shift_equals then Some o.Shl else if row == punctuator.right_shift_equals then Some o.Shr
+    else if row == punctuator.ampersand_equals then Some o.And else if row == punctuator.caret_equals then Some o.Xor else if row == punctuator.bar_equals then Some o.Or
     else None
 
 -- 6.5.3.3
 abbrev pub sign_of_row : ℕ → Option Sign
 sign_of_row row =
-    if row == 12 then Some s.Plus else if row == 13 then Some s.Minus
-    else if row == 14 then Some s.Complement else if row == 15 then Some s.Not else None
+    if row == punctuator.plus then Some s.Plus else if row == punctuator.minus then Some s.Minus
+    else if row == punctuator.tilde then Some s.Complement else if row == punctuator.exclamation then Some s.Not else None

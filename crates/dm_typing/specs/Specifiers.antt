@@ -3,6 +3,7 @@
 --     type_said said      the type that they name, const apart
 --     are_allowed where said      the storage words and `inline` may stand there
 use Rattle.std.specs.Prelude.{ℕ, ◌+◌, Bool, true, false, ◌&&◌, ◌||◌, not, ◌==◌, if◌then◌else◌, List, [], ◌∷◌, ◌++◌, Option, Some, None}
+use Rattle.dm_spell.specs.Keywords.{bool_word, char_word, const_word, extern_word, inline_word, int_word, long_word, short_word, signed_word, static_word, typedef_word, unsigned_word, void_word}
 use Rattle.dm_int.specs.declared.Kind.TheVariants as k
 use Rattle.dm_type.specs.CTypes.{CType, void, integer, function, with_const}
 
@@ -18,46 +19,12 @@ pub record Said : Type 0 where
 abbrev pub nothing_said : Said
 nothing_said = record { words = []; types = []; storage = []; inline = false; const = false }
 
--- rows in the table of keywords
-abbrev char_row : ℕ
-char_row = 2
-
-abbrev extern_row : ℕ
-extern_row = 9
-
-abbrev int_row : ℕ
-int_row = 13
-
-abbrev long_row : ℕ
-long_row = 14
-
-abbrev short_row : ℕ
-short_row = 16
-
-abbrev signed_row : ℕ
-signed_row = 17
-
-abbrev static_row : ℕ
-static_row = 19
-
-abbrev typedef_row : ℕ
-typedef_row = 22
-
-abbrev unsigned_row : ℕ
-unsigned_row = 23
-
-abbrev void_row : ℕ
-void_row = 24
-
-abbrev bool_row : ℕ
-bool_row = 26
-
 -- one keyword more
 abbrev pub with_word : ℕ → Said → Said
 with_word row said =
-    if row == 3 then record said { const = true }
-    else if row == 12 then record said { inline = true }
-    else if row == extern_row || row == static_row || row == typedef_row then record said { storage = said.storage ++ row ∷ [] }
+    if row == const_word then record said { const = true }
+    else if row == inline_word then record said { inline = true }
+    else if row == extern_word || row == static_word || row == typedef_word then record said { storage = said.storage ++ row ∷ [] }
     else record said { words = said.words ++ row ∷ [] }
 
 -- one type more
@@ -75,7 +42,7 @@ count_alike [] words others = true
 count_alike (row ∷ rows) words others = (count_of row words == count_of row others) && count_alike rows words others
 
 abbrev type_rows : List ℕ
-type_rows = char_row ∷ int_row ∷ long_row ∷ short_row ∷ signed_row ∷ unsigned_row ∷ void_row ∷ bool_row ∷ []
+type_rows = char_word ∷ int_word ∷ long_word ∷ short_word ∷ signed_word ∷ unsigned_word ∷ void_word ∷ bool_word ∷ []
 
 abbrev pub are_words : List ℕ → List ℕ → Bool
 are_words words others = count_alike type_rows words others
@@ -91,34 +58,34 @@ row words type = record { words = words; type = type }
 -- 6.7.2p2, as far as there are such types here
 abbrev pub sets : List Row
 sets =
-    row (void_row ∷ []) void
-    ∷ row (char_row ∷ []) (integer k.Char)
-    ∷ row (signed_row ∷ char_row ∷ []) (integer k.SChar)
-    ∷ row (unsigned_row ∷ char_row ∷ []) (integer k.UChar)
-    ∷ row (short_row ∷ []) (integer k.Short)
-    ∷ row (signed_row ∷ short_row ∷ []) (integer k.Short)
-    ∷ row (short_row ∷ int_row ∷ []) (integer k.Short)
-    ∷ row (signed_row ∷ short_row ∷ int_row ∷ []) (integer k.Short)
-    ∷ row (unsigned_row ∷ short_row ∷ []) (integer k.UShort)
-    ∷ row (unsigned_row ∷ short_row ∷ int_row ∷ []) (integer k.UShort)
-    ∷ row (int_row ∷ []) (integer k.Int)
-    ∷ row (signed_row ∷ []) (integer k.Int)
-    ∷ row (signed_row ∷ int_row ∷ []) (integer k.Int)
-    ∷ row (unsigned_row ∷ []) (integer k.UInt)
-    ∷ row (unsigned_row ∷ int_row ∷ []) (integer k.UInt)
-    ∷ row (long_row ∷ []) (integer k.Long)
-    ∷ row (signed_row ∷ long_row ∷ []) (integer k.Long)
-    ∷ row (long_row ∷ int_row ∷ []) (integer k.Long)
-    ∷ row (signed_row ∷ long_row ∷ int_row ∷ []) (integer k.Long)
-    ∷ row (unsigned_row ∷ long_row ∷ []) (integer k.ULong)
-    ∷ row (unsigned_row ∷ long_row ∷ int_row ∷ []) (integer k.ULong)
-    ∷ row (long_row ∷ long_row ∷ []) (integer k.LLong)
-    ∷ row (signed_row ∷ long_row ∷ long_row ∷ []) (integer k.LLong)
-    ∷ row (long_row ∷ long_row ∷ int_row ∷ []) (integer k.LLong)
-    ∷ row (signed_row ∷ long_row ∷ long_row ∷ int_row ∷ []) (integer k.LLong)
-    ∷ row (unsigned_row ∷ long_row ∷ long_row ∷ []) (integer k.ULLong)
-    ∷ row (unsigned_row ∷ long_row ∷ long_row ∷ int_row ∷ []) (integer k.ULLong)
-    ∷ row (bool_row ∷ []) (integer k.Bool)
+    row (void_word ∷ []) void
+    ∷ row (char_word ∷ []) (integer k.Char)
+    ∷ row (signed_word ∷ char_word ∷ []) (integer k.SChar)
+    ∷ row (unsigned_word ∷ char_word ∷ []) (integer k.UChar)
+    ∷ row (short_word ∷ []) (integer k.Short)
+    ∷ row (signed_word ∷ short_word ∷ []) (integer k.Short)
+    ∷ row (short_word ∷ int_word ∷ []) (integer k.Short)
+    ∷ row (signed_word ∷ short_word ∷ int_word ∷ []) (integer k.Short)
+    ∷ row (unsigned_word ∷ short_word ∷ []) (integer k.UShort)
+    ∷ row (unsigned_word ∷ short_word ∷ int_word ∷ []) (integer k.UShort)
+    ∷ row (int_word ∷ []) (integer k.Int)
+    ∷ row (signed_word ∷ []) (integer k.Int)
+    ∷ row (signed_word ∷ int_word ∷ []) (integer k.Int)
+    ∷ row (unsigned_word ∷ []) (integer k.UInt)
+    ∷ row (unsigned_word ∷ int_word ∷ []) (integer k.UInt)
+    ∷ row (long_word ∷ []) (integer k.Long)
+    ∷ row (signed_word ∷ long_word ∷ []) (integer k.Long)
+    ∷ row (long_word ∷ int_word ∷ []) (integer k.Long)
+    ∷ row (signed_word ∷ long_word ∷ int_word ∷ []) (integer k.Long)
+    ∷ row (unsigned_word ∷ long_word ∷ []) (integer k.ULong)
+    ∷ row (unsigned_word ∷ long_word ∷ int_word ∷ []) (integer k.ULong)
+    ∷ row (long_word ∷ long_word ∷ []) (integer k.LLong)
+    ∷ row (signed_word ∷ long_word ∷ long_word ∷ []) (integer k.LLong)
+    ∷ row (long_word ∷ long_word ∷ int_word ∷ []) (integer k.LLong)
+    ∷ row (signed_word ∷ long_word ∷ long_word ∷ int_word ∷ []) (integer k.LLong)
+    ∷ row (unsigned_word ∷ long_word ∷ long_word ∷ []) (integer k.ULLong)
+    ∷ row (unsigned_word ∷ long_word ∷ long_word ∷ int_word ∷ []) (integer k.ULLong)
+    ∷ row (bool_word ∷ []) (integer k.Bool)
     ∷ []
 
 abbrev pub type_among : List ℕ → List Row → Option CType
@@ -142,7 +109,7 @@ pub data Where : Type 0 where
 
 -- `inline` stands only beside `static`
 abbrev pub is_static_alone : List ℕ → Bool
-is_static_alone (row ∷ []) = row == static_row
+is_static_alone (row ∷ []) = row == static_word
 is_static_alone rows = false
 
 abbrev pub is_one_at_most : List ℕ → Bool
@@ -151,7 +118,7 @@ is_one_at_most (row ∷ []) = true
 is_one_at_most rows = false
 
 abbrev pub is_typedef_alone : List ℕ → Bool
-is_typedef_alone (row ∷ []) = row == typedef_row
+is_typedef_alone (row ∷ []) = row == typedef_word
 is_typedef_alone rows = false
 
 abbrev pub is_empty : List ℕ → Bool

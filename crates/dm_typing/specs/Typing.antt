@@ -4,6 +4,7 @@
 --     typed_name setting known name      the type of a type name, with the trees of its lengths and enumerator values
 use Rattle.std.specs.Prelude.{ℕ, ◌+◌, ℤ, pos, Bool, true, false, ◌&&◌, ◌||◌, not, ◌==◌, nat_le, if◌then◌else◌, List, [], ◌∷◌, ◌++◌, length, Option, Some, None, is_some, option_and_then, unwrap_or, slice_get, codes, bytes_eq, int_le, ◌+ℤ◌, negsuc, unsigned_abs}
 use Rattle.std.specs.FinMap as map
+use Rattle.dm_spell.specs.Punctuators.{increment}
 use Rattle.dm_token.specs.declared.place.Span.{Span}
 use Rattle.dm_token.specs.declared.token.CToken.{CToken}
 use Rattle.dm_int.specs.declared.Kind.{Kind}
@@ -94,7 +95,7 @@ typed_arrow setting known extent name pointing =
 -- C13
 abbrev pub is_plus_plus : Option ℕ → Bool
 is_plus_plus None = false
-is_plus_plus (Some row) = row == 8
+is_plus_plus (Some row) = row == increment
 
 abbrev pub typed_count : Setting → Known → Extent → ℕ → Bool → Tree → Outcome Tree
 typed_count setting known extent operator before operand =
@@ -304,7 +305,7 @@ struct_ended known span (Some at) begun members =
 abbrev pub is_int : ℤ → Bool
 is_int value = is_in_range k.Int value
 
--- C36 and C2: an enumerator is declared once in a scope, and none is called `main` in file scope
+-- C2, C7 and C36: an enumerator is declared once in a scope, int can represent its value, and none is called `main` in file scope
 abbrev pub is_file_scope : Scopes → Bool
 is_file_scope (scope ∷ []) = true
 is_file_scope scopes = false
@@ -321,13 +322,11 @@ enumerator_entry setting at value = record {
 abbrev pub enumerator_declared : Setting → Known → ℕ → ℤ → Outcome ℤ
 enumerator_declared setting known at value =
     obeys (not (is_declared known.scopes (spelling_at setting.source at))) 2 at
+    (obeys (is_int value) 7 at
     (obeys (not (is_file_scope known.scopes && bytes_eq (spelling_at setting.source at) (codes "main"))) 36 at
-    (given (declaring known (spelling_at setting.source at) (enumerator_entry setting at value)) value))
+    (given (declaring known (spelling_at setting.source at) (enumerator_entry setting at value)) value)))
 
--- C7: a value is an integer constant expression that fits int, an implied one too
-abbrev pub enumerator_implied : Setting → Known → ℕ → ℤ → Outcome ℤ
-enumerator_implied setting known at value = obeys (is_int value) 7 at (enumerator_declared setting known at value)
-
+-- C7: a value that is written is an integer constant expression that int can represent, which is looked at before the enumerator
 abbrev pub with_constant : Known → Tree → Known
 with_constant known tree = record known { constants = known.constants ++ tree ∷ [] }
 
@@ -415,16 +414,20 @@ parameter_entry setting at kind = record {
   place = place_at setting.source at;
 }
 
+abbrev pub is_new_parameter : Setting → Known → Option ℕ → Bool
+is_new_parameter setting known None = true
+is_new_parameter setting known (Some at) = not (is_declared known.scopes (spelling_at setting.source at))
+
 abbrev pub parameter_declared : Setting → Known → CType → Option ℕ → Outcome TypedParameter
 parameter_declared setting known kind None = given known (record { kind = kind; declared = None })
 parameter_declared setting known kind (Some at) =
-    obeys (not (is_declared known.scopes (spelling_at setting.source at))) 2 at
-    (given (declaring known (spelling_at setting.source at) (parameter_entry setting at kind)) (record { kind = kind; declared = Some (length known.declared) }))
+    given (declaring known (spelling_at setting.source at) (parameter_entry setting at kind)) (record { kind = kind; declared = Some (length known.declared) })
 
--- C5: no parameter is a function
+-- C2; C5: no parameter is a function
 abbrev pub typed_parameter : Setting → Known → ℕ → CType → Option ℕ → Outcome TypedParameter
 typed_parameter setting known here type name =
-    obeys (not (is_function type)) 5 here (parameter_declared setting known (adjusted type) name)
+    obeys (is_new_parameter setting known name) 2 (unwrap_or name here)
+    (obeys (not (is_function type)) 5 here (parameter_declared setting known (adjusted type) name))
 
 -- where a fault of a parameter's type is: at its declarator, or where there is none, at its first token
 abbrev pub parameter_at : Span → Declarator → ℕ
@@ -582,7 +585,7 @@ unfoldable mutual
       after (enumerator_of setting used known last first) (λ behind value. enumerators_of setting used behind value others)
 
   pub enumerator_of : Setting → Bool → Known → ℤ → Enumerator → Outcome ℤ
-  enumerator_of setting used known last (tree.bare span at) = enumerator_implied setting known at (last +ℤ pos 1)
+  enumerator_of setting used known last (tree.bare span at) = enumerator_declared setting known at (last +ℤ pos 1)
   enumerator_of setting used known last (tree.valued span at value) =
       after (typed_within setting used known (expr_span value) value) (λ behind made. enumerator_valued setting behind at (expr_span value).first (as_value made))
 

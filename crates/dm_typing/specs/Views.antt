@@ -5,6 +5,7 @@
 --     seen held      the same through its own shapes
 --     Gives view source behind result outcome      the code gives what the definition does
 use Rattle.std.specs.Prelude.{◌≡◌, ℕ, ◌<◌, Bool, true, false, if◌then◌else◌, is_some, Option, Some, None, List, [], ◌++◌, length, map, reverse, Result, Ok, Err}
+use Rattle.dm_token.specs.Refusals as refusals
 use Rattle.dm_token.specs.declared.place.Place.{Place}
 use Rattle.dm_token.specs.declared.stop.Refusal.{Refusal}
 use Rattle.dm_token.specs.declared.stop.Stop.{Stop}
@@ -97,7 +98,7 @@ is_conversion label = false
 
 -- the refusal for a rule that is broken at a token
 abbrev pub refusal_at : Source → ℕ → ℕ → Refusal
-refusal_at source rule at = record { number = 17; detail = rule; place = place_at source at }
+refusal_at source rule at = record { number = refusals.typing; detail = rule; place = place_at source at }
 
 -- want of memory is free
 abbrev pub Gives : {A B : Type 0} → (A → B) → Source → Known → Result A Stop → Outcome B → Type 0

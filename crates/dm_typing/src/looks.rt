@@ -172,6 +172,7 @@ pub fn is_same(types: &Types, a: TypeId, b: TypeId) -> bool
     requires right { IsId types.now b }
     ensures { result ≡ conversions.is_same (type_of types.now a) (type_of types.now b) }
 {
+    // Says that the types of the table differ, so equal ones have one number.
     let _ = types.shape(a);
     a == b
 }

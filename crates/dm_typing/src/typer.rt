@@ -9,6 +9,7 @@ ghost use Rattle.dm_typing.specs.Views.{source_of, refusal_at};
 
 use dm_scope::Scopes;
 use dm_syn::{Symbol, symbol_of};
+use dm_token::refusals::TYPING;
 use dm_token::{CToken, Class, Memory, Place, Refusal, Stop, Text};
 use std::alloc::Global;
 
@@ -84,7 +85,7 @@ impl Typer<'_> {
         ensures { result ≡ Refused (refusal_at (source_of self.now) rule at) }
     {
         Stop::Refused(Refusal {
-            number: 17,
+            number: TYPING,
             detail: rule,
             place: self.place(at),
         })

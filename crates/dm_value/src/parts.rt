@@ -22,7 +22,7 @@ struct Opened {
 
 impl Value {
     /// The value of these parts.
-    fn of_parts(alloc: Global, parts: Vec<Value>) -> Result<Value, Memory>
+    pub fn of_parts(alloc: Global, parts: Vec<Value>) -> Result<Value, Memory>
         ensures { IfOk result (λ value. view_of_value value ≡ values.parts (values.values (map view_of_value parts.items))) }
     {
         let parts = Rc::new(alloc, List::from_vec(parts))?;

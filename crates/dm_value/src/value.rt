@@ -80,6 +80,16 @@ impl Value {
         }
     }
 
+    /// Its parts, none where it has none.
+    pub fn all_parts(&self) -> &[Value]
+        ensures { map view_of_value result.now ≡ values.parts_in (view_of_value self.now) }
+    {
+        match self {
+            Value::Parts(parts) => parts.as_ref().items(),
+            _ => &[],
+        }
+    }
+
     /// One of its parts, if there is one of this number.
     fn inner(&self, number: u32) -> Option<&Value>
         ensures { MatchOption result (values.part_value (view_of_value self.now) (values.part number ∷ []) ≡ None)

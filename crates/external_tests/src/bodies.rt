@@ -1,11 +1,11 @@
 //! What the first item of a function's body is read as (6.8).
 
-use crate::reading::external_at;
-use crate::words::{tokens_of, typedefs_of};
+use crate::reading::{external_at, typedefs_of};
 use dm_syn::{External, ExternalForm, Item, Stmt, StmtForm};
 use std::alloc::Global;
 use std::process::Abort;
 use std::test::Fail;
+use test_words::tokens_of;
 
 /// A word for a statement.
 fn word_of(stmt: &Stmt) -> &'static str {

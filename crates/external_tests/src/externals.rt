@@ -1,11 +1,11 @@
 //! External declarations by the grammar of ISO/IEC 9899:2011, 6.7 to 6.9.
 
-use crate::reading::{end_at, is_external, is_refused, refused_at};
-use crate::words::{token_of, tokens_of, typedefs_of};
+use crate::reading::{end_at, is_external, is_refused, refused_at, typedefs_of};
 use dm_token::{CToken, List};
 use std::alloc::Global;
 use std::process::Abort;
 use std::test::Fail;
+use test_words::{token_of, tokens_of};
 
 // Each is one external declaration, in which every token counts, and every semicolon where it stands.
 const DECLARATIONS: [&str; 48] = [

@@ -11,5 +11,3 @@ mod reading;
 mod sizes;
 #[cfg(test)]
 mod units;
-#[cfg(test)]
-mod words;

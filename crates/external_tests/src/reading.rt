@@ -2,13 +2,18 @@
 
 ghost use Rattle.std.specs.Prelude.{◌≤◌, ◌<◌, length};
 
-use crate::words::{tokens_of, typedefs_of};
 use dm_pexpr::Names;
 use dm_pstmt::next_external;
 use dm_syn::External;
-use dm_token::{Boxed, CToken, List, Place, Refusal, Stop};
+use dm_token::{Boxed, CToken, List, Place, Refusal, Stop, refusals};
 use std::alloc::Global;
 use std::test::Fail;
+use test_words::{tokens_of, type_names};
+
+/// `T`, which names a type.
+pub fn typedefs_of(alloc: Global) -> Result<Names, Fail> {
+    Ok(type_names(alloc, &["T"])?)
+}
 
 /// The external declaration at a position, and the position behind it.
 pub fn external_at(
@@ -48,10 +53,10 @@ pub fn is_external(alloc: Global, tokens: &List<CToken>) -> Result<bool, Fail> {
     }
 }
 
-/// Refusal 16 at a column.
+/// The refusal of syntax at a column.
 pub fn refused_at(column: u32) -> Stop {
     Stop::Refused(Refusal {
-        number: 16,
+        number: refusals::SYNTAX,
         detail: 0,
         place: Place {
             file: 0,

@@ -1,11 +1,11 @@
 //! Large external declarations: long ones are read to their end, and high ones no further than the greatest height.
 
 use crate::reading::is_external;
-use crate::words::tokens_of;
 use dm_token::{CToken, List};
 use std::alloc::Global;
 use std::process::Abort;
 use std::test::Fail;
+use test_words::{put, tokens_of};
 
 /// Words of which `open` and `close` stand any number of times.
 struct Repeated {
@@ -16,26 +16,6 @@ struct Repeated {
     behind: &'static str,
 }
 
-/// The same token, whose spelling is shared.
-fn copy_of(token: &CToken) -> Result<CToken, Fail> {
-    Ok(CToken {
-        class: token.class,
-        spelling: token.spelling.copy()?,
-        value: token.value,
-        kind: token.kind,
-        place: token.place,
-        trail: token.trail.copy()?,
-    })
-}
-
-/// Puts the same tokens behind others.
-fn put(tokens: &mut List<CToken>, behind: &List<CToken>) -> Result<(), Fail> {
-    for token in behind.items() {
-        tokens.push(copy_of(token)?)?;
-    }
-    Ok(())
-}
-
 /// Puts the tokens of words behind others, so many times.
 fn put_often(
     alloc: Global,
@@ -43,9 +23,8 @@ fn put_often(
     words: &str,
     count: u32,
 ) -> Result<(), Fail> {
-    let behind = tokens_of(alloc, words)?;
     for _ in 0..count {
-        put(tokens, &behind)?;
+        put(alloc, tokens, words)?;
     }
     Ok(())
 }

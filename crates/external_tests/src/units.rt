@@ -1,11 +1,11 @@
 //! External declarations one behind the other, and what is known of names behind one.
 
-use crate::reading::{end_at, refused_at, unit_of};
-use crate::words::{tokens_of, typedefs_of};
+use crate::reading::{end_at, refused_at, typedefs_of, unit_of};
 use dm_token::Text;
 use std::alloc::Global;
 use std::process::Abort;
 use std::test::Fail;
+use test_words::tokens_of;
 
 // Whole units, each with how many external declarations it has, and the column where none stands if it isn't read to its end.
 const UNITS: [(&str, u32, Option<u32>); 13] = [
@@ -110,6 +110,7 @@ const KNOWN: [(&str, &str, Option<bool>); 22] = [
 fn known_behind(alloc: Global, words: &str, name: &str) -> Result<Option<bool>, Fail> {
     let tokens = tokens_of(alloc, words)?;
     let mut typedefs = typedefs_of(alloc)?;
+    // Where it is refused, the names stay as they were.
     let _ = end_at(alloc, tokens.items(), 0, &mut typedefs);
     let name = Text::new(alloc, name)?;
     Ok(typedefs.get(&name))

@@ -4,6 +4,8 @@
 #[cfg(test)]
 mod expansion;
 #[cfg(test)]
+mod folders;
+#[cfg(test)]
 mod known_types;
 #[cfg(test)]
 mod search;

@@ -1,23 +1,11 @@
 //! Worked searches, and calls that stop.
 
+use crate::folders::add;
 use dm_io::MemoryFolder;
 use dm_search::Loader;
 use dm_token::{Limit, List, Place, Refusal, Stop, Text};
 use std::process::Abort;
 use std::test::Fail;
-
-/// Adds a file.
-fn add<R: Abort + AllocGlobal>(
-    rt: &R,
-    folder: &mut MemoryFolder,
-    name: &str,
-    bytes: &[u8],
-) -> Result<(), Fail> {
-    let name = Text::new(rt.alloc(), name)?;
-    assert!(rt; folder.file(&name).is_none());
-    folder.add(&name, bytes)?;
-    Ok(())
-}
 
 /// Adds empty files with these names.
 fn add_empty<R: Abort + AllocGlobal>(

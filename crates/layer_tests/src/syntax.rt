@@ -1,31 +1,17 @@
 //! Trees that are made by hand.
 
+use dm_spell::{keyword, punctuator};
 use dm_syn::{
     Declaration, Declarator, Direct, Expr, ExprForm, External, ExternalForm, InitDeclarator,
     InitForm, Initialiser, Specifier, Specifiers, Symbol, height, infix_level, symbol_of, yield_of,
 };
-use dm_token::{Boxed, CToken, Class, List, Memory, Place, Span, Text, Trail};
+use dm_token::{Boxed, Class, List, Memory, Span};
 use std::alloc::Global;
 use std::process::Abort;
+use test_words::tokens_of;
 
 fn span(first: u32, after: u32) -> Span {
     Span { first, after }
-}
-
-fn token(alloc: Global, class: Class, spelling: &str) -> Result<CToken, Memory> {
-    Ok(CToken {
-        class,
-        spelling: Text::new(alloc, spelling)?,
-        value: 0,
-        kind: 0,
-        place: Place {
-            file: 0,
-            byte: 0,
-            line: 1,
-            column: 1,
-        },
-        trail: Trail::empty(alloc),
-    })
 }
 
 // So many minus signs and a constant, from a token on.
@@ -79,19 +65,10 @@ fn declaration(alloc: Global, value: Option<Expr>) -> Result<External, Memory> {
     })
 }
 
-fn three_tokens(alloc: Global) -> Result<List<CToken>, Memory> {
-    let mut tokens = List::new(alloc);
-    tokens.push(token(alloc, Class::Keyword(13), "int")?)?;
-    tokens.push(token(alloc, Class::Identifier, "a")?)?;
-    tokens.push(token(alloc, Class::Punctuator(32), ";")?)?;
-    tokens.push(token(alloc, Class::Punctuator(32), ";")?)?;
-    Ok(tokens)
-}
-
 #[test]
 fn yields_the_tokens_of_its_span(rt: HostRuntime) -> Result<(), Memory> {
     let tree = declaration(rt.alloc(), None)?;
-    let tokens = three_tokens(rt.alloc())?;
+    let tokens = tokens_of(rt.alloc(), "int a ; ;")?;
     let (first, after) = (tree.span.first as usize, tree.span.after as usize);
     if first <= after && after <= tokens.len() {
         let list = yield_of(rt.alloc(), &tree, tokens.items())?;
@@ -132,10 +109,10 @@ fn expect_level(rt: &impl Abort, symbol: Symbol, wanted: Option<u8>) {
 
 #[test]
 fn sees_symbols_by_their_rows(rt: HostRuntime) {
-    expect_symbol(&rt, Class::Punctuator(11), Symbol::Star);
-    expect_symbol(&rt, Class::Punctuator(33), Symbol::Other);
-    expect_symbol(&rt, Class::Keyword(22), Symbol::Typedef);
-    expect_symbol(&rt, Class::Keyword(27), Symbol::Other);
+    expect_symbol(&rt, Class::Punctuator(punctuator::STAR), Symbol::Star);
+    expect_symbol(&rt, Class::Punctuator(punctuator::ELLIPSIS), Symbol::Other);
+    expect_symbol(&rt, Class::Keyword(keyword::TYPEDEF), Symbol::Typedef);
+    expect_symbol(&rt, Class::Keyword(keyword::AUTO), Symbol::Other);
     expect_level(&rt, Symbol::Star, Some(12));
     expect_level(&rt, Symbol::Or, Some(3));
     expect_level(&rt, Symbol::Equals, None);

@@ -113,6 +113,7 @@ fn number(types: &Types, kind: TypeId, value: i128) -> Core
     requires { IsId types.now kind }
     ensures { IsTrue (are_known (length types.now.shapes) result) }
 {
+    // The clauses alone speak of the types.
     let _ = types;
     node(Form::Number(value), kind)
 }
@@ -131,6 +132,7 @@ fn operation(
     requires right { IsTrue (are_known (length types.now.shapes) right) }
     ensures { IfOk result (λ tree. IsTrue (are_known (length types.now.shapes) tree)) }
 {
+    // The clauses alone speak of the types.
     let _ = types;
     let left = Boxed::new(alloc, left)?;
     let right = Boxed::new(alloc, right)?;
@@ -222,6 +224,7 @@ fn choice(
     requires third { IsTrue (are_known (length types.now.shapes) third) }
     ensures { IfOk result (λ tree. IsTrue (are_known (length types.now.shapes) tree)) }
 {
+    // The clauses alone speak of the types.
     let _ = types;
     let first = Boxed::new(alloc, first)?;
     let second = Boxed::new(alloc, second)?;

@@ -3,6 +3,7 @@
 ghost use Rattle.std.specs.Prelude.{◌≤◌, All, IsTrue, length};
 ghost use Rattle.dm_token.specs.Limits.{source_length_limit as limit};
 
+use crate::folders::add;
 use dm_io::MemoryFolder;
 use dm_search::Loader;
 use dm_token::{List, Stop, Text, Token, Unit, UnitTokens, source_length_limit};
@@ -21,19 +22,6 @@ fn unit<R: Abort + AllocGlobal>(rt: &R, define: &str) -> Result<Unit, Fail> {
         include,
         define: defines,
     })
-}
-
-/// Adds a file.
-fn add<R: Abort + AllocGlobal>(
-    rt: &R,
-    folder: &mut MemoryFolder,
-    name: &str,
-    bytes: &[u8],
-) -> Result<(), Fail> {
-    let name = Text::new(rt.alloc(), name)?;
-    assert!(rt; folder.file(&name).is_none());
-    folder.add(&name, bytes)?;
-    Ok(())
 }
 
 /// Whether each define is no longer than a file.

@@ -1,61 +1,16 @@
 //! Expressions and type names by the grammar of ISO/IEC 9899:2011, 6.5 and 6.7.7. `T` names a type, and no other name does.
 
 use dm_pexpr::{Names, expression, type_name};
-use dm_spell::{keywords, punctuators};
 use dm_syn::{Expr, ExprForm};
-use dm_token::{CToken, Class, List, Place, Text, Trail};
+use dm_token::{CToken, List, Text};
 use std::alloc::Global;
 use std::process::Abort;
 use std::test::Fail;
-
-/// The class of a word.
-fn class_of(word: &str) -> Class {
-    if let Some(row) = punctuators().find(word.as_bytes()) {
-        return Class::Punctuator(row);
-    }
-    if let Some(row) = keywords().find(word.as_bytes()) {
-        return Class::Keyword(row);
-    }
-    match word.as_bytes() {
-        [b'0'..=b'9', ..] => Class::Integer,
-        [b'"', ..] => Class::Literal,
-        _ => Class::Identifier,
-    }
-}
-
-/// The token of a word.
-fn token_of(alloc: Global, word: &str) -> Result<CToken, Fail> {
-    Ok(CToken {
-        class: class_of(word),
-        spelling: Text::new(alloc, word)?,
-        value: 0,
-        kind: 0,
-        place: Place {
-            file: 0,
-            byte: 0,
-            line: 1,
-            column: 1,
-        },
-        trail: Trail::empty(alloc),
-    })
-}
-
-/// The tokens of words between blanks.
-fn tokens_of(alloc: Global, words: &str) -> Result<List<CToken>, Fail> {
-    let mut tokens = List::new(alloc);
-    for word in words.split(' ') {
-        if !word.is_empty() {
-            tokens.push(token_of(alloc, word)?)?;
-        }
-    }
-    Ok(tokens)
-}
+use test_words::{put, tokens_of, type_names};
 
 /// `T`, which names a type.
 fn typedefs_of(alloc: Global) -> Result<Names, Fail> {
-    let mut typedefs = Names::new(alloc);
-    typedefs.set(&Text::new(alloc, "T")?, Some(true))?;
-    Ok(typedefs)
+    Ok(type_names(alloc, &["T"])?)
 }
 
 /// A word for what an expression is made of.
@@ -280,9 +235,9 @@ fn refuses_what_is_no_type_name(rt: HostRuntime) -> Result<(), Fail> {
 fn repeated(alloc: Global, word: &str, count: u32, last: &str) -> Result<List<CToken>, Fail> {
     let mut tokens = List::new(alloc);
     for _ in 0..count {
-        tokens.push(token_of(alloc, word)?)?;
+        put(alloc, &mut tokens, word)?;
     }
-    tokens.push(token_of(alloc, last)?)?;
+    put(alloc, &mut tokens, last)?;
     Ok(tokens)
 }
 
@@ -290,10 +245,10 @@ fn repeated(alloc: Global, word: &str, count: u32, last: &str) -> Result<List<CT
 fn alternating(alloc: Global, one: &str, other: &str, count: u32) -> Result<List<CToken>, Fail> {
     let mut tokens = List::new(alloc);
     for _ in 0..count {
-        tokens.push(token_of(alloc, one)?)?;
-        tokens.push(token_of(alloc, other)?)?;
+        put(alloc, &mut tokens, one)?;
+        put(alloc, &mut tokens, other)?;
     }
-    tokens.push(token_of(alloc, one)?)?;
+    put(alloc, &mut tokens, one)?;
     Ok(tokens)
 }
 

@@ -385,7 +385,8 @@ f ( 1 , p ) ( ) => C10 at 0
 sizeof ( struct { static struct U x ; } ) => C3 at 4
 sizeof ( struct { struct U x ; int x ; int x ; } ) => C5 at 6
 sizeof ( enum { E5 = i } ) => C7 at 6
-sizeof ( enum { X = 2147483647 , X } ) => C7 at 8
+sizeof ( enum { X = 2147483647 , X } ) => C2 at 8
+sizeof ( int ( * ) ( int a , int a ( void ) ) ) => C2 at 11
 sizeof ( long long long [ 0 ] ) => C3 at 2
 sizeof ( struct { int x ; void x ; } ) => C5 at 8
 sizeof ( struct T { struct U x ; } ) => C5 at 7

@@ -6,6 +6,7 @@ use crate::words::{tokens_of, typedefs_of};
 use dm_eexpr::elaborate_expr;
 use dm_pexpr::expression;
 use dm_syn::Expr;
+use dm_token::refusals::TYPING;
 use dm_token::{Boxed, CToken, List, Stop};
 use dm_tree::Core;
 use std::alloc::Global;
@@ -48,7 +49,7 @@ pub fn tree_of(
 fn refused(alloc: Global, stop: Stop) -> Result<String, Fail> {
     let mut out = String::new(alloc);
     match stop {
-        Stop::Refused(refusal) if refusal.number == 17 => {
+        Stop::Refused(refusal) if refusal.number == TYPING => {
             write!(out, "C{} at {}", refusal.detail, refusal.place.column)?;
         }
         _ => out.push_str("stopped")?,

@@ -443,6 +443,15 @@ int f ( void ) { return 0 ; } int f ( void ) { return nope ; } => C2 at 11
 long f ( void ) ; int f ( void ) { return nope ; } => C2 at 7
 int f ( int a , int a ) { break ; } => C2 at 7
 enum { A = 1 / 0 , A } ; => C7 at 4
+int B ; enum { A = 2147483647 , B } ; => C2 at 9
+int B ; enum { B = 2147483648 } ; => C7 at 7
+enum { A = 2147483647 , main } ; => C7 at 6
+int f ( int a , int a ( void ) ) ; => C2 at 7
+int f ( int a , int a ( void ) ) { return nope ; } => C2 at 7
+int f ( int a ( void ) , int a ) ; => C5 at 4
+int g ( void ) { int f ; static int f ( void ) ; return 0 ; } => C2 at 11
+int g ( void ) { static int f ( void ) ; int f ; return 0 ; } => C3 at 6
+int g ( void ) { int f ; static int f ( int [ 0 ] ) ; return 0 ; } => C5 at 15
 struct S { int m , m ; struct S s ; } ; => C6 at 6
 struct S { int m ; void m ; } ; => C5 at 7
 static int g ( void ) ; int f ( void ) { return g ( nope ) ; } => C37 at 14

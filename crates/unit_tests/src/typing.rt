@@ -8,6 +8,7 @@ use crate::units::externals;
 use crate::words::tokens_of;
 use dm_eunit::elaborate;
 use dm_read::unit_syntax;
+use dm_token::refusals::TYPING;
 use dm_token::{CToken, List, Stop};
 use dm_tree::CoreUnit;
 use dm_type::Types;
@@ -46,7 +47,7 @@ pub fn typed(alloc: Global, tokens: &List<CToken>) -> Result<TypedUnit, Stop> {
 pub fn refused(alloc: Global, stop: Stop) -> Result<String, Fail> {
     let mut out = String::new(alloc);
     match stop {
-        Stop::Refused(refusal) if refusal.number == 17 => {
+        Stop::Refused(refusal) if refusal.number == TYPING => {
             write!(out, "C{} at {}", refusal.detail, refusal.place.column)?;
         }
         Stop::Refused(refusal) => {

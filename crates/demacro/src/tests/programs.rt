@@ -224,6 +224,11 @@ fn objects_used_wrongly_are_undefined(rt: HostRuntime) -> Result<(), Fail> {
             "int main(void) { int x = 1; void *v = &x; char *c = v; *c = 2; return x; }\n",
             "[undefined type a.c:1:56]\n",
         ),
+        // type of an array that decays
+        (
+            "int main(void) { int a[4] = { 0 }; void *v = a; int (*p)[2] = v; return *p == a; }\n",
+            "[undefined type a.c:1:73]\n",
+        ),
         // const object
         (
             "int main(void) { const int x = 1; int *p = (int *)&x; *p = 2; return x; }\n",
@@ -253,6 +258,11 @@ fn objects_used_wrongly_are_undefined(rt: HostRuntime) -> Result<(), Fail> {
         (
             "extern int x;\nint main(void) { int n = sizeof x; return n + x; }\n",
             "[undefined external a.c:2:47]\n",
+        ),
+        // external text
+        (
+            "int puts(const char *s);\nextern char t[4];\nchar *p = t;\nint main(void) { return puts(p); }\n",
+            "[undefined external a.c:4:25]\n",
         ),
     ] {
         expect_run(&rt, "run a.c a.c", program, output)?;
@@ -356,6 +366,11 @@ fn calls_and_values_are_as_c_says(rt: HostRuntime) -> Result<(), Fail> {
         ),
         // end of main
         ("int main(void) { 5; }\n", "[exit 0]\n"),
+        // end of a function of const void
+        (
+            "const void f(void) {}\nint main(void) { f(); return 0; }\n",
+            "[exit 0]\n",
+        ),
         // inner end of main
         (
             "int n;\nint main(void) { if (n++ == 0) return 7 + main(); }\n",
@@ -380,6 +395,16 @@ fn calls_and_values_are_as_c_says(rt: HostRuntime) -> Result<(), Fail> {
         (
             "struct S { int a, t[2]; };\nstruct S f(struct S s) { s.a++; s.t[1] += s.a; return s; }\nint main(void) { struct S s = { 1, { 2, 3 } }, u; u = f(f(s)); return s.a + 10 * u.a + u.t[1]; }\n",
             "[exit 39]\n",
+        ),
+        // const of elements apart
+        (
+            "int main(void) { int m[2][3] = { { 1, 2, 3 }, { 4, 5, 6 } }; void *v = m; const int (*p)[3] = v, (*q)[3] = p + 1; return (*q)[1] + (int)(q - p); }\n",
+            "[exit 6]\n",
+        ),
+        // part stored before its list begins
+        (
+            "int main(void) { struct { int x; int y[2]; } s = { s.y[0] = 3, { s.y[0] } }; return s.y[0]; }\n",
+            "[exit 3]\n",
         ),
         // initialisers
         (

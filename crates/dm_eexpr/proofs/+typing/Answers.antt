@@ -25,7 +25,7 @@ use Rattle.dm_typing.specs.Fitting.{IsNumbered, AreNumbered}
 use Rattle.dm_typing.specs.Specifiers.{Said, nothing_said, with_word, with_type, elsewhere}
 use Rattle.dm_edeclarator.specs.Steps.{where_of, said_over, SaidFits, member_over, MemberFits, fields_over, FieldsFit, steps_over, StepsFit, parameter_over, ParameterFits, parameters_over, ParametersFit, name_over, NameFits, Anything, number_itself, typedef_said, StepFits, parameter_at as parameter_fault, Follows}
 use Rattle.dm_eexpr.specs.Parts.{valued, views_over, type_of_specifier, typed_with, field_with, enumerator_with, sized_steps, array_steps, calling_steps}
-use Rattle.dm_typing.specs.Typing.{named, constant_tree, literal_tree, typed, typed_within, typed_values, typed_index, typed_member, typed_arrow, typed_count, typed_prefix, typed_sizeof, typed_sizeof_name, typed_binary, typed_choice, typed_assignment, typed_call, typed_cast, comma_of, typed_name, name_ended, typed_specifiers, typed_said, words_said, word_said, fields_of, fields_declared, fields_with, enumerators_of, enumerator_of, enumerator_implied, enumerator_valued, steps_of, direct_steps, pointers, direct_at, arraying, calling, length_of, left, entered, without_void, parameters_of, parameter_of, typed_parameter, parameter_at as fault_at, Step, TypedName, TypedMember, TypedParameter}
+use Rattle.dm_typing.specs.Typing.{named, constant_tree, literal_tree, typed, typed_within, typed_values, typed_index, typed_member, typed_arrow, typed_count, typed_prefix, typed_sizeof, typed_sizeof_name, typed_binary, typed_choice, typed_assignment, typed_call, typed_cast, comma_of, typed_name, name_ended, typed_specifiers, typed_said, words_said, word_said, fields_of, fields_declared, fields_with, enumerators_of, enumerator_of, enumerator_declared, enumerator_valued, steps_of, direct_steps, pointers, direct_at, arraying, calling, length_of, left, entered, without_void, parameters_of, parameter_of, typed_parameter, parameter_at as fault_at, Step, TypedName, TypedMember, TypedParameter}
 use Rattle.dm_typing.specs.Views.{Begins, type_over, view_over, known_over, source_of, setting_of, Gives}
 use Rattle.dm_edeclarator.proofs.ReachLemmas.{begins, says, grows, passes, fails, done, relays, runs-out, alike, with-made, with-fails, Reaches}
 use Rattle.dm_eexpr.proofs.CycleLemmas.{after-valued, single-fails, single-ends, pair-fails, pair-fails-then, pair-ends, value-made, if-ok}
@@ -489,9 +489,9 @@ syntax::word_said-returns-in_ok-made-in-Enum t c =
 pub syntax::enumerator_of-returns-in-None : goal.syntax::enumerator_of-returns-in-None
 syntax::enumerator_of-returns-in-None t c =
     let same : to_z w32 (of_z w32 c.args.before) ≡ c.args.before = search rules in
-    alike Anything number_itself (source_of c.args.typer.now) c.args.known.now c.enumerator_implied.new.known (λ later. enumerator_of (setting_of c.args.typer.now) c.args.used (known_over later c.args.known.now) c.args.before (syntax.enum_item c.args.item.now)) (λ later. enumerator_implied (setting_of c.args.typer.now) (known_over later c.args.known.now) (out-EnumItem c.args.item.now).name (c.args.before +ℤ pos 1))
+    alike Anything number_itself (source_of c.args.typer.now) c.args.known.now c.enumerator_implied.new.known (λ later. enumerator_of (setting_of c.args.typer.now) c.args.used (known_over later c.args.known.now) c.args.before (syntax.enum_item c.args.item.now)) (λ later. enumerator_declared (setting_of c.args.typer.now) (known_over later c.args.known.now) (out-EnumItem c.args.item.now).name (c.args.before +ℤ pos 1))
     (λ later. ap (enumerator_of (setting_of c.args.typer.now) c.args.used (known_over later c.args.known.now) c.args.before) (item-bare c.args.item.now c.in-None.is) ∙ bare-parts (setting_of c.args.typer.now) c.args.used (known_over later c.args.known.now) c.args.before (out-EnumItem c.args.item.now).span (out-EnumItem c.args.item.now).name) c.enumerator_implied.result
-    (record { shapes = c.enumerator_implied.ensures.shapes; numbered = anything-if-ok c.enumerator_implied.new.known.types c.enumerator_implied.result; gives = λ later on. subst (λ z. Gives (number_itself later) (source_of c.args.typer.now) (known_over later c.enumerator_implied.new.known) c.enumerator_implied.result (enumerator_implied (setting_of c.args.typer.now) (known_over later c.args.known.now) (out-EnumItem c.args.item.now).name (z +ℤ pos 1))) same (c.enumerator_implied.ensures.gives later on) })
+    (record { shapes = c.enumerator_implied.ensures.shapes; numbered = anything-if-ok c.enumerator_implied.new.known.types c.enumerator_implied.result; gives = λ later on. subst (λ z. Gives (number_itself later) (source_of c.args.typer.now) (known_over later c.enumerator_implied.new.known) c.enumerator_implied.result (enumerator_declared (setting_of c.args.typer.now) (known_over later c.args.known.now) (out-EnumItem c.args.item.now).name (z +ℤ pos 1))) same (c.enumerator_implied.ensures.gives later on) })
 
 pub syntax::enumerator_of-returns-in-Some : goal.syntax::enumerator_of-returns-in-Some
 syntax::enumerator_of-returns-in-Some t c =

@@ -4,6 +4,10 @@ use Rattle.dm_operate.specs.Operators.{Stands}
 use Rattle.dm_value.specs.Places.{view_of_at}
 use Rattle.dm_operate.proofs.perform.performed.Goals as goal
 
+pub returns-in-Decay-clause-did : goal.returns-in-Decay-clause-did
+returns-in-Decay-clause-did c = λ label stands names.
+    c.on_decay.ensures label (map view_of_at c.args.locks.now) (subst (λ o. Stands c.args.layout.now o label) c.in-Decay.is stands) names
+
 pub returns-in-Member-clause-did : goal.returns-in-Member-clause-did
 returns-in-Member-clause-did c = λ label stands names.
     c.on_member.ensures label (map view_of_at c.args.locks.now) (subst (λ o. Stands c.args.layout.now o label) c.in-Member.is stands) names

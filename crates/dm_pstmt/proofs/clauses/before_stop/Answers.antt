@@ -1,16 +1,17 @@
 use Rattle.std.proofs.Common.{◌≡◌, ◌<◌, ◌+◌, ◌≤◌, length, arith, Some, option_map, ap}
 use Rattle.dm_pexpr.specs.Parsing.{and_then}
 use Rattle.dm_pexpr.specs.Parts.{source_of, an_expr}
+use Rattle.dm_pexpr.proofs.PartLemmas.{none-gives}
+use Rattle.dm_pexpr.proofs.ReadExprs.{nothing-of}
 use Rattle.dm_pstmt.specs.Kinds.{an_optional}
 use Rattle.dm_pstmt.specs.Steps.{closed_by}
 use Rattle.dm_pstmt.proofs.ClauseSteps.{no-stop, stop-read}
-use Rattle.dm_pstmt.proofs.Wholes.{none-gives, none-of}
 use Rattle.dm_pstmt.proofs.clauses.before_stop.Goals as goal
 
 pub returns-in_err-expr-clause-read : goal.returns-in_err-expr-clause-read
 returns-in_err-expr-clause-read c before at wanted given =
     none-gives (an_optional (source_of c.args.reader.now) at) (source_of c.args.reader.now) before c.args.scope.now _ _ c.from_residual.ensures
-    (ap (λ w. and_then (closed_by (source_of c.args.reader.now) before at c.args.stop) (option_map Some w)) (none-of (an_expr (source_of c.args.reader.now)) (source_of c.args.reader.now) before c.args.scope.now c.args.expr wanted c.in_err-expr.was given))
+    (ap (λ w. and_then (closed_by (source_of c.args.reader.now) before at c.args.stop) (option_map Some w)) (nothing-of (an_expr (source_of c.args.reader.now)) (source_of c.args.reader.now) before c.args.scope.now c.args.expr wanted c.in_err-expr.was given))
 
 pub returns-in_err-behind-clause-read : goal.returns-in_err-behind-clause-read
 returns-in_err-behind-clause-read c before at wanted given =

@@ -1,8 +1,8 @@
 use Rattle.std.proofs.Common.{◌≡◌, ◌+◌, sym, ap, ◌∙◌, arith}
 use Rattle.dm_syn.specs.declared.symbol.Symbol.TheVariants as symbol
 use Rattle.dm_pexpr.specs.Parts.{source_of}
+use Rattle.dm_pexpr.proofs.TestLemmas.{fails}
 use Rattle.dm_pstmt.specs.Parsing.{stands, stmt_by}
-use Rattle.dm_pstmt.proofs.Wholes.{fails}
 use Rattle.dm_pstmt.proofs.clauses.break_statement.Goals as goal
 
 pub returns-in-Some : goal.returns-in-Some

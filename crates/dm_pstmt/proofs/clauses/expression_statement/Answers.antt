@@ -4,17 +4,18 @@ use Rattle.dm_syn.specs.Views as view
 use Rattle.dm_pexpr.specs.Parsing.{lower}
 use Rattle.dm_pexpr.specs.Parts.{source_of}
 use Rattle.dm_pexpr.proofs.PartLemmas.{part-of}
+use Rattle.dm_pexpr.proofs.ReadExprs.{nothing-of}
 use Rattle.dm_pstmt.specs.Kinds.{a_stmt, an_optional}
 use Rattle.dm_pstmt.specs.Parsing.{stands}
 use Rattle.dm_pstmt.specs.Steps.{clause_of}
 use Rattle.dm_pstmt.proofs.ClauseSteps.{no-expression, expression-wanted}
-use Rattle.dm_pstmt.proofs.Wholes.{none-of, gives-along, some-holds, ok-along}
+use Rattle.dm_pstmt.proofs.Wholes.{gives-along, some-holds, ok-along}
 use Rattle.dm_pstmt.proofs.clauses.expression_statement.Goals as goal
 
 pub returns-in_default : goal.returns-in_default
 returns-in_default c =
     no-expression (source_of c.args.reader.now) c.args.depth c.args.scope.now c.args.at
-    (none-of (an_optional (source_of c.args.reader.now) c.args.at) (source_of c.args.reader.now) c.args.scope.now c.clause.new.scope c.in_ok-value.field-0 (clause_of (source_of c.args.reader.now) (lower (source_of c.args.reader.now) c.args.depth) symbol.Semicolon c.args.scope.now c.args.at) c.in_default.is c.in_ok-value.ensures.read)
+    (nothing-of (an_optional (source_of c.args.reader.now) c.args.at) (source_of c.args.reader.now) c.args.scope.now c.clause.new.scope c.in_ok-value.field-0 (clause_of (source_of c.args.reader.now) (lower (source_of c.args.reader.now) c.args.depth) symbol.Semicolon c.args.scope.now c.args.at) c.in_default.is c.in_ok-value.ensures.read)
 
 pub returns : goal.returns
 returns c =

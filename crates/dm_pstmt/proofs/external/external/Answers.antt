@@ -3,16 +3,17 @@ use Rattle.dm_syn.specs.Views as view
 use Rattle.dm_pexpr.specs.Parsing.{named, lower}
 use Rattle.dm_pexpr.specs.Parts.{source_of, the_specifiers, a_declarator}
 use Rattle.dm_pexpr.proofs.PartLemmas.{part-of}
+use Rattle.dm_pexpr.proofs.ReadExprs.{nothing-of}
 use Rattle.dm_pstmt.specs.Kinds.{an_external}
 use Rattle.dm_pstmt.specs.Steps.{declared_behind}
 use Rattle.dm_pstmt.proofs.DeclarationSteps.{no-external, bare-external, declarator-wanted}
-use Rattle.dm_pstmt.proofs.Wholes.{none-of, then-none, then-is, gives-along, ok-along}
+use Rattle.dm_pstmt.proofs.Wholes.{then-none, then-is, gives-along, ok-along}
 use Rattle.dm_pstmt.proofs.external.external.Goals as goal
 
 pub returns-in_default : goal.returns-in_default
 returns-in_default c =
     no-external (source_of c.args.reader.now) c.args.depth c.args.scope.now c.args.at
-    (none-of (the_specifiers (source_of c.args.reader.now)) (source_of c.args.reader.now) c.args.scope.now c.specifiers.new.scope c.in_ok-specifiers.field-0 ((lower (source_of c.args.reader.now) c.args.depth).specifiers c.args.scope.now c.args.at) c.in_default.is c.in_ok-specifiers.ensures)
+    (nothing-of (the_specifiers (source_of c.args.reader.now)) (source_of c.args.reader.now) c.args.scope.now c.specifiers.new.scope c.in_ok-specifiers.field-0 ((lower (source_of c.args.reader.now) c.args.depth).specifiers c.args.scope.now c.args.at) c.in_default.is c.in_ok-specifiers.ensures)
 
 pub returns-in-Some-behind : goal.returns-in-Some-behind
 returns-in-Some-behind c =
@@ -26,7 +27,7 @@ pub returns-in_default-2 : goal.returns-in_default-2
 returns-in_default-2 c =
     let p = part-of (the_specifiers (source_of c.args.reader.now)) (source_of c.args.reader.now) c.args.scope.now c.specifiers.new.scope c.in_ok-specifiers.field-0 c.in-Some.specifiers ((lower (source_of c.args.reader.now) c.args.depth).specifiers c.args.scope.now c.args.at) c.in-Some.is c.in_ok-specifiers.ensures in
     declarator-wanted (source_of c.args.reader.now) c.args.depth c.args.scope.now c.specifiers.new.scope c.args.at c.in-Some.specifiers p c.in_default-behind.ensures
-    ∙ then-none _ _ (none-of (a_declarator (source_of c.args.reader.now)) (source_of c.args.reader.now) c.specifiers.new.scope c.declarator.new.scope c.in_ok-declarator.field-0 ((lower (source_of c.args.reader.now) c.args.depth).declarator named c.specifiers.new.scope c.in-Some.specifiers.after) c.in_default-2.is c.in_ok-declarator.ensures)
+    ∙ then-none _ _ (nothing-of (a_declarator (source_of c.args.reader.now)) (source_of c.args.reader.now) c.specifiers.new.scope c.declarator.new.scope c.in_ok-declarator.field-0 ((lower (source_of c.args.reader.now) c.args.depth).declarator named c.specifiers.new.scope c.in-Some.specifiers.after) c.in_default-2.is c.in_ok-declarator.ensures)
 
 pub returns : goal.returns
 returns c =

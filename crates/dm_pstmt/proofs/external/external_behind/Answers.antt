@@ -5,10 +5,11 @@ use Rattle.dm_syn.specs.Scopes.{defines_types}
 use Rattle.dm_syn.specs.Views as view
 use Rattle.dm_pexpr.specs.Parts.{source_of, Gives}
 use Rattle.dm_pexpr.proofs.PartLemmas.{part-of}
+use Rattle.dm_pexpr.proofs.ReadExprs.{nothing-of}
 use Rattle.dm_pstmt.specs.Kinds.{an_item, an_external}
 use Rattle.dm_pstmt.specs.Parsing.{within, item_behind, declaration_with, external_declared}
 use Rattle.dm_pstmt.proofs.DeclarationSteps.{definition-wanted, declaration-wanted}
-use Rattle.dm_pstmt.proofs.Wholes.{none-of, then-none, then-is, gives-along, ok-along}
+use Rattle.dm_pstmt.proofs.Wholes.{then-none, then-is, gives-along, ok-along}
 use Rattle.dm_pstmt.proofs.external.external_behind.Goals as goal
 
 pub returns-then-is : goal.returns-then-is
@@ -27,7 +28,7 @@ returns-in_default c before names read seen p q =
     declaration-wanted (source_of c.args.reader.now) (within (source_of c.args.reader.now) c.args.depth) names c.args.scope.now c.args.first c.args.specifiers.after s c.args.declarator seen p.ends q
     (ap (λ it. is it symbol.LeftBrace) (sym c.symbol.ensures.value) ∙ sym c.is.ensures ∙ c.if-is.false)
     ∙ ap (option_map (external_declared c.args.first)) (then-none (declaration_with (source_of c.args.reader.now) (within (source_of c.args.reader.now) c.args.depth) names c.args.first s) _
-    (none-of (an_item (source_of c.args.reader.now) (defines_types (source_of c.args.reader.now) s)) (source_of c.args.reader.now) names c.item_behind.new.scope c.in_ok-item.field-0 _ c.in_default.is i))
+    (nothing-of (an_item (source_of c.args.reader.now) (defines_types (source_of c.args.reader.now) s)) (source_of c.args.reader.now) names c.item_behind.new.scope c.in_ok-item.field-0 _ c.in_default.is i))
 
 pub returns : goal.returns
 returns c before names read seen p q =

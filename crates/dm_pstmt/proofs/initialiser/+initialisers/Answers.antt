@@ -4,20 +4,21 @@ use Rattle.dm_syn.specs.Views as view
 use Rattle.dm_pexpr.specs.Parsing.{lower, all_turns}
 use Rattle.dm_pexpr.specs.Parts.{source_of}
 use Rattle.dm_pexpr.proofs.PartLemmas.{part-of}
+use Rattle.dm_pexpr.proofs.ReadExprs.{nothing-of, none-left}
 use Rattle.dm_pstmt.specs.Kinds.{an_initialiser, initialisers_from}
 use Rattle.dm_pstmt.specs.Parsing.{initialiser_of, more_initialisers}
 use Rattle.dm_pstmt.specs.Steps.{with_row}
-use Rattle.dm_pstmt.proofs.LoopSteps.{one-less, no-turns, turns-left, no-initialiser, braces-wanted, value-wanted, braces-read, initialisers-further}
+use Rattle.dm_pstmt.proofs.LoopSteps.{one-less, turns-left, no-initialiser, braces-wanted, value-wanted, braces-read, initialisers-further}
 use Rattle.dm_pstmt.proofs.Rows.{begun-part, with-none, with-empty, as-read}
 use Rattle.dm_pstmt.proofs.RowKinds.{initialiser_row}
 use Rattle.dm_pstmt.proofs.Turns.{initialisers-end, no-initialisers-left, initialisers-none}
-use Rattle.dm_pstmt.proofs.Wholes.{none-of, then-none, gives-along, ok-along}
+use Rattle.dm_pstmt.proofs.Wholes.{then-none, gives-along, ok-along}
 use Rattle.dm_pstmt.proofs.initialiser.+initialisers.Goals as goal
 
 pub braces-returns-in_default : goal.braces-returns-in_default
 braces-returns-in_default t c =
     then-none _ _ (ap (initialiser_of (source_of c.args.reader.now) c.args.depth c.args.scope.now) (sym c.requires)
-    ∙ none-of (an_initialiser (source_of c.args.reader.now)) (source_of c.args.reader.now) c.args.scope.now c.initialiser.new.scope c.in_ok-item.field-0 (initialiser_of (source_of c.args.reader.now) c.args.depth c.args.scope.now c.args.next) c.in_default.is c.in_ok-item.ensures)
+    ∙ nothing-of (an_initialiser (source_of c.args.reader.now)) (source_of c.args.reader.now) c.args.scope.now c.initialiser.new.scope c.in_ok-item.field-0 (initialiser_of (source_of c.args.reader.now) c.args.depth c.args.scope.now c.args.next) c.in_default.is c.in_ok-item.ensures)
 
 pub braces-returns : goal.braces-returns
 braces-returns t c =
@@ -62,7 +63,7 @@ more_initialisers-returns-in_default-2 t c before start read p =
     so.1 ∙ with-none tree.more_initialisers (map view.initialiser c.loop-turns.items.tree) _
     (initialisers-none (source_of c.args.reader.now) (initialiser_of (source_of c.args.reader.now) c.args.depth) c.loop-turns.turns (c.loop-turns.turns - 1) c.loop-turns.scope c.loop-turns.items.after (turns-left c.loop-turns.turns c.loop-turns-test.true) c.in-Some.ensures.0
     (ap (initialiser_of (source_of c.args.reader.now) c.args.depth c.loop-turns.scope) (sym c.in-Some.ensures.1)
-    ∙ none-of (an_initialiser (source_of c.args.reader.now)) (source_of c.args.reader.now) c.loop-turns.scope c.initialiser.new.scope c.in_ok-item.field-0 (initialiser_of (source_of c.args.reader.now) c.args.depth c.loop-turns.scope c.in-Some.next) c.in_default-2.is c.in_ok-item.ensures))
+    ∙ nothing-of (an_initialiser (source_of c.args.reader.now)) (source_of c.args.reader.now) c.loop-turns.scope c.initialiser.new.scope c.in_ok-item.field-0 (initialiser_of (source_of c.args.reader.now) c.args.depth c.loop-turns.scope c.in-Some.next) c.in_default-2.is c.in_ok-item.ensures))
 
 pub more_initialisers-loop-turns-preserved : goal.more_initialisers-loop-turns-preserved
 more_initialisers-loop-turns-preserved t c before start read p =
@@ -77,4 +78,4 @@ more_initialisers-returns t c before start read p =
     let so = c.loop-turns.invariant before start read p in
     as-read (initialisers_from (source_of c.args.reader.now) start) (source_of c.args.reader.now) before c.loop-turns.scope c.loop-turns.items _ _ so.0
     (so.1 ∙ with-empty (an_initialiser (source_of c.args.reader.now)) (initialiser_row (source_of c.args.reader.now)) c.loop-turns.items.tree _
-    (no-initialisers-left (source_of c.args.reader.now) (initialiser_of (source_of c.args.reader.now) c.args.depth) c.loop-turns.turns c.loop-turns.scope c.loop-turns.items.after (no-turns c.loop-turns.turns c.loop-turns-test.false)))
+    (no-initialisers-left (source_of c.args.reader.now) (initialiser_of (source_of c.args.reader.now) c.args.depth) c.loop-turns.turns c.loop-turns.scope c.loop-turns.items.after (none-left c.loop-turns.turns c.loop-turns-test.false)))

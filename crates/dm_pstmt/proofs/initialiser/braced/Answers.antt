@@ -1,5 +1,5 @@
+use Rattle.dm_pexpr.proofs.PartLemmas.{none-gives}
 use Rattle.dm_pstmt.proofs.DeclarationNodes.{no-braces-made, braces-made}
-use Rattle.dm_pstmt.proofs.Wholes.{none-gives}
 use Rattle.dm_pstmt.proofs.initialiser.braced.Goals as goal
 
 pub returns-in_err-after : goal.returns-in_err-after

@@ -1,18 +1,17 @@
 use Rattle.std.proofs.Common.{sym, subst}
 use Rattle.dm_pexpr.specs.Parts.{source_of, IsPart}
 use Rattle.dm_pexpr.proofs.PartLemmas.{part-of}
-use Rattle.dm_pexpr.proofs.ReadExprs.{ok-same}
+use Rattle.dm_pexpr.proofs.ReadExprs.{ok-same, nothing-of}
 use Rattle.dm_pstmt.specs.Kinds.{a_start, clauses_from}
 use Rattle.dm_pstmt.specs.Parsing.{within, start_of}
 use Rattle.dm_pstmt.proofs.ForSteps.{no-first-clause, clauses-begun}
-use Rattle.dm_pstmt.proofs.Wholes.{none-of}
 use Rattle.dm_pstmt.proofs.loops.for_clauses.Goals as goal
 
 pub returns-in_default : goal.returns-in_default
 returns-in_default c =
     let s = source_of c.args.reader.now in
     let names = c.args.scope.now in
-    no-first-clause s (within s c.args.depth) names c.args.at (none-of (a_start s c.args.at) s names c.for_start.new.scope c.in_ok-start.field-0 _ c.in_default.is c.in_ok-start.ensures)
+    no-first-clause s (within s c.args.depth) names c.args.at (nothing-of (a_start s c.args.at) s names c.for_start.new.scope c.in_ok-start.field-0 _ c.in_default.is c.in_ok-start.ensures)
 
 pub returns : goal.returns
 returns c =

@@ -2,9 +2,10 @@ use Rattle.std.proofs.Common.{◌≡◌, ◌+◌, ap, ◌∙◌, refl, arith}
 use Rattle.dm_syn.specs.declared.symbol.Symbol.TheVariants as symbol
 use Rattle.dm_pexpr.specs.Parts.{source_of, an_expr}
 use Rattle.dm_pexpr.proofs.PartLemmas.{part-of}
+use Rattle.dm_pexpr.proofs.ReadExprs.{nothing-of}
 use Rattle.dm_pstmt.specs.Parsing.{within, enclosed_of}
 use Rattle.dm_pstmt.proofs.StatementSteps.{within-parts, stands-same, no-while, no-repeated-test, no-semicolon, repeated-read}
-use Rattle.dm_pstmt.proofs.Wholes.{none-of, gives-along, ok-along}
+use Rattle.dm_pstmt.proofs.Wholes.{gives-along, ok-along}
 use Rattle.dm_pstmt.proofs.loops.repeated.Goals as goal
 
 pub returns-in_default : goal.returns-in_default
@@ -17,7 +18,7 @@ returns-in_default-2 c behind seen b =
     let names = c.args.scope.now in
     no-repeated-test s (within s c.args.depth) names behind c.args.first c.in-Some.next c.args.body seen b c.in-Some.ensures
     (ap (λ parts. enclosed_of s parts names c.in-Some.next) (within-parts s c.args.depth)
-    ∙ none-of (an_expr s) s names c.enclosed.new.scope c.in_ok-condition.field-0 _ c.in_default-2.is c.in_ok-condition.ensures.read)
+    ∙ nothing-of (an_expr s) s names c.enclosed.new.scope c.in_ok-condition.field-0 _ c.in_default-2.is c.in_ok-condition.ensures.read)
 
 pub returns-in_default-behind : goal.returns-in_default-behind
 returns-in_default-behind c behind seen b =

@@ -4,19 +4,19 @@ use Rattle.dm_syn.specs.Views as view
 use Rattle.dm_pexpr.specs.Parsing.{lower}
 use Rattle.dm_pexpr.specs.Parts.{source_of}
 use Rattle.dm_pexpr.proofs.PartLemmas.{part-of}
-use Rattle.dm_pexpr.proofs.ReadExprs.{ok-same}
+use Rattle.dm_pexpr.proofs.ReadExprs.{ok-same, nothing-of}
 use Rattle.dm_pstmt.specs.Kinds.{an_optional, clauses_from}
 use Rattle.dm_pstmt.specs.Parsing.{stands}
 use Rattle.dm_pstmt.specs.Steps.{clause_of}
 use Rattle.dm_pstmt.proofs.ForSteps.{clauses-tested}
-use Rattle.dm_pstmt.proofs.Wholes.{none-of, then-none, some-holds}
+use Rattle.dm_pstmt.proofs.Wholes.{then-none, some-holds}
 use Rattle.dm_pstmt.proofs.loops.second_clause.Goals as goal
 
 pub returns-in_default : goal.returns-in_default
 returns-in_default c before at begun p =
     let s = source_of c.args.reader.now in
     let one = c.args.scope.now in
-    then-none _ _ (none-of (an_optional s c.args.start.after) s one c.clause.new.scope c.in_ok-condition.field-0 _ c.in_default.is c.in_ok-condition.ensures.read)
+    then-none _ _ (nothing-of (an_optional s c.args.start.after) s one c.clause.new.scope c.in_ok-condition.field-0 _ c.in_default.is c.in_ok-condition.ensures.read)
 
 pub third_clause-requires : goal.third_clause-requires
 third_clause-requires c =

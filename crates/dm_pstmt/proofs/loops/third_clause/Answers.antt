@@ -3,16 +3,17 @@ use Rattle.dm_syn.specs.declared.symbol.Symbol.TheVariants as symbol
 use Rattle.dm_pexpr.specs.Parsing.{lower}
 use Rattle.dm_pexpr.specs.Parts.{source_of}
 use Rattle.dm_pexpr.proofs.PartLemmas.{part-of}
+use Rattle.dm_pexpr.proofs.ReadExprs.{nothing-of}
 use Rattle.dm_pstmt.specs.Kinds.{an_optional}
 use Rattle.dm_pstmt.specs.Parsing.{stands}
 use Rattle.dm_pstmt.specs.Steps.{clause_of}
-use Rattle.dm_pstmt.proofs.Wholes.{none-of, map-none, some-holds}
+use Rattle.dm_pstmt.proofs.Wholes.{map-none, some-holds}
 use Rattle.dm_pstmt.proofs.loops.third_clause.Goals as goal
 
 pub returns-in_default : goal.returns-in_default
 returns-in_default c before one at begun tested p k =
     let s = source_of c.args.reader.now in
-    map-none _ _ (none-of (an_optional s (c.args.condition.after + 1)) s c.args.scope.now c.clause.new.scope c.in_ok-step.field-0 _ c.in_default.is c.in_ok-step.ensures.read)
+    map-none _ _ (nothing-of (an_optional s (c.args.condition.after + 1)) s c.args.scope.now c.clause.new.scope c.in_ok-step.field-0 _ c.in_default.is c.in_ok-step.ensures.read)
 
 pub returns : goal.returns
 returns c before one at begun tested p k =

@@ -6,17 +6,17 @@ use Rattle.dm_syn.specs.Views as view
 use Rattle.dm_pexpr.specs.Parsing.{lower, all_turns}
 use Rattle.dm_pexpr.specs.Parts.{source_of, IsPart, an_expr}
 use Rattle.dm_pexpr.proofs.PartLemmas.{part-of}
-use Rattle.dm_pexpr.proofs.ReadExprs.{ok-same, seen-is, seen-begins, not-end}
+use Rattle.dm_pexpr.proofs.ReadExprs.{ok-same, seen-is, seen-begins, not-end, nothing-of, none-left}
 use Rattle.dm_pstmt.specs.Kinds.{a_stmt, a_labelled, a_block_item, block_items_from, switch_items_from, clauses_from}
 use Rattle.dm_pstmt.specs.Parsing.{within, stands, stmt_by, block_items, switch_items, enclosed_of}
 use Rattle.dm_pstmt.specs.Steps.{with_row, clauses_of}
 use Rattle.dm_pstmt.proofs.ForSteps.{no-clauses-begin, no-clauses, for-read}
-use Rattle.dm_pstmt.proofs.LoopSteps.{one-less, turns-left, no-turns, block-further, switch-further}
+use Rattle.dm_pstmt.proofs.LoopSteps.{one-less, turns-left, block-further, switch-further}
 use Rattle.dm_pstmt.proofs.Rows.{none-part, with-none, with-empty, as-read}
 use Rattle.dm_pstmt.proofs.RowKinds.{block_row, switch_row}
 use Rattle.dm_pstmt.proofs.StatementSteps.{no-stmt, no-labelled, enclosed-here, ended, lead-is, lead-other, no-block, block-read, declared-item-wanted, stated-item-wanted, no-condition, no-branch, choice-read, else-read, no-else-read, no-subject, no-brace, switch-wanted, switch-read, case-wanted, default-wanted, unlabelled-wanted, is-not, no-label, no-colon, labelled-behind, no-default-colon, default-behind, no-loop-test, while-read, no-body, do-read}
 use Rattle.dm_pstmt.proofs.Turns.{no-block-left, block-end, block-none, no-switch-left, switch-end, switch-none}
-use Rattle.dm_pstmt.proofs.Wholes.{none-of, then-none, gives-along, ok-along, some-holds}
+use Rattle.dm_pstmt.proofs.Wholes.{then-none, gives-along, ok-along, some-holds}
 use Rattle.dm_pstmt.proofs.statement.+statements.Goals as goal
 
 pub statement-returns-then-depth-eq0 : goal.statement-returns-then-depth-eq0
@@ -90,7 +90,7 @@ block-returns-in_default t c =
     let w = within s c.args.depth in
     let names = c.args.scope.now in
     no-block s w names c.args.first (ap (block_items s w (all_turns s) names) (sym c.requires.next)
-    ∙ none-of (block_items_from s c.args.next) s names c.block_items.new.scope c.in_ok-items.field-0 _ c.in_default.is c.in_ok-items.ensures.read)
+    ∙ nothing-of (block_items_from s c.args.next) s names c.block_items.new.scope c.in_ok-items.field-0 _ c.in_default.is c.in_ok-items.ensures.read)
 
 pub block-returns : goal.block-returns
 block-returns t c =
@@ -135,7 +135,7 @@ block_items-returns-in_default-clause-read t c =
     let goes = seen-is c.symbol.result _ symbol.RightBrace c.is.result false c.symbol.ensures.value c.is.ensures c.if-is.false in
     c.loop-turns.invariant.1 ∙ with-none tree.more_items (map view.block_item c.loop-turns.items.tree) _
     (block-none s w c.loop-turns.turns (c.loop-turns.turns - 1) names c.loop-turns.items.after (turns-left c.loop-turns.turns c.loop-turns-test.true) goes
-    (none-of (a_block_item s) s names c.block_item.new.scope c.in_ok-item.field-0 _ c.in_default.is c.in_ok-item.ensures))
+    (nothing-of (a_block_item s) s names c.block_item.new.scope c.in_ok-item.field-0 _ c.in_default.is c.in_ok-item.ensures))
 
 pub block_items-loop-turns-preserved : goal.block_items-loop-turns-preserved
 block_items-loop-turns-preserved t c =
@@ -151,7 +151,7 @@ pub block_items-returns-clause-read : goal.block_items-returns-clause-read
 block_items-returns-clause-read t c =
     let s = source_of c.args.reader.now in
     c.loop-turns.invariant.1 ∙ with-none tree.more_items (map view.block_item c.loop-turns.items.tree) _
-    (no-block-left s (within s c.args.depth) c.loop-turns.turns c.loop-turns.scope c.loop-turns.items.after (no-turns c.loop-turns.turns c.loop-turns-test.false))
+    (no-block-left s (within s c.args.depth) c.loop-turns.turns c.loop-turns.scope c.loop-turns.items.after (none-left c.loop-turns.turns c.loop-turns-test.false))
 
 pub switch_items-loop-turns-init : goal.switch_items-loop-turns-init
 switch_items-loop-turns-init t c =
@@ -183,7 +183,7 @@ switch_items-returns-in_default-clause-read t c =
     let goes = seen-is c.symbol.result _ symbol.RightBrace c.is.result false c.symbol.ensures.value c.is.ensures c.if-is.false in
     c.loop-turns.invariant.1 ∙ with-none tree.more_switch_items (map view.switch_item c.loop-turns.items.tree) _
     (switch-none s w c.loop-turns.turns (c.loop-turns.turns - 1) names c.loop-turns.items.after (turns-left c.loop-turns.turns c.loop-turns-test.true) goes
-    (none-of (a_labelled s) s names c.labelled.new.scope c.in_ok-item.field-0 _ c.in_default.is c.in_ok-item.ensures))
+    (nothing-of (a_labelled s) s names c.labelled.new.scope c.in_ok-item.field-0 _ c.in_default.is c.in_ok-item.ensures))
 
 pub switch_items-loop-turns-preserved : goal.switch_items-loop-turns-preserved
 switch_items-loop-turns-preserved t c =
@@ -199,7 +199,7 @@ pub switch_items-returns-clause-read : goal.switch_items-returns-clause-read
 switch_items-returns-clause-read t c =
     let s = source_of c.args.reader.now in
     c.loop-turns.invariant.1 ∙ with-none tree.more_switch_items (map view.switch_item c.loop-turns.items.tree) _
-    (no-switch-left s (within s c.args.depth) c.loop-turns.turns c.loop-turns.scope c.loop-turns.items.after (no-turns c.loop-turns.turns c.loop-turns-test.false))
+    (no-switch-left s (within s c.args.depth) c.loop-turns.turns c.loop-turns.scope c.loop-turns.items.after (none-left c.loop-turns.turns c.loop-turns-test.false))
 
 pub block_item-returns-in_ok-declaration : goal.block_item-returns-in_ok-declaration
 block_item-returns-in_ok-declaration t c =
@@ -222,7 +222,7 @@ choice-returns-in_default t c =
     let s = source_of c.args.reader.now in
     let names = c.args.scope.now in
     no-condition s (within s c.args.depth) names c.args.first (enclosed-here s c.args.depth names c.args.first c.args.next c.requires
-    ∙ none-of (an_expr s) s names c.enclosed.new.scope c.in_ok-condition.field-0 _ c.in_default.is c.in_ok-condition.ensures.read)
+    ∙ nothing-of (an_expr s) s names c.enclosed.new.scope c.in_ok-condition.field-0 _ c.in_default.is c.in_ok-condition.ensures.read)
 
 pub choice-returns-in_default-2 : goal.choice-returns-in_default-2
 choice-returns-in_default-2 t c =
@@ -230,7 +230,7 @@ choice-returns-in_default-2 t c =
     let names = c.args.scope.now in
     let given = gives-along (an_expr s) s names c.enclosed.new.scope c.in_ok-condition.field-0 _ _ (enclosed-here s c.args.depth names c.args.first c.args.next c.requires) c.in_ok-condition.ensures.read in
     let k = part-of (an_expr s) s names c.enclosed.new.scope c.in_ok-condition.field-0 c.in-Some.condition _ c.in-Some.is given in
-    no-branch s (within s c.args.depth) names c.enclosed.new.scope c.args.first c.in-Some.condition k (none-of (a_stmt s) s c.enclosed.new.scope c.statement.new.scope c.in_ok-body.field-0 _ c.in_default-2.is c.in_ok-body.ensures)
+    no-branch s (within s c.args.depth) names c.enclosed.new.scope c.args.first c.in-Some.condition k (nothing-of (a_stmt s) s c.enclosed.new.scope c.statement.new.scope c.in_ok-body.field-0 _ c.in_default-2.is c.in_ok-body.ensures)
 
 pub choice-returns : goal.choice-returns
 choice-returns t c =
@@ -271,7 +271,7 @@ switch-returns-in_default t c =
     let s = source_of c.args.reader.now in
     let names = c.args.scope.now in
     no-subject s (within s c.args.depth) names c.args.first (enclosed-here s c.args.depth names c.args.first c.args.next c.requires
-    ∙ none-of (an_expr s) s names c.enclosed.new.scope c.in_ok-subject.field-0 _ c.in_default.is c.in_ok-subject.ensures.read)
+    ∙ nothing-of (an_expr s) s names c.enclosed.new.scope c.in_ok-subject.field-0 _ c.in_default.is c.in_ok-subject.ensures.read)
 
 pub switch-returns-in_default-behind : goal.switch-returns-in_default-behind
 switch-returns-in_default-behind t c =
@@ -290,7 +290,7 @@ switch-returns-in_default-2 t c =
     let given = gives-along (an_expr s) s names mid c.in_ok-subject.field-0 _ _ (enclosed-here s c.args.depth names c.args.first c.args.next c.requires) c.in_ok-subject.ensures.read in
     let k = part-of (an_expr s) s names mid c.in_ok-subject.field-0 c.in-Some.subject _ c.in-Some.is given in
     switch-wanted s w names mid c.args.first c.in-Some-behind.inside c.in-Some.subject k c.in-Some-behind.ensures
-    ∙ then-none _ _ (none-of (switch_items_from s c.in-Some-behind.inside) s mid c.switch_items.new.scope c.in_ok-items.field-0 _ c.in_default-2.is c.in_ok-items.ensures.read)
+    ∙ then-none _ _ (nothing-of (switch_items_from s c.in-Some-behind.inside) s mid c.switch_items.new.scope c.in_ok-items.field-0 _ c.in_default-2.is c.in_ok-items.ensures.read)
 
 pub switch-returns : goal.switch-returns
 switch-returns t c =
@@ -341,7 +341,7 @@ case-returns-in_default t c =
     let s = source_of c.args.reader.now in
     let names = c.args.scope.now in
     no-label s c.args.depth names c.args.first (ap ((lower s c.args.depth).expr 2 names) (sym c.requires)
-    ∙ none-of (an_expr s) s names c.expr.new.scope c.in_ok-label.field-0 _ c.in_default.is c.in_ok-label.ensures)
+    ∙ nothing-of (an_expr s) s names c.expr.new.scope c.in_ok-label.field-0 _ c.in_default.is c.in_ok-label.ensures)
 
 pub case-returns-in_default-behind : goal.case-returns-in_default-behind
 case-returns-in_default-behind t c =
@@ -376,7 +376,7 @@ while_statement-returns-in_default t c =
     let s = source_of c.args.reader.now in
     let names = c.args.scope.now in
     no-loop-test s (within s c.args.depth) names c.args.first (enclosed-here s c.args.depth names c.args.first c.args.next c.requires
-    ∙ none-of (an_expr s) s names c.enclosed.new.scope c.in_ok-condition.field-0 _ c.in_default.is c.in_ok-condition.ensures.read)
+    ∙ nothing-of (an_expr s) s names c.enclosed.new.scope c.in_ok-condition.field-0 _ c.in_default.is c.in_ok-condition.ensures.read)
 
 pub while_statement-returns : goal.while_statement-returns
 while_statement-returns t c =
@@ -395,7 +395,7 @@ do_statement-returns-in_default t c =
     let s = source_of c.args.reader.now in
     let w = within s c.args.depth in
     let names = c.args.scope.now in
-    no-body s w names c.args.first (ap (w.stmt names) (sym c.requires) ∙ none-of (a_stmt s) s names c.statement.new.scope c.in_ok-body.field-0 _ c.in_default.is c.in_ok-body.ensures)
+    no-body s w names c.args.first (ap (w.stmt names) (sym c.requires) ∙ nothing-of (a_stmt s) s names c.statement.new.scope c.in_ok-body.field-0 _ c.in_default.is c.in_ok-body.ensures)
 
 pub do_statement-returns : goal.do_statement-returns
 do_statement-returns t c =
@@ -425,7 +425,7 @@ for_statement-returns-in_default-2 t c =
     let start : c.args.next ≡ c.args.first + 1 = c.requires in
     let behind : c.in-Some.inside ≡ c.args.next + 1 = c.in-Some.ensures.1 in
     no-clauses s w names c.args.first c.in-Some.inside (ap (λ n. stands s names n symbol.LeftParen) (sym c.requires) ∙ c.in-Some.ensures.0) (omega (arith, start, behind))
-    (none-of (clauses_from s c.in-Some.inside) s names c.for_clauses.new.scope c.in_ok-clauses.field-0 _ c.in_default-2.is c.in_ok-clauses.ensures)
+    (nothing-of (clauses_from s c.in-Some.inside) s names c.for_clauses.new.scope c.in_ok-clauses.field-0 _ c.in_default-2.is c.in_ok-clauses.ensures)
 
 pub for_statement-returns : goal.for_statement-returns
 for_statement-returns t c =

@@ -3,7 +3,7 @@ use Rattle.std.proofs.Common.{◌≡◌, rules, refl, ap, sym, subst, ◌∙◌}
 use Rattle.dm_type.specs.CTypes.{CType, array}
 use Rattle.dm_type.specs.Tables.{Table, type_of}
 use Rattle.dm_tree.specs.Views.{view}
-use Rattle.dm_first.specs.Texts.{characters_in}
+use Rattle.dm_first_value.specs.Texts.{characters_in}
 use Rattle.dm_meaning.specs.Statements.{array_of}
 use Rattle.dm_meaning.specs.Units.{characters_of}
 use Rattle.dm_value.specs.Views.{view_of_value}

@@ -3,7 +3,7 @@ use Rattle.std.proofs.Common.{◌≡◌, refl, ap, sym, subst, ◌∙◌}
 use Rattle.dm_type.specs.CTypes.{CType, bare}
 use Rattle.dm_type.specs.Tables.{Table}
 use Rattle.dm_tree.specs.Views.{view}
-use Rattle.dm_first.specs.Texts.{characters_in}
+use Rattle.dm_first_value.specs.Texts.{characters_in}
 use Rattle.dm_layout.specs.declared.kinds.ObjectType.{ObjectType}
 use Rattle.dm_layout.specs.Kinds.{type_of_object}
 use Rattle.dm_meaning.specs.Statements.{array_of}

@@ -1,10 +1,11 @@
 -- Each function gives what reading comes to there, by the step of reading that it takes.
 use Rattle.std.proofs.Common.{◌≡◌, ◌≤◌, ◌<◌, ℕ, ◌+◌, ◌-◌, true, false, map, refl, sym, ap, ◌∙◌, subst, arith}
+use Rattle.dm_token.specs.Limits.{greatest_height}
 use Rattle.dm_syn.specs.declared.symbol.Symbol.TheVariants as symbol
 use Rattle.dm_syn.specs.Trees as tree
 use Rattle.dm_syn.specs.Views as view
 use Rattle.dm_syn.specs.Spans.{expr_span}
-use Rattle.dm_pexpr.specs.Parsing.{Parts, limit, suffix_kind, core, words_of, is_one_more, word_kind, lower, span_of, checked_expr, front_of, turn, separating, index_from, call_from, binary_from, conditional_from, cast_from, grown_from, arguments, more_exprs, more_declarators, more_parameters, more_enumerators, members_of, parameters_of, function_from, suffixed, and_then, specifier_of, member_with, enum_with, all_turns, prepend_expr, prepend_parameter, prepend_declarator, prepend_enumerator, prepend_member, prepend_word}
+use Rattle.dm_pexpr.specs.Parsing.{Parts, suffix_kind, core, words_of, is_one_more, word_kind, lower, span_of, checked_expr, front_of, turn, separating, index_from, call_from, binary_from, conditional_from, cast_from, grown_from, arguments, more_exprs, more_declarators, more_parameters, more_enumerators, members_of, parameters_of, function_from, suffixed, and_then, specifier_of, member_with, enum_with, all_turns, prepend_expr, prepend_parameter, prepend_declarator, prepend_enumerator, prepend_member, prepend_word}
 use Rattle.dm_pexpr.specs.Shapes.{shape_of, types_of}
 use Rattle.dm_syn.specs.Grammar.{no_type}
 use Rattle.dm_pexpr.specs.Parts.{source_of, IsPart, Gives, prefixed_from, an_expr, a_type_name, the_specifiers, a_specifier, a_member, a_declarator, an_enumerator, a_direct, a_parameter, exprs_from, words_from, members_from, declarators_from, enumerators_from, parameters_from, behind_all, member_from, operated_from, comma_node, direct_from}
@@ -566,7 +567,7 @@ declarator-returns t c =
     let names = c.args.scope.now in
     gives-same (a_declarator s) s names c.suffixed.new.scope c.declarator_node.result _ _
     (declarator-deeper s c.args.depth (shape_of c.args.shape) names c.args.at c.in_ok-pointers.start c.in_ok-pointers.pointers c.if-depth-eq0.false c.in_ok-pointers.ensures.stars c.in_ok-pointers.ensures.behind)
-    (c.declarator_node.ensures names _ (subst (λ n. Gives (a_direct s n) s names c.suffixed.new.scope c.in_ok-direct.direct (and_then (suffixed s (lower s (c.args.depth - 1)) names c.in_ok-pointers.start limit) (core s (lower s (c.args.depth - 1)) (shape_of c.args.shape) names c.in_ok-pointers.start))) c.in_ok-pointers.ensures.behind
+    (c.declarator_node.ensures names _ (subst (λ n. Gives (a_direct s n) s names c.suffixed.new.scope c.in_ok-direct.direct (and_then (suffixed s (lower s (c.args.depth - 1)) names c.in_ok-pointers.start greatest_height) (core s (lower s (c.args.depth - 1)) (shape_of c.args.shape) names c.in_ok-pointers.start))) c.in_ok-pointers.ensures.behind
     (c.in_ok-direct.ensures names c.in_ok-pointers.start _ c.in_ok-core.ensures)))
 
 pub function-returns-in_default : goal.function-returns-in_default
@@ -601,7 +602,7 @@ suffixed-returns-in_default t c before start wanted given =
     let s = source_of c.args.self.now in
     let p = lower s c.args.depth in
     let names = c.args.scope.now in
-    ap (and_then (suffixed s p before start limit)) (nothing-of (a_direct s start) s before names c.args.core wanted c.in_default.is given)
+    ap (and_then (suffixed s p before start greatest_height)) (nothing-of (a_direct s start) s before names c.args.core wanted c.in_default.is given)
 
 pub suffixed-loop-is_array-init : goal.suffixed-loop-is_array-init
 suffixed-loop-is_array-init t c before start wanted given =
