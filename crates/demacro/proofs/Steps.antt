@@ -6,7 +6,7 @@ use Rattle.dm_core.specs.Programs.{Program, text_of, rewritten}
 use Rattle.dm_core.specs.Texts.{lines_of}
 use Rattle.dm_core.specs.Forms.{IsFirstText, LeavesFormAt, MeansTheSame}
 use Rattle.dm_core.specs.Readings.{lines_of-text}
-use Rattle.dm_io.specs.Files.{Files, HasFile, file_at, with_file, MayHaveSpoiled, insert-same}
+use Rattle.dm_io.specs.Files.{Files, file_at, with_file, MayHaveSpoiled, insert-same}
 use Rattle.dm_io.specs.Output.{appended, MayHaveAppended}
 use Rattle.std.specs.Option.{IsSomeAnd}
 use Rattle.dm_io.specs.Faults.{Rose}
@@ -33,11 +33,6 @@ use Rattle.std.specs.declared.io.ErrorKind.{ErrorKind}
 use Rattle.dm_running.proofs.RunSteps.{Rose-earlier}
 use Rattle.demacro.specs.Arguments.{PutsUsage, EndsUnread, is_want_of_memory}
 use Rattle.demacro.specs.Endings.{Ending, done, wrong_words, file_absent, form_left, file_too_long, read_failed, write_failed, output_failed, memory_wanted, status_of, EndsAt, EndsFor, Ends, EndsAs, EndsNamed, IsWanting, IsApplied, HoldsProgram, report_on}
-
--- a file with a text is there
-pub HasFile-text : (told : Option Files) (name bytes : List ℕ) → HasText told name bytes → HasFile told name
-HasFile-text None name bytes has = tt
-HasFile-text (Some files) name bytes has = ap is_some has
 
 -- to give a file the text that it has changes nothing
 with_file-same : (told : Option Files) (name bytes : List ℕ) → HasText told name bytes → with_file told name bytes ≡ told

@@ -1,5 +1,6 @@
 -- How a call of the program ends.
 use Rattle.std.specs.Prelude.{◌≡◌, ◌≢◌, ◌≤◌, ◌⊎◌, ℕ, List, length, Option, Some, None, Result, Ok, Err}
+use Rattle.dm_token.specs.LimitNumbers as limits
 use Rattle.dm_token.specs.declared.stop.Memory.{Memory}
 use Rattle.dm_token.specs.Places.{place_of}
 use Rattle.dm_token.specs.Limits.{source_length_limit}
@@ -64,7 +65,7 @@ EndsAt name before after file_absent =
 EndsAt name before after (form_left bytes offset) =
     HasText before.files name bytes × LeavesFormAt bytes offset × KeepsFiles before after × Puts before after (refusal_line name (form_refusal (place_of 0 bytes offset)))
 EndsAt name before after file_too_long =
-    IsTooLong before.files name × KeepsFiles before after × Puts before after (limit_line 1 name)
+    IsTooLong before.files name × KeepsFiles before after × Puts before after (limit_line limits.file_bytes name)
 EndsAt name before after read_failed =
     Rose before.folder_faults after.folder_faults × KeepsFiles before after × Puts before after (read_fault_line name)
 EndsAt name before after (write_failed program) =

@@ -1,5 +1,7 @@
 -- What is found before anything is changed.
 use Rattle.std.specs.Prelude.{◌≡◌, ◌≢◌, ℕ, List, Option, Some, None}
+use Rattle.dm_token.specs.LimitNumbers as limits
+use Rattle.dm_token.specs.Refusals as refusals
 use Rattle.dm_token.specs.declared.place.Place.{Place}
 use Rattle.dm_token.specs.declared.stop.Refusal.{Refusal}
 use Rattle.dm_token.specs.Places.{place_of}
@@ -52,16 +54,16 @@ IsPlan files name before after (Explain ReadFault) = Rose before after
 
 -- an absent file is refused as 7 at its beginning, and one of another form as 20
 abbrev pub absent_refusal : Refusal
-absent_refusal = record { number = 7; detail = 0; place = record { file = 0; byte = 0; line = 1; column = 1 } }
+absent_refusal = record { number = refusals.not_found; detail = 0; place = record { file = 0; byte = 0; line = 1; column = 1 } }
 
 abbrev pub form_refusal : Place → Refusal
-form_refusal place = record { number = 20; detail = 0; place = place }
+form_refusal place = record { number = refusals.not_yet; detail = 0; place = place }
 
 -- the line that explains why there is nothing to apply, and the status
 abbrev pub line_for : List ℕ → Trouble → List ℕ
 line_for name NotFound = refusal_line name absent_refusal
 line_for name (NotYet place) = refusal_line name (form_refusal place)
-line_for name TooLong = limit_line 1 name
+line_for name TooLong = limit_line limits.file_bytes name
 line_for name ReadFault = read_fault_line name
 
 abbrev pub status_for : Trouble → ℕ

@@ -1,5 +1,6 @@
 -- Projects: the units that the word M stands for, and the unit that is asked for.
 use Rattle.std.specs.Prelude.{◌≡◌, ◌≤◌, ◌⊎◌, ℕ, true, false, List, [], ◌∷◌, length, Option, Some, None, find, bytes_eq}
+use Rattle.dm_token.specs.LimitNumbers as limits
 use Rattle.dm_token.specs.declared.unit.Unit.{Unit as Source}
 use Rattle.dm_token.specs.Names.{is_normal_name}
 use Rattle.dm_token.specs.Limits.{source_length_limit}
@@ -98,7 +99,7 @@ line_of_fault project (Shape path) = manifest_line 3 path
 line_of_fault project (Name path) = manifest_line 4 path
 line_of_fault project (Define path) = manifest_line 5 path
 line_of_fault project (Twice path) = manifest_line 6 path
-line_of_fault project TooMany = limit_line 7 project
+line_of_fault project TooMany = limit_line limits.units project
 
 abbrev pub status_of_fault : ManifestFault → ℕ
 status_of_fault Memory = 8
@@ -113,7 +114,7 @@ status_of_fault TooMany = 4
 abbrev pub line_of_no_unit : List ℕ → List ℕ → NoUnit → List ℕ
 line_of_no_unit project file ProjectName = manifest_line 4 project
 line_of_no_unit project file NoManifest = manifest_line 1 project
-line_of_no_unit project file TooLong = limit_line 1 project
+line_of_no_unit project file TooLong = limit_line limits.file_bytes project
 line_of_no_unit project file ReadFault = read_fault_line project
 line_of_no_unit project file (Manifest fault) = line_of_fault project fault
 line_of_no_unit project file Unlisted = manifest_line 7 file

@@ -9,7 +9,7 @@ use crate::project::NoUnit;
 use dm_io::Sink;
 use dm_lines::{limit_line, manifest_line, put_line, read_fault_line, refusal_line};
 use dm_manifest::ManifestFault;
-use dm_token::{Memory, Place, Refusal};
+use dm_token::{Memory, Place, Refusal, limit_numbers, refusals};
 use std::alloc::Global;
 
 /// The usage line.
@@ -74,7 +74,7 @@ fn line_about_no_unit(
     match why {
         NoUnit::ProjectName => manifest_line(alloc, 4, project),
         NoUnit::NoManifest => manifest_line(alloc, 1, project),
-        NoUnit::TooLong => limit_line(alloc, 1, project),
+        NoUnit::TooLong => limit_line(alloc, limit_numbers::FILE_BYTES, project),
         NoUnit::ReadFault => read_fault_line(alloc, project),
         NoUnit::Manifest(fault) => line_about_fault(alloc, project, fault),
         NoUnit::Unlisted => manifest_line(alloc, 7, file),
@@ -91,7 +91,7 @@ fn line_about_fault(alloc: Global, project: &[u8], fault: &ManifestFault) -> Res
         ManifestFault::Name(path) => manifest_line(alloc, 4, path.bytes()),
         ManifestFault::Define(path) => manifest_line(alloc, 5, path.bytes()),
         ManifestFault::Twice(path) => manifest_line(alloc, 6, path.bytes()),
-        ManifestFault::TooMany => limit_line(alloc, 7, project),
+        ManifestFault::TooMany => limit_line(alloc, limit_numbers::UNITS, project),
     }
 }
 
@@ -126,7 +126,7 @@ fn line_about(alloc: Global, name: &[u8], trouble: Trouble) -> Result<Vec<u8>, M
     match trouble {
         Trouble::NotFound => refusal_line(alloc, name, absent()),
         Trouble::NotYet(place) => refusal_line(alloc, name, other_form(place)),
-        Trouble::TooLong => limit_line(alloc, 1, name),
+        Trouble::TooLong => limit_line(alloc, limit_numbers::FILE_BYTES, name),
         Trouble::ReadFault => read_fault_line(alloc, name),
     }
 }
@@ -135,7 +135,7 @@ fn absent() -> Refusal
     ensures { result ≡ absent_refusal }
 {
     Refusal {
-        number: 7,
+        number: refusals::NOT_FOUND,
         detail: 0,
         place: Place {
             file: 0,
@@ -150,7 +150,7 @@ fn other_form(place: Place) -> Refusal
     ensures { result ≡ form_refusal place }
 {
     Refusal {
-        number: 20,
+        number: refusals::NOT_YET,
         detail: 0,
         place,
     }

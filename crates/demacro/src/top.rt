@@ -141,7 +141,6 @@ fn run_asked<F: Folder, S: Sink>(
     ensures folder_later { F.faults folder.old ≤ F.faults folder.new }
     ensures sink_later { S.faults out.old ≤ S.faults out.new }
 {
-    let _count = words.len();
     run_program(alloc, asked, folder, out)
 }
 

@@ -3,6 +3,7 @@
 --     definition_count read      how many different ones there are
 use Rattle.std.specs.Prelude.{ℕ, ◌+◌, ◌*◌, ◌^◌, Bool, true, false, List, [], ◌∷◌, ◌++◌, length, nat_eq, if◌then◌else◌}
 use Rattle.std.specs.List.{list_any}
+use Rattle.dm_token.specs.Limits.{most_definitions}
 use Rattle.dm_token.specs.declared.expansion.Definition.{Definition}
 use Rattle.dm_token.specs.declared.expansion.Origin.{Origin}
 use Rattle.dm_token.specs.declared.expansion.Origin.TheVariants.{File, Header, Manifest}
@@ -10,7 +11,7 @@ use Rattle.dm_token.specs.declared.unit.Read.{Read}
 
 -- the greatest number of them
 abbrev pub limit : ℕ
-limit = 4096
+limit = most_definitions
 
 abbrev pub is_in_file : Origin → Bool
 is_in_file File = true

@@ -1,7 +1,7 @@
 ghost use Rattle.std.specs.Prelude.{◌≡◌, ◌+◌, ◌*◌, ◌^◌, nat_lt, IfOk, OnOk};
 ghost use Rattle.dm_definitions.specs.Counts.{definition_count, is_in_file as stands_in_file, limit, with_definition};
 
-use dm_token::{Definition, Memory, Origin, Read};
+use dm_token::{Definition, MOST_DEFINITIONS, Memory, Origin, Read};
 use indexmap::IndexSet;
 use std::alloc::Global;
 
@@ -12,7 +12,7 @@ pub fn exceeds_limit(alloc: Global, read: &[Read]) -> Result<bool, Memory>
     let mut keys = IndexSet::new(alloc);
     for one in read {
         add(&mut keys, &one.definition)?;
-        if keys.len() > 4096 {
+        if keys.len() > MOST_DEFINITIONS {
             return Ok(true);
         }
     }

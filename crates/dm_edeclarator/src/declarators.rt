@@ -1,10 +1,12 @@
 //! Declarators (6.7.6): the steps that make a type of another.
 
-ghost use Rattle.std.specs.Prelude.{◌≡◌, ◌<◌, ◌+◌, ◌&&◌, is_some, List, ◌∷◌, ◌++◌, map, None, Some, IfOk, IfSome, option_and_then};
+ghost use Rattle.std.specs.Prelude.{◌≡◌, ◌<◌, ◌+◌, false, ◌&&◌, is_some, List, ◌∷◌, ◌++◌, map, None, Some, IfOk, IfSome, option_and_then};
 ghost use Rattle.dm_type.specs.declared.shape.Shape.{Shape as OneShape};
 ghost use Rattle.dm_type.specs.Tables.{Table, IsId, IsLength, type_of};
 ghost use Rattle.dm_syn.specs.Heights as heights;
+ghost use Rattle.dm_scope.specs.Scopes.{is_declared};
 ghost use Rattle.dm_syn.specs.Scopes as syntax_scopes;
+ghost use Rattle.dm_syn.specs.Sources.{spelling_at};
 ghost use Rattle.dm_syn.specs.Views as syntax;
 ghost use Rattle.dm_typing.specs.Conversions as conversions;
 ghost use Rattle.dm_typing.specs.Fitting.{IsNumbered};
@@ -419,14 +421,15 @@ fn adjusted(typer: &Typer<'_>, known: &mut Known, kind: TypeId) -> Result<TypeId
     }
 }
 
-/// A parameter with a name.
+/// A parameter with a name, which is new.
 fn parameter_declared(
     typer: &Typer<'_>,
     known: &mut Known,
     kind: TypeId,
     at: u32,
 ) -> Result<TypedParameter, Stop>
-    requires { IsId known.old.types kind }
+    requires kind { IsId known.old.types kind }
+    requires new { is_declared known.old.scopes (spelling_at (source_of typer.now) at) ≡ false }
     ensures { Follows ParameterFits parameter_over (source_of typer.now) known.old known.new result
         (λ later. typing.parameter_declared (setting_of typer.now) (known_over later known.old) (type_over later kind) (Some at)) }
 {

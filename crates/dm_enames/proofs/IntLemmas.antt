@@ -1,5 +1,5 @@
 -- Which numbers fit int.
-use Rattle.std.specs.Prelude.{◌≡◌, ℤ, Bool, true, false, if◌then◌else◌, Option, Some, None, SomeIff, FitsSigned, Result, Ok, Err, OkIff, refl}
+use Rattle.std.specs.Prelude.{◌≡◌, ℤ, Bool, true, false, if◌then◌else◌, Some, None, FitsSigned, Result, Ok, Err, OkIff, refl}
 use Rattle.std.specs.Result.{result_ok}
 use Rattle.std.proofs.Common.{ap, sym, arith, ◌∙◌}
 use Rattle.std.proofs.lemmas.Int.{ints}
@@ -38,8 +38,3 @@ some-int value z h = by-test (is_int z) h
     by-test : (test : Bool) → Some value ≡ (if test then Some z else None) → (test ≡ true) × (value ≡ z)
     by-test true h = (refl, injected value z h)
     by-test false h = absurd (cc)
-
--- a sum that is checked
-pub from-some : (answer : Option ℤ) (z : ℤ) → SomeIff answer (FitsSigned w32 z) z → answer ≡ if_int z
-from-some (Some x) z h = ap Some h.1 ∙ int-fits z h.0
-from-some None z h = int-wide z h

@@ -2,6 +2,7 @@
 use Rattle.std.specs.Prelude.{ℕ, ◌==◌, List, [], ◌∷◌, codes, slice_index_or, if◌then◌else◌}
 use Rattle.std.specs.Fmt.{decimal}
 use Rattle.std.specs.List.{concat}
+use Rattle.dm_token.specs.Refusals as refusals
 use Rattle.dm_token.specs.declared.stop.Refusal.{Refusal}
 
 -- the names of refusals by their numbers, of which 0 is none
@@ -33,9 +34,9 @@ refusal_names =
 unfoldable pub refusal_name : ℕ → List ℕ
 refusal_name number = slice_index_or refusal_names number []
 
--- the typing rule that is broken, which refusal 17 names
+-- the typing rule that is broken, which a refusal for it names
 abbrev pub rule_named : ℕ → ℕ → List ℕ
-rule_named number detail = if number == 17 then concat (codes " C" ∷ decimal detail ∷ []) else []
+rule_named number detail = if number == refusals.typing then concat (codes " C" ∷ decimal detail ∷ []) else []
 
 -- a refusal of the file of this name
 abbrev pub refusal_line : List ℕ → Refusal → List ℕ

@@ -2,11 +2,11 @@ ghost use Rattle.std.specs.Prelude.{◌≡◌, ◌++◌, IfOk, OnOk};
 ghost use Rattle.dm_lines.specs.Lines.{refusal_line as refusal_text, refusal_name as name_of_refusal, rule_named, limit_line as limit_text, manifest_line as manifest_text, read_fault_line as read_fault_text, write_fault_line as write_fault_text};
 
 use crate::joining::append_all;
-use dm_token::{Memory, Refusal};
+use dm_token::{Memory, Refusal, refusals};
 use itoa::Buffer;
 use std::alloc::Global;
 
-/// `FILE:LINE:COLUMN: refusal K Name`, with a space and the typing rule behind it where K is 17.
+/// `FILE:LINE:COLUMN: refusal K Name`, with a space and the typing rule behind it where one is broken.
 pub fn refusal_line(alloc: Global, file: &[u8], refusal: Refusal) -> Result<Vec<u8>, Memory>
     ensures { IfOk result (λ text. text.items ≡ refusal_text file.now refusal) }
 {
@@ -41,7 +41,7 @@ pub fn refusal_line(alloc: Global, file: &[u8], refusal: Refusal) -> Result<Vec<
 fn append_rule(text: &mut Vec<u8>, number: u8, detail: u8) -> Result<(), Memory>
     ensures { OnOk result (text.new.items ≡ text.old.items ++ rule_named number detail) }
 {
-    if number != 17 {
+    if number != refusals::TYPING {
         return Ok(());
     }
     let mut digits = Buffer::new();
@@ -54,26 +54,26 @@ fn refusal_name<'a>(number: u8) -> &'a str
     ensures { result.now ≡ name_of_refusal number }
 {
     match number {
-        1 => "Byte",
-        2 => "Comment",
-        3 => "Literal",
-        4 => "Directive",
-        5 => "Form",
-        6 => "Conditionals",
-        7 => "NotFound",
-        8 => "Splice",
-        9 => "Arguments",
-        10 => "Paste",
-        11 => "HashOperand",
-        12 => "Redefinition",
-        13 => "Condition",
-        14 => "Error",
-        15 => "Constant",
-        16 => "Syntax",
-        17 => "Type",
-        18 => "OutOfSubset",
-        19 => "NoMain",
-        20 => "NotYet",
+        refusals::BYTE => "Byte",
+        refusals::COMMENT => "Comment",
+        refusals::LITERAL => "Literal",
+        refusals::DIRECTIVE => "Directive",
+        refusals::FORM => "Form",
+        refusals::CONDITIONALS => "Conditionals",
+        refusals::NOT_FOUND => "NotFound",
+        refusals::SPLICE => "Splice",
+        refusals::ARGUMENTS => "Arguments",
+        refusals::PASTE => "Paste",
+        refusals::HASH_OPERAND => "HashOperand",
+        refusals::REDEFINITION => "Redefinition",
+        refusals::CONDITION => "Condition",
+        refusals::ERROR_DIRECTIVE => "Error",
+        refusals::CONSTANT => "Constant",
+        refusals::SYNTAX => "Syntax",
+        refusals::TYPING => "Type",
+        refusals::OUT_OF_SUBSET => "OutOfSubset",
+        refusals::NO_MAIN => "NoMain",
+        refusals::NOT_YET => "NotYet",
         _ => "",
     }
 }

@@ -8,6 +8,7 @@ use Rattle.std.proofs.lemmas.List.Elements.{All-append}
 use Rattle.serde_json.specs.Data.{Data, Items, no_items, item}
 use Rattle.serde_json.specs.Find.{get}
 use Rattle.serde_json.specs.Events.{items_len}
+use Rattle.dm_token.specs.Limits.{most_units}
 use Rattle.dm_token.specs.declared.unit.Unit.{Unit as Source}
 use Rattle.dm_token.specs.Names.{is_normal_name}
 use Rattle.dm_manifest.specs.declared.fault.ManifestFault.{ManifestFault}
@@ -17,7 +18,7 @@ use Rattle.dm_manifest.specs.Paths.{root_path, unit_path, under, item_path}
 use Rattle.dm_manifest.specs.Values.{object_at, array_at, list_at, text_at, name_at, each_of}
 use Rattle.dm_macro.specs.Signs.{is_fixed}
 use Rattle.dm_manifest.specs.Defines.{name_of, is_define}
-use Rattle.dm_manifest.specs.Units.{is_folder, folder_at, is_defined, define_at, unit_at, is_same_unit, new_unit_at, unit_limit, units_of, manifest_of, is_definable, are_distinct, IsLawful}
+use Rattle.dm_manifest.specs.Units.{is_folder, folder_at, is_defined, define_at, unit_at, is_same_unit, new_unit_at, units_of, manifest_of, is_definable, are_distinct, IsLawful}
 use Rattle.dm_manifest.proofs.Steps.{bytes_eq_comm, is_defined-append}
 
 -- ---- answers without a fault
@@ -170,17 +171,17 @@ each_of-length {A} read before (item value values) all e =
     let later : length all ≡ length (before ++ first.0 ∷ []) + items_len values = each_of-length read (before ++ first.0 ∷ []) values all first.2 in
     omega (arith, length-append before (first.0 ∷ []))
 
-units-ok : (values : Items) (units : List Source) → units_of values ≡ Ok units → All IsLawful units × (length units ≤ unit_limit)
+units-ok : (values : Items) (units : List Source) → units_of values ≡ Ok units → All IsLawful units × (length units ≤ most_units)
 unfolding units_of
 units-ok values units e =
-    let few : (nat_lt unit_limit (items_len values) ≡ false) × (each_of new_unit_at [] values ≡ Ok units) = few_ok (nat_lt unit_limit (items_len values)) (each_of new_unit_at [] values) units e in
-    let below : items_len values ≤ unit_limit = ltb-false unit_limit (items_len values) few.0 in
+    let few : (nat_lt most_units (items_len values) ≡ false) × (each_of new_unit_at [] values ≡ Ok units) = few_ok (nat_lt most_units (items_len values)) (each_of new_unit_at [] values) units e in
+    let below : items_len values ≤ most_units = ltb-false most_units (items_len values) few.0 in
     let long : length units ≡ 0 + items_len values = each_of-length new_unit_at [] values units few.1 in (
       each_of-keeps (All IsLawful) new_unit_at (λ before value unit are reads. All-append IsLawful before (unit ∷ []) are (one_unit unit (new_unit_at-ok before value unit reads))) [] values units no_unit few.1,
       omega arith,
     )
 
-manifest-ok : (root : Data) (units : List Source) → manifest_of root ≡ Ok units → All IsLawful units × (length units ≤ unit_limit)
+manifest-ok : (root : Data) (units : List Source) → manifest_of root ≡ Ok units → All IsLawful units × (length units ≤ most_units)
 unfolding manifest_of
 manifest-ok root units e =
     let keys = and_then-ok (object_at root_path (λ key. key) (codes "units" ∷ []) root) _ units e in
@@ -191,6 +192,6 @@ pub answer_lawful : (root : Data) (answer : Result (List Source) ManifestFault) 
 answer_lawful root (Ok units) gives = (manifest-ok root units gives).0
 answer_lawful root (Err fault) gives = tt
 
-pub answer_count : (root : Data) (answer : Result (List Source) ManifestFault) → Gives (λ units. units) answer (manifest_of root) → IfOk answer (λ units. length units ≤ unit_limit)
+pub answer_count : (root : Data) (answer : Result (List Source) ManifestFault) → Gives (λ units. units) answer (manifest_of root) → IfOk answer (λ units. length units ≤ most_units)
 answer_count root (Ok units) gives = (manifest-ok root units gives).1
 answer_count root (Err fault) gives = tt

@@ -10,6 +10,7 @@ use Rattle.serde_json.specs.Data.{Data, Items}
 use Rattle.serde_json.specs.Find.{get}
 use Rattle.serde_json.specs.View.{view, items_view}
 use Rattle.serde_json.specs.declared.value.Value.{Value}
+use Rattle.dm_token.specs.Limits.{most_units}
 use Rattle.dm_token.specs.declared.unit.Unit.{Unit as Source}
 use Rattle.dm_manifest.specs.declared.fault.ManifestFault.{ManifestFault}
 use Rattle.dm_manifest.specs.declared.fault.ManifestFault.TheVariants.{Memory, Json, Shape, Name, Define, Twice, TooMany}
@@ -18,7 +19,7 @@ use Rattle.dm_manifest.specs.Paths.{root_path, unit_path, item_path}
 use Rattle.dm_manifest.specs.Values.{object_at, array_at, text_at, name_at, each_of}
 use Rattle.dm_macro.specs.Signs.{is_fixed}
 use Rattle.dm_manifest.specs.Defines.{name_of, is_define}
-use Rattle.dm_manifest.specs.Units.{is_folder, folder_at, is_defined, define_at, unit_at, is_same_unit, new_unit_at, unit_limit, units_of, manifest_of}
+use Rattle.dm_manifest.specs.Units.{is_folder, folder_at, is_defined, define_at, unit_at, is_same_unit, new_unit_at, units_of, manifest_of}
 use Rattle.dm_manifest.specs.Answers.{IsJson, IsManifest, IsFirstFault}
 use Rattle.dm_manifest.proofs.Each.{IsMeant-and_then, IsMeant-along, items_len-items_view}
 
@@ -143,15 +144,15 @@ new_unit_at-by before value unit same e is =
 lt-test : (a b : ℕ) → a < b → nat_lt a b ≡ true
 lt-test a b h = grind arith
 
-pub units_of-few : (values : List Value) → length values ≤ unit_limit → units_of (items_view values) ≡ each_of new_unit_at [] (items_view values)
+pub units_of-few : (values : List Value) → length values ≤ most_units → units_of (items_view values) ≡ each_of new_unit_at [] (items_view values)
 unfolding units_of
 units_of-few values few =
-    ap (λ b. if b then Err TooMany else each_of new_unit_at [] (items_view values)) (ap (λ n. nat_lt unit_limit n) (items_len-items_view values) ∙ le-ltb unit_limit (length values) few)
+    ap (λ b. if b then Err TooMany else each_of new_unit_at [] (items_view values)) (ap (λ n. nat_lt most_units n) (items_len-items_view values) ∙ le-ltb most_units (length values) few)
 
-pub units_of-many : (values : List Value) → unit_limit < length values → units_of (items_view values) ≡ Err TooMany
+pub units_of-many : (values : List Value) → most_units < length values → units_of (items_view values) ≡ Err TooMany
 unfolding units_of
 units_of-many values many =
-    ap (λ b. if b then Err TooMany else each_of new_unit_at [] (items_view values)) (ap (λ n. nat_lt unit_limit n) (items_len-items_view values) ∙ lt-test unit_limit (length values) many)
+    ap (λ b. if b then Err TooMany else each_of new_unit_at [] (items_view values)) (ap (λ n. nat_lt most_units n) (items_len-items_view values) ∙ lt-test most_units (length values) many)
 
 pub manifest_of-units : (root : Data) (n : ℕ) (values : Items) → object_at root_path (λ key. key) (codes "units" ∷ []) root ≡ Ok n → array_at (codes "units") (get (codes "units") root) ≡ Ok values → manifest_of root ≡ units_of values
 unfolding manifest_of

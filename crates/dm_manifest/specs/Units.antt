@@ -6,6 +6,7 @@ use Rattle.serde_json.specs.Data.{Data, Items}
 use Rattle.serde_json.specs.Find.{get}
 use Rattle.serde_json.specs.Events.{items_len}
 use Rattle.dm_token.specs.declared.unit.Unit.{Unit as Source}
+use Rattle.dm_token.specs.Limits.{most_units}
 use Rattle.dm_token.specs.Names.{is_normal_name}
 use Rattle.dm_manifest.specs.declared.fault.ManifestFault.{ManifestFault}
 use Rattle.dm_manifest.specs.declared.fault.ManifestFault.TheVariants.{Define, Twice, TooMany}
@@ -56,13 +57,9 @@ new_unit_at before value =
     and_then (unit_at (unit_path (length before)) value) (λ unit.
     if list_any (λ other. is_same_unit other unit) before then Err (Twice (unit_path (length before))) else Ok unit)
 
--- the greatest number of units
-abbrev pub unit_limit : ℕ
-unit_limit = 256
-
 -- the units of a list, if they are not too many
 unfoldable pub units_of : Items → Result (List Source) ManifestFault
-units_of values = if nat_lt unit_limit (items_len values) then Err TooMany else each_of new_unit_at [] values
+units_of values = if nat_lt most_units (items_len values) then Err TooMany else each_of new_unit_at [] values
 
 -- The units of a manifest, or the first fault: of the value's type, of a key that isn't known, of `units`, of the
 -- number of units, and then unit by unit.

@@ -4,9 +4,10 @@
 
 ghost use Rattle.std.specs.Prelude.{◌≡◌, ◌≤◌, ◌↔◌, ℕ, List, true, length, All, IfOk, IfErr};
 ghost use Rattle.serde_json.specs.View.{view};
+ghost use Rattle.dm_token.specs.Limits.{most_units};
 ghost use Rattle.dm_manifest.specs.Answers.{IsJson, IsManifest, IsFirstFault};
 ghost use Rattle.dm_manifest.specs.Defines.{line_may_stand, HasGoodCut};
-ghost use Rattle.dm_manifest.specs.Units.{IsLawful, unit_limit};
+ghost use Rattle.dm_manifest.specs.Units.{IsLawful};
 
 mod define;
 mod fault;
@@ -25,7 +26,7 @@ pub fn manifest(alloc: Global, bytes: &[u8]) -> Result<List<Unit>, ManifestFault
     ensures units { IfOk result (IsManifest bytes.now) }
     ensures fault { IfErr result (IsFirstFault bytes.now) }
     ensures lawful { IfOk result (All IsLawful) }
-    ensures count { IfOk result (λ units. length units ≤ unit_limit) }
+    ensures count { IfOk result (λ units. length units ≤ most_units) }
 {
     let root = parse(alloc, bytes)?;
     read_units(alloc, &root)

@@ -18,13 +18,10 @@ use crate::value::{
     check_root, check_unit, item_folder, item_text, root_list, unit_file, unit_list,
 };
 use dm_macro::is_fixed;
-use dm_token::{List, Memory, Text, Unit};
+use dm_token::{List, MOST_UNITS, Memory, Text, Unit};
 use serde_json::Value;
 use std::alloc::Global;
 use std::collections::HashSet;
-
-/// The greatest number of units.
-const MAX_UNITS: usize = 256;
 
 /// The units of the whole value.
 #[tactic(auto, unfolding(crate::specs::Units::manifest_of))]
@@ -33,7 +30,7 @@ pub fn read_units(alloc: Global, root: &Value) -> Result<List<Unit>, ManifestFau
 {
     check_root(alloc, root)?;
     let values = root_list(alloc, root)?;
-    if values.len() > MAX_UNITS {
+    if values.len() > MOST_UNITS {
         return Err(ManifestFault::TooMany);
     }
     each_unit(alloc, values.as_slice())

@@ -34,10 +34,6 @@ IsDistinct-push (one ∷ names) name differ new =
     let parts = or_parts (bytes_eq name one) (is_among names name) new in
     (AllByRecursion-push (λ other. bytes_eq one other ≡ false) names name differ.0 (bytes_ne-sym name one parts.0), IsDistinct-push names name differ.1 parts.1)
 
--- the declaration of a macro that was read
-declared_of-is : (one : Macro) (name digits : List ℕ) → one.name ≡ name → one.digits ≡ digits → declared_of one ≡ record { way = macro; name = name; digits = digits }
-declared_of-is one name digits named valued = λ i. record { way = macro; name = named i; digits = valued i }
-
 -- lawful macros with the one that follows
 pub AreLawful-push : (macros : List Macro) (one : Macro) (bytes rest : List ℕ) → AreLawful macros → length macros < most → Follows (declarations macros) bytes one.name one.digits rest → one.value ≡ number_of one.digits → AreLawful (macros ++ one ∷ [])
 AreLawful-push macros one bytes rest lawful room follows value = record {

@@ -2,7 +2,6 @@
 use Rattle.std.proofs.Common.{◌≡◌, ℕ, ◌+◌, ◌≤◌, Bool, true, List, [], ◌∷◌, ◌++◌, length, map, ◌==◌, bytes_eq, sym, ap, ◌∙◌, subst, refl, arith, append_assoc, if◌then◌else◌, ◌||◌, codes, Bor}
 use Rattle.std.specs.List.{list_all, list_any, concat}
 use Rattle.std.proofs.lemmas.Bool.{and_parts, eqb-true}
-use Rattle.std.proofs.lemmas.List.{append-nil}
 use Rattle.dm_core.specs.declared.form.Named.{Named}
 use Rattle.dm_core.specs.Texts.{number_of}
 use Rattle.dm_core.specs.Programs.{macro, enumerator, opening_line, line_by, declaration_line, is_among, rewritten_line, most}
@@ -52,16 +51,6 @@ IsMadeSoFar-push terms macros rest left names new text longer line one named use
       valued = valued.1;
       room = let size = ap length goes in let room = so_far.room in omega arith;
     }
-
--- at the end all
-pub IsMadeSoFar-names : (terms : List (List ℕ)) (macros rest : List Macro) (names : List Named) (text : List ℕ) (line : ℕ) → IsMadeSoFar terms macros rest names text line → rest ≡ [] → names ≡ named_from 2 terms (declarations macros)
-IsMadeSoFar-names terms macros rest names text line so_far none =
-    sym (append-nil names) ∙ (sym (ap (λ (all : List Macro). names ++ named_from line terms (declarations all)) none) ∙ so_far.names_are)
-
--- the whole text up to `main`
-pub IsMadeSoFar-text : (terms : List (List ℕ)) (macros rest : List Macro) (names : List Named) (text : List ℕ) (line : ℕ) → IsMadeSoFar terms macros rest names text line → rest ≡ [] → text ≡ opening_line ++ rewritten_text terms macros
-IsMadeSoFar-text terms macros rest names text line so_far none =
-    sym (append-nil text) ∙ (sym (ap (λ (all : List Macro). text ++ rewritten_text terms all) none) ∙ so_far.text_is)
 
 -- a word among slices is one among their bytes
 pub is_among-bytes_of : (name : List ℕ) (words : List (Bor (List ℕ))) → list_any (λ word. bytes_eq name word.now) words ≡ is_among (bytes_of words) name

@@ -1,5 +1,6 @@
 -- What the reading of a program of the first form answers.
 use Rattle.std.specs.Prelude.{◌≡◌, ℕ, List}
+use Rattle.dm_token.specs.Refusals as refusals
 use Rattle.dm_token.specs.Places.{place_of}
 use Rattle.dm_token.specs.declared.stop.Stop.{Stop}
 use Rattle.dm_token.specs.declared.stop.Stop.TheVariants.{Refused}
@@ -19,7 +20,7 @@ IsAnswer bytes answer = (program : Program) × IsFirstText bytes program × (ans
 
 -- the only refusal that comes: number 20, at the place where the text leaves the first form
 abbrev pub IsRefused : ℕ → List ℕ → Stop → Type 0
-IsRefused file bytes stop = (offset : ℕ) × (stop ≡ Refused (record { number = 20; detail = 0; place = place_of file bytes offset })) × LeavesFormAt bytes offset
+IsRefused file bytes stop = (offset : ℕ) × (stop ≡ Refused (record { number = refusals.not_yet; detail = 0; place = place_of file bytes offset })) × LeavesFormAt bytes offset
 
 -- where a text leaves the form, as an error; want of memory has no cause
 abbrev pub IsMisfit : List ℕ → Misfit → Type 0

@@ -12,7 +12,7 @@ use crate::rewriting::rewrite;
 use crate::scan::{OPENING, strip_front};
 use crate::sum::read_main;
 use dm_core::First;
-use dm_token::{List, Refusal, Stop, place_at};
+use dm_token::{List, Refusal, Stop, place_at, refusals};
 use std::alloc::Global;
 
 /// The form of a program, and its text with the enumerators in place of the macros that are terms. A refusal has the
@@ -33,7 +33,7 @@ pub fn first(alloc: Global, file: u32, bytes: &[u8]) -> Result<(First, List<u8>)
         Ok(answer) => Ok(answer),
         Err(Misfit::Memory) => Err(Stop::Memory),
         Err(Misfit::At(offset)) => Err(Stop::Refused(Refusal {
-            number: 20,
+            number: refusals::NOT_YET,
             detail: 0,
             place: place_at(file, bytes, offset),
         })),

@@ -45,7 +45,7 @@ fn syntax_of(alloc: Global, tokens: &[CToken]) -> Result<List<External>, Stop>
     ensures syntax { IfOk result (λ externals. IsSyntax tokens.now (map view.external externals)) }
     ensures stop { IfErr result (Refuses tokens.now) }
 {
-    if tokens.len() > 4294967295 {
+    if tokens.len() > u32::MAX as usize {
         return Err(Stop::from(Memory));
     }
     unit_syntax(alloc, tokens)

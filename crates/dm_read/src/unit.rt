@@ -5,7 +5,7 @@ ghost use Rattle.dm_token.specs.Limits.{source_length_limit};
 ghost use Rattle.dm_token.specs.declared.stop.Stop.TheVariants.{Memory, ReadFault};
 ghost use Rattle.dm_io.specs.Faults.{Rose};
 ghost use Rattle.dm_io.specs.Files.{Files};
-ghost use Rattle.dm_unit.specs.Loaders.{Grows, WasUnknown, stopped_at};
+ghost use Rattle.dm_unit.specs.Loaders.{Grows, WasUnknown, stopped_at, most_names};
 ghost use Rattle.dm_unit.specs.Units.{setting_of};
 ghost use Rattle.dm_tree.specs.TypeNumbers.{IsTypedUnit};
 ghost use Rattle.dm_read.specs.Reading.{IsReading};
@@ -45,7 +45,7 @@ pub fn read_unit<F: Folder, L: Ledger>(
     unit: Unit,
     readings: &mut Steps<L>,
 ) -> Result<Reading, Stop>
-    requires room { length loader.old.names < 4000000000 }
+    requires room { length loader.old.names < most_names }
     requires short { All (λ (define : Sequence ℕ). length define ≤ source_length_limit) unit.define }
     ensures counted { readings.new ≡ readings.old + 1 }
     ensures reading { (files : Files) → F.files folder.old ≡ Some files → IsReading (setting_of loader.old loader.new files unit) unit loader.old result loader.new }

@@ -1,12 +1,11 @@
 -- A search finds the first name that has a file in the call.
-use Rattle.std.proofs.Common.{◌≡◌, ℕ, Bool, true, false, cond, ◌||◌, ◌⊎◌, inl, inr, List, [], ◌∷◌, ◌++◌, length, Option, None, Some, Result, Ok, is_some, refl, sym, ap, ◌∙◌, subst, true≢false, bytes_eq, nat_lt}
+use Rattle.std.proofs.Common.{◌≡◌, ℕ, Bool, true, false, cond, ◌||◌, ◌⊎◌, inl, inr, List, [], ◌∷◌, length, Option, None, Some, Result, Ok, is_some, refl, sym, ap, ◌∙◌, subst, true≢false, bytes_eq, nat_lt}
 use Rattle.std.specs.Option.{MatchOption}
-use Rattle.std.specs.List.{list_any, position_or_len}
+use Rattle.std.specs.List.{position_or_len}
 use Rattle.std.proofs.lemmas.List.Folds.{list_any-append}
 use Rattle.std.proofs.lemmas.Slice.Eq.{bytes_eq-Decides}
 use Rattle.dm_token.specs.Limits.{source_length_limit}
-use Rattle.dm_io.specs.declared.folder.Got.{Got}
-use Rattle.dm_io.specs.declared.folder.Got.TheVariants.{Bytes, Absent, Long, Failed}
+use Rattle.dm_io.specs.declared.folder.Got.TheVariants.{Bytes, Absent, Long}
 use Rattle.dm_io.specs.Answers.{reading_of}
 use Rattle.dm_io.specs.Files.{Files, file_at}
 use Rattle.dm_search.specs.Loaded.{Loaded, number_of, held_at, is_held, is_absent, with_name}
@@ -38,7 +37,7 @@ absent-known (Some bytes) absent file h a = absurd (true≢false h)
 absent-known None true file h a = refl
 absent-known None false file h a = absurd (true≢false (sym a))
 
-nothing-known : (held : Option (List ℕ)) (absent : Bool) (file : Option (List ℕ)) → is_some held ≡ false → absent ≡ false → known_or held absent file ≡ file
+pub nothing-known : (held : Option (List ℕ)) (absent : Bool) (file : Option (List ℕ)) → is_some held ≡ false → absent ≡ false → known_or held absent file ≡ file
 nothing-known (Some bytes) absent file h a = absurd (true≢false h)
 nothing-known None true file h a = absurd (true≢false a)
 nothing-known None false file h a = refl
@@ -68,7 +67,7 @@ passes-same files name old next (inr unknown) other =
     by false apart = ap (λ b. known_or (held_at old (number_of old other)) b (file_at files other)) (or-false (is_absent old other))
 
 -- a name that is passed over has no file
-passed-none : (files : Files) (name : List ℕ) (old next : Loaded) → PassesOver (Some files) name old next → file_for old files name ≡ None
+pub passed-none : (files : Files) (name : List ℕ) (old next : Loaded) → PassesOver (Some files) name old next → file_for old files name ≡ None
 passed-none files name old next (inl known) = absent-known (held_at old (number_of old name)) (is_absent old name) (file_at files name) known.0.0 known.0.1
 passed-none files name old next (inr unknown) =
     nothing-known (held_at old (number_of old name)) (is_absent old name) (file_at files name) unknown.0.0 unknown.0.1 ∙ none-of (file_at files name) unknown.1

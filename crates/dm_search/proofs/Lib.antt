@@ -1,5 +1,5 @@
-mod CallLemmas
+pub mod CallLemmas
 mod JoiningLemmas
 mod NormalLemmas
-mod SearchLemmas
+pub mod SearchLemmas
 mod SoundLemmas

@@ -1,15 +1,16 @@
 -- Steps of a search.
-use Rattle.std.proofs.Common.{◌≡◌, ℕ, zero, suc, ◌+◌, ◌<◌, ◌≤◌, Bool, true, false, cond, not, ◌||◌, ◌⊎◌, inl, inr, List, [], ◌∷◌, ◌++◌, length, drop, get_or, Option, None, Some, Result, Ok, Err, refl, sym, ap, ◌∙◌, subst, arith, add-one, drop-cons, bytes_eq, true≢false}
+use Rattle.std.proofs.Common.{◌≡◌, ℕ, suc, ◌+◌, ◌<◌, ◌≤◌, Bool, true, false, cond, not, ◌||◌, ◌⊎◌, inl, inr, List, [], ◌∷◌, ◌++◌, length, drop, get_or, Option, None, Result, Ok, Err, refl, sym, ap, ◌∙◌, subst, arith, add-one, drop-cons, bytes_eq, true≢false}
 use Rattle.std.proofs.Math.ListN.{drop_of_length-le}
 use Rattle.std.proofs.lemmas.List.{length-append}
 use Rattle.std.specs.List.{list_any, position_or_len}
+use Rattle.dm_token.specs.Limits.{most_files}
 use Rattle.dm_token.specs.declared.stop.Stop.{Stop}
 use Rattle.dm_token.specs.declared.stop.Stop.TheVariants.{Memory, Refused, Limit, ReadFault}
 use Rattle.dm_io.specs.Files.{Files}
-use Rattle.dm_search.specs.Loaded.{Loaded, number_of, is_held, is_absent, with_name, without_file, found_files}
+use Rattle.dm_search.specs.Loaded.{Loaded, number_of, is_held, is_absent, with_name, found_files}
 use Rattle.dm_search.specs.Readable.{StopsReading}
-use Rattle.dm_search.specs.Loading.{KeepsBytes, most_files}
-use Rattle.dm_search.specs.Searching.{IsUnknown, IsKnownAbsent, PassesOver, EndsAt, Finds, IsSettled}
+use Rattle.dm_search.specs.Loading.{KeepsBytes}
+use Rattle.dm_search.specs.Searching.{IsKnownAbsent, PassesOver, EndsAt, Finds, IsSettled}
 
 -- bytes that cannot be read are not kept
 pub kept-error : (bytes : List ℕ) (old new : Loaded) (file : ℕ) (stop : Stop) → StopsReading file bytes stop → new ≡ old → found_files old < most_files → KeepsBytes bytes old file (Err stop) new
@@ -18,7 +19,8 @@ kept-error bytes old new file (Refused refusal) why same few = (few, why, same)
 kept-error bytes old new file (Limit limit) why same few = absurd why
 kept-error bytes old new file (ReadFault number) why same few = absurd why
 
-position-le : {X : Type 0} (p : X → Bool) (xs : List X) → position_or_len p xs ≤ length xs
+-- a place lies inside, or at the end
+pub position-le : {X : Type 0} (p : X → Bool) (xs : List X) → position_or_len p xs ≤ length xs
 position-le p [] = omega arith
 position-le p (x ∷ xs) = by (p x) (position-le p xs)
   where
@@ -68,13 +70,6 @@ finds-none told header names i old past = subst (λ ns. Finds told header ns old
 pub passes-names : (told : Option Files) (name : List ℕ) (old next : Loaded) → PassesOver told name old next → next.names ≡ old.names
 passes-names told name old next (inl known) = ap (λ (l : Loaded). l.names) known.1
 passes-names told name old next (inr unknown) = ap (λ (l : Loaded). l.names) unknown.2
-
--- a search that needs no reading knows of the next name
-pub settled-now : (names : List (List ℕ)) (i : ℕ) (name : List ℕ) (old : Loaded) → i < length names → name ≡ get_or names i name → IsSettled (drop i names) old
-    → (is_held old (number_of old name) ≡ true) ⊎ (is_absent old name ≡ true)
-settled-now names i name old inside is settled =
-    let cut : drop i names ≡ name ∷ drop (i + 1) names = rw (add-one, drop-cons names i name inside) (ap (λ n. n ∷ drop (suc i) names) (sym is)) in
-    elim (subst (λ ns. IsSettled ns old) cut settled) [ inl held ↦ inl held | inr known ↦ inr known.0.1 ]
 
 -- and needs none behind it
 pub settled-over : (told : Option Files) (names : List (List ℕ)) (i : ℕ) (name : List ℕ) (old next : Loaded) → i < length names → name ≡ get_or names i name → IsSettled (drop i names) old

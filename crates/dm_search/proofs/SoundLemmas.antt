@@ -1,17 +1,17 @@
 -- The fields of a loader still fit each other once a name or a content is added.
-use Rattle.std.proofs.Common.{◌≡◌, ◌≢◌, ℕ, zero, suc, ◌+◌, ◌-◌, ◌<◌, ◌≤◌, Bool, true, false, cond, ◌⊎◌, inl, inr, List, [], ◌∷◌, ◌++◌, length, drop, get_or, set, count_by, map, take, slice_get, append-nil, Option, None, Some, is_some, refl, sym, ap, ◌∙◌, subst, append_assoc, arith, if◌then◌else◌, bytes_eq, true≢false}
+use Rattle.std.proofs.Common.{◌≡◌, ◌≢◌, ℕ, zero, suc, ◌+◌, ◌-◌, ◌<◌, ◌≤◌, true, false, cond, inl, inr, List, [], ◌∷◌, ◌++◌, length, drop, get_or, set, count_by, map, take, slice_get, append-nil, Option, None, Some, is_some, refl, sym, ap, ◌∙◌, subst, append_assoc, arith, if◌then◌else◌, bytes_eq, true≢false}
 use Rattle.std.proofs.lemmas.Bool.{cases_eq, cases_lt}
 use Rattle.std.proofs.lemmas.Grind.{common_steps}
-use Rattle.std.proofs.lemmas.List.{drop-set-lt, drop-set-add, get_or-set_same, get_or-set_other, length-set, length-append, length-map, drop-map, get_or-map, take_more, get_or_append_left, map-append, length-take-le}
+use Rattle.std.proofs.lemmas.List.{get_or-set_same, get_or-set_other, length-set, length-append, length-map, drop-map, get_or-map, take_more, get_or_append_left, map-append, length-take-le}
 use Rattle.std.proofs.lemmas.Option.{get_or_from_slice_get}
 use Rattle.std.proofs.Math.Seq.{get_or-append_seam}
 use Rattle.std.proofs.Math.ListN.{drop_of_length-le, get_or-eq_default}
 use Rattle.std.proofs.Math.ListN.{get_or-map as map_at}
-use Rattle.std.proofs.lemmas.List.Sums.{sum_by-set, sum_by-append}
-use Rattle.std.specs.List.{list_any, sum_by}
+use Rattle.std.proofs.lemmas.List.Sums.{sum_by-append}
+use Rattle.std.specs.List.{list_any}
 use Rattle.dm_search.specs.declared.content.Content.{Content}
 use Rattle.dm_search.specs.Headers.{header_names, header_texts}
-use Rattle.dm_search.specs.Sound.{bytes_of, bytes_in, AreSound, AreContents, HasHeaders, IsContent}
+use Rattle.dm_search.specs.Sound.{bytes_of, bytes_in, AreSound, AreContents, IsContent}
 
 -- what no index finds in a list, it doesn't find with nothing behind it
 get_or-push_none : {A : Type 0} (xs : List (Option A)) (i : ℕ) → get_or (xs ++ None ∷ []) i None ≡ get_or xs i None
@@ -28,21 +28,6 @@ count-push_none : {A : Type 0} (n : ℕ) (xs : List (Option A)) → count_by is_
 count-push_none zero xs = count-end_none xs
 count-push_none (suc n) [] = grind (arith, common_steps)
 count-push_none (suc n) (x ∷ xs) = count-push_none n xs
-
--- a content where there was one doesn't count, and neither does one of the first six
-count-set_same : {A : Type 0} (xs : List (Option A)) (i : ℕ) (x : A) (b : Bool) → i < length xs → b ≡ is_some (get_or xs i None) → b ≡ true → count_by is_some (set xs i (Some x)) ≡ count_by is_some xs
-count-set_same xs i x b h e t =
-    let had : is_some (get_or xs i None) ≡ true = sym e ∙ t in
-    let one : ◌≡◌ {A = ℕ} (cond (is_some (get_or xs i None)) 1 0) 1 = ap (λ c. cond c 1 0) had in
-    let s = sum_by-set (λ o. cond (is_some o) 1 0) xs i (Some x) None h in
-    omega (arith, s, one)
-
-count-set_new : {A : Type 0} (xs : List (Option A)) (i : ℕ) (x : A) (b : Bool) → i < length xs → b ≡ is_some (get_or xs i None) → b ≡ false → count_by is_some (set xs i (Some x)) ≡ count_by is_some xs + 1
-count-set_new xs i x b h e t =
-    let had : is_some (get_or xs i None) ≡ false = sym e ∙ t in
-    let none : ◌≡◌ {A = ℕ} (cond (is_some (get_or xs i None)) 1 0) 0 = ap (λ c. cond c 1 0) had in
-    let s = sum_by-set (λ o. cond (is_some o) 1 0) xs i (Some x) None h in
-    omega (arith, s, none)
 
 -- the fields fit with one more name
 sound-push : (names : List (List ℕ)) (contents : List (Option Content)) (found : ℕ) (name : List ℕ) → AreSound names contents found → AreSound (names ++ name ∷ []) (contents ++ None ∷ []) found

@@ -1,7 +1,8 @@
 -- The built-in headers in a loader.
 use Rattle.std.specs.Prelude.{◌≡◌, ℕ, ◌<◌, true, List, [], ◌++◌, map, Some}
+use Rattle.dm_token.specs.Limits.{header_count}
 use Rattle.dm_search.specs.Headers.{header_names, header_texts}
-use Rattle.dm_search.specs.Loaded.{Loaded, is_held, header_count}
+use Rattle.dm_search.specs.Loaded.{Loaded, is_held}
 
 -- a loader that holds the built-in headers and knows of no other file
 abbrev pub fresh : Loaded

@@ -1,6 +1,7 @@
 -- What a loader knows: the names of files by number, the bytes held for some of them, and names that have no file.
-use Rattle.std.specs.Prelude.{◌≡◌, ℕ, Bool, List, [], ◌∷◌, ◌++◌, drop, count_by, Option, Some, None, is_some, bytes_eq, slice_index_or, slice_set, if◌then◌else◌}
+use Rattle.std.specs.Prelude.{ℕ, Bool, List, [], ◌∷◌, ◌++◌, drop, count_by, Option, Some, None, is_some, bytes_eq, slice_index_or, slice_set, if◌then◌else◌}
 use Rattle.std.specs.List.{list_any, position_or_len}
+use Rattle.dm_token.specs.Limits.{header_count}
 
 pub record Loaded : Type 0 where
   -- the names by number
@@ -30,11 +31,7 @@ is_held loaded file = is_some (held_at loaded file)
 abbrev pub is_absent : Loaded → List ℕ → Bool
 is_absent loaded name = list_any (bytes_eq name) loaded.absent
 
--- how many numbers are those of built-in headers, which come first
-abbrev pub header_count : ℕ
-header_count = 6
-
--- how many files of the folder are held
+-- how many files of the folder are held; the numbers of the built-in headers come first
 abbrev pub found_files : Loaded → ℕ
 found_files loaded = count_by is_some (drop header_count loaded.held)
 

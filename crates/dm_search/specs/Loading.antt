@@ -3,17 +3,14 @@ use Rattle.std.specs.Prelude.{◌≡◌, ℕ, ◌<◌, ◌≤◌, ◌⊎◌, Boo
 use Rattle.dm_token.specs.declared.stop.Limit.{Limit as Limited}
 use Rattle.dm_token.specs.declared.stop.Stop.{Stop}
 use Rattle.dm_token.specs.declared.stop.Stop.TheVariants.{Memory, Refused, Limit, ReadFault}
-use Rattle.dm_token.specs.Limits.{source_length_limit}
+use Rattle.dm_token.specs.LimitNumbers as limits
+use Rattle.dm_token.specs.Limits.{source_length_limit, most_files}
 use Rattle.dm_io.specs.declared.folder.Got.TheVariants.{Bytes, Absent, Long, Failed}
 use Rattle.dm_io.specs.declared.folder.Got.{Got}
 use Rattle.dm_io.specs.Files.{Files}
 use Rattle.dm_io.specs.Answers.{IsReading}
 use Rattle.dm_search.specs.Loaded.{Loaded, name_of, found_files, with_bytes, without_file}
 use Rattle.dm_search.specs.Readable.{IsReadable, IsRefusedAs}
-
--- the greatest number of files of the folder
-abbrev pub most_files : ℕ
-most_files = 4096
 
 -- a limit that is passed with the file of this number
 abbrev pub limit_at : ℕ → ℕ → Limited
@@ -37,8 +34,8 @@ abbrev pub StopsLoading : Option Files → List ℕ → Loaded → ℕ → Stop 
 StopsLoading told name old file Memory = Unit {0}
 StopsLoading told name old file (ReadFault number) = number ≡ file
 StopsLoading told name old file (Limit limit) =
-    ((limit ≡ limit_at 1 file) × IsTooLong told name)
-    ⊎ ((limit ≡ limit_at 6 file) × (bytes : List ℕ) × HasBytes told name bytes × (most_files ≤ found_files old))
+    ((limit ≡ limit_at limits.file_bytes file) × IsTooLong told name)
+    ⊎ ((limit ≡ limit_at limits.files file) × (bytes : List ℕ) × HasBytes told name bytes × (most_files ≤ found_files old))
 StopsLoading told name old file (Refused refusal) =
     (bytes : List ℕ) × HasBytes told name bytes × (found_files old < most_files) × IsRefusedAs file bytes refusal
 
@@ -52,7 +49,7 @@ Loads told name old file (Err stop) new = StopsLoading told name old file stop �
 -- New bytes for a file that is held are refused: there are too many of them, or they cannot be read.
 abbrev pub StopsReplacing : ℕ → List ℕ → Stop → Type 0
 StopsReplacing file bytes Memory = Unit {0}
-StopsReplacing file bytes (Limit limit) = (limit ≡ limit_at 1 file) × (source_length_limit < length bytes)
+StopsReplacing file bytes (Limit limit) = (limit ≡ limit_at limits.file_bytes file) × (source_length_limit < length bytes)
 StopsReplacing file bytes (Refused refusal) = (length bytes ≤ source_length_limit) × IsRefusedAs file bytes refusal
 StopsReplacing file bytes (ReadFault number) = ⊥
 
@@ -62,7 +59,7 @@ KeepsBytes bytes old file (Ok true) new = (found_files old < most_files) × IsRe
 KeepsBytes bytes old file (Ok false) new = ⊥
 KeepsBytes bytes old file (Err Memory) new = new ≡ old
 KeepsBytes bytes old file (Err (ReadFault number)) new = ⊥
-KeepsBytes bytes old file (Err (Limit limit)) new = (limit ≡ limit_at 6 file) × (most_files ≤ found_files old) × (new ≡ old)
+KeepsBytes bytes old file (Err (Limit limit)) new = (limit ≡ limit_at limits.files file) × (most_files ≤ found_files old) × (new ≡ old)
 KeepsBytes bytes old file (Err (Refused refusal)) new = (found_files old < most_files) × IsRefusedAs file bytes refusal × (new ≡ old)
 
 -- What keeping that a file is absent leaves.
@@ -78,5 +75,5 @@ KeepsAbsence old file (Err (Refused refusal)) new = ⊥
 abbrev pub Keeps : Got → Loaded → ℕ → Result Bool Stop → Loaded → Type 0
 Keeps (Bytes bytes) old file result new = KeepsBytes bytes old file result new
 Keeps Absent old file result new = KeepsAbsence old file result new
-Keeps Long old file result new = (result ≡ Err (Limit (limit_at 1 file))) × (new ≡ old)
+Keeps Long old file result new = (result ≡ Err (Limit (limit_at limits.file_bytes file))) × (new ≡ old)
 Keeps Failed old file result new = (result ≡ Err (ReadFault file)) × (new ≡ old)

@@ -1,9 +1,8 @@
 -- What is true of a loader's fields.
 use Rattle.std.specs.Prelude.{◌≡◌, ℕ, ◌<◌, ◌≤◌, List, ◌++◌, map, drop, length, count_by, Option, Some, None, is_some, true, option_map, slice_index_or}
-use Rattle.dm_token.specs.Limits.{source_length_limit}
+use Rattle.dm_token.specs.Limits.{source_length_limit, header_count}
 use Rattle.dm_search.specs.declared.content.Content.{Content}
 use Rattle.dm_search.specs.Headers.{header_names}
-use Rattle.dm_search.specs.Loaded.{Loaded, is_held, header_count}
 use Rattle.dm_search.specs.Readable.{AreTokensOf}
 
 -- the bytes of contents, if there are any

@@ -1,11 +1,12 @@
 //! The headers that are built in.
 ghost use Rattle.std.specs.Prelude.{◌≡◌, ◌<◌, ◌≤◌, map, length, slice_get, bytes_eq, Some, IfSome, IfOk, OnOk};
 ghost use Rattle.indexmap.specs.IndexSet.{insert_key};
+ghost use Rattle.dm_token.specs.Limits.{header_count, source_length_limit};
 ghost use Rattle.dm_search.specs.Headers.{header_number, header_texts, header_names as names_of_headers};
 ghost use Rattle.dm_search.specs.Sound.{bytes_of, AreContents, IsContent};
 
 use crate::content::Content;
-use dm_token::{List, Memory, Text};
+use dm_token::{HEADER_COUNT, List, Memory, Text};
 use indexmap::IndexSet;
 use std::alloc::Global;
 
@@ -78,7 +79,7 @@ const STDBOOL: &str = "#define bool _Bool
 /// The number of the built-in header of a name, if there is one.
 pub fn header_number_of(name: &[u8]) -> Option<u32>
     ensures number { result ≡ header_number name.now }
-    ensures within { IfSome result (λ number. number < 6) }
+    ensures within { IfSome result (λ number. number < header_count) }
 {
     if is_called(name, "stdio.h") {
         Some(0)
@@ -130,7 +131,7 @@ pub fn header_contents(alloc: Global) -> Result<Vec<Option<Content>>, Memory>
     ensures read { IfOk result (λ contents. AreContents contents.items) }
 {
     let mut contents = Vec::new(alloc);
-    for number in 0..6 {
+    for number in 0..HEADER_COUNT as u32 {
         contents.push(Some(header_content(alloc, number)?))?;
     }
     Ok(contents)
@@ -138,7 +139,7 @@ pub fn header_contents(alloc: Global) -> Result<Vec<Option<Content>>, Memory>
 
 /// The content of the built-in header of a number.
 fn header_content(alloc: Global, number: u32) -> Result<Content, Memory>
-    requires { number < 6 }
+    requires { number < header_count }
     ensures bytes { IfOk result (λ content. slice_get header_texts number ≡ Some content.bytes) }
     ensures content { IfOk result (IsContent number) }
 {
@@ -151,9 +152,9 @@ fn header_content(alloc: Global, number: u32) -> Result<Content, Memory>
 
 /// The text of the built-in header of a number.
 pub fn text_of(number: u32) -> &'static [u8]
-    requires { number < 6 }
+    requires { number < header_count }
     ensures text { slice_get header_texts number ≡ Some result.now }
-    ensures short { length result.now ≤ 4096 }
+    ensures short { length result.now ≤ source_length_limit }
 {
     match number {
         0 => STDIO.as_bytes(),

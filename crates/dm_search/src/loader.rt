@@ -3,29 +3,27 @@ ghost use Rattle.std.specs.Option.{option_copied};
 ghost use Rattle.dm_io.specs.Faults.{Rose};
 ghost use Rattle.dm_io.specs.Answers.{HasAtMost};
 ghost use Rattle.dm_search.specs.declared.content.Content.{Content};
-ghost use Rattle.dm_token.specs.Limits.{source_length_limit as length_limit};
+ghost use Rattle.dm_token.specs.Limits.{header_count, source_length_limit as length_limit};
 ghost use Rattle.dm_search.specs.Headers.{header_number, header_text};
 ghost use Rattle.dm_search.specs.Joining.{candidates as names_for, places};
 ghost use Rattle.dm_search.specs.Loaded.{name_of, number_of, held_at, is_held, is_absent as is_known_absent, with_name, with_bytes, without_file};
 ghost use Rattle.dm_search.specs.Fresh.{fresh, StartsWithHeaders};
 ghost use Rattle.dm_search.specs.Readable.{AreTokensOf, IsReadable, StopsReading};
-ghost use Rattle.dm_search.specs.Loading.{Loads, Keeps, KeepsBytes, StopsReplacing};
+ghost use Rattle.dm_token.specs.declared.stop.Stop.TheVariants.{Limit as limit_passed};
+ghost use Rattle.dm_search.specs.Loading.{Loads, Keeps, KeepsBytes, StopsReplacing, limit_at};
 ghost use Rattle.dm_search.specs.Searching.{Seeks, Finds, IsSettled};
 
 use crate::content::Content;
 use crate::header::{header_contents, header_names, header_number_of, text_of};
 use crate::joining::candidates;
 use dm_io::{Folder, Got};
-use dm_token::{Limit, List, Memory, PpToken, Stop, Text, source_length_limit};
+use dm_token::{
+    HEADER_COUNT, Limit, List, MOST_FILES, Memory, PpToken, Stop, Text, limit_numbers,
+    source_length_limit,
+};
 use indexmap::IndexSet;
 use std::alloc::Global;
 use std::marker::Model;
-
-/// The greatest number of files of the folder that are found in a call.
-const MAX_FILES: usize = 4096;
-
-/// How many built-in headers there are.
-const HEADER_COUNT: usize = 6;
 
 /// The files of a call of the tool by number. Each file of the folder is read at most once.
 #[derive(Drop)]
@@ -210,7 +208,7 @@ impl Loader {
                 self.note_absent(name)?;
                 Ok(false)
             }
-            Got::Long => Err(Stop::Limit(Limit { number: 1, file })),
+            Got::Long => Err(passed(limit_numbers::FILE_BYTES, file)),
             Got::Failed => Err(Stop::ReadFault(file)),
         }
     }
@@ -221,8 +219,8 @@ impl Loader {
         requires short { length bytes ≤ length_limit }
         ensures { KeepsBytes bytes self.old file result self.new }
     {
-        if self.found >= MAX_FILES {
-            return Err(Stop::Limit(Limit { number: 6, file }));
+        if self.found >= MOST_FILES {
+            return Err(passed(limit_numbers::FILES, file));
         }
         match self.hold(file, bytes) {
             Ok(()) => Ok(true),
@@ -336,9 +334,10 @@ impl Loader {
         ensures stop { IfErr result (StopsReplacing file bytes) }
         ensures err { OnErr result (self.new ≡ self.old) }
     {
+        // What holds of the parts of a loader is known where one of them is looked at.
         let _ = &self.contents;
         if bytes.len() > source_length_limit() {
-            return Err(Stop::Limit(Limit { number: 1, file }));
+            return Err(passed(limit_numbers::FILE_BYTES, file));
         }
         self.hold(file, bytes)?;
         Ok(())
@@ -363,12 +362,19 @@ impl Loader {
 /// How many files of the folder are held once there is a content at a slot, where so many are held.
 fn found_with(contents: &[Option<Content>], found: usize, slot: usize) -> usize
     requires inside { slot < length contents.now }
-    requires counted { found ≡ count_by is_some (drop 6 contents.now) }
-    ensures { (content : Content) → result ≡ count_by is_some (drop 6 (slice_set contents.now slot (Some content))) }
+    requires counted { found ≡ count_by is_some (drop header_count contents.now) }
+    ensures { (content : Content) → result ≡ count_by is_some (drop header_count (slice_set contents.now slot (Some content))) }
 {
     if slot >= HEADER_COUNT && contents[slot].is_none() {
         found + 1
     } else {
         found
     }
+}
+
+/// The limit of this number, passed with a file.
+fn passed(number: u8, file: u32) -> Stop
+    ensures { result ≡ limit_passed (limit_at number file) }
+{
+    Stop::Limit(Limit { number, file })
 }

@@ -17,10 +17,6 @@ pub items-first : (t : PpToken) (ts : List PpToken) → items 0 (t ∷ ts) ≡ (
 unfolding items
 items-first t ts = ap (λ rest. (first_item t ts).item ∷ rest) (items-skip (first_item t ts).more ts)
 
-pub items-none : items 0 [] ≡ []
-unfolding items
-items-none = refl
-
 -- the tokens so far, with one more
 pub tokens-more : (table : Table) (t : PpToken) (ts tokens more : List PpToken) → more ≡ tokens ++ token_for table (first_item t ts).item ∷ []
     → more ++ map (token_for table) (items 0 (drop (first_item t ts).more ts)) ≡ tokens ++ map (token_for table) (items 0 (t ∷ ts))

@@ -3,6 +3,9 @@ use Rattle.std.proofs.Common.{◌≡◌, ℕ, ◌+◌, ◌<◌, ◌≤◌, zero,
 use Rattle.std.specs.List.{list_any, position, position_or_len, before_first, after_first}
 use Rattle.std.proofs.lemmas.Bool.{lt-ltb, le-ltb, ltb-true}
 use Rattle.dm_unit.proofs.ListLemmas.{position-none}
+use Rattle.dm_token.specs.Limits.{most_work}
+use Rattle.dm_token.specs.LimitNumbers as limits
+use Rattle.dm_token.specs.Refusals as refusals
 use Rattle.dm_token.specs.declared.token.PpToken.{PpToken}
 use Rattle.dm_token.specs.declared.stop.Stop.{Stop}
 use Rattle.dm_token.specs.declared.stop.Stop.TheVariants.{Memory, Refused, Limit, ReadFault}
@@ -10,28 +13,25 @@ use Rattle.dm_token.specs.declared.expansion.Origin.{Origin}
 use Rattle.dm_token.specs.declared.expansion.Origin.TheVariants.{Manifest}
 use Rattle.dm_macro.specs.Tables.{Table, Defines, Refuses}
 use Rattle.dm_macro.specs.Forms.{bare_hash, refused}
-use Rattle.dm_expand.specs.Steps.{greatest_work}
 use Rattle.dm_unit.specs.States.{State, Outcome, limit}
 use Rattle.dm_unit.specs.Definitions.{CannotDefine, DefinesLine, DefinesText, DoesManifest, with_definition, define_text, is_equals_sign}
-use Rattle.dm_unit.specs.Views.{IsFaultless, Stops, Does, IsLineOf, TextStops}
+use Rattle.dm_unit.specs.Views.{IsFaultless, Stops, Does, IsLineOf}
 
-work-left : (spent : ℕ) → spent < 8000000 → nat_lt spent greatest_work ≡ true
-unfolding greatest_work
-work-left spent few = lt-ltb spent 8000000 few
+work-left : (spent : ℕ) → spent < most_work → nat_lt spent most_work ≡ true
+work-left spent few = lt-ltb spent most_work few
 
-work-done : (spent : ℕ) → 8000000 ≤ spent → nat_lt spent greatest_work ≡ false
-unfolding greatest_work
-work-done spent many = le-ltb spent 8000000 many
+work-done : (spent : ℕ) → most_work ≤ spent → nat_lt spent most_work ≡ false
+work-done spent many = le-ltb spent most_work many
 
 -- too much work was done before
-pub line-limit : (main : ℕ) (line : List PpToken) (origin : Origin) (plain : Bool) (state : State) → 8000000 ≤ state.spent → DefinesLine main line origin plain state (Err (limit 3 main))
+pub line-limit : (main : ℕ) (line : List PpToken) (origin : Origin) (plain : Bool) (state : State) → most_work ≤ state.spent → DefinesLine main line origin plain state (Err (limit limits.work main))
 line-limit main line origin plain state many =
     subst (λ b. MatchBool b
-    (((table : Table) × Defines state.table line origin plain table × (◌≡◌ {A = Outcome} (Err (limit 3 main)) (Ok (with_definition table state))))
-    ⊎ ((stop : Stop) × CannotDefine state.table line origin plain stop × (◌≡◌ {A = Outcome} (Err (limit 3 main)) (Err stop))))
-    (◌≡◌ {A = Outcome} (Err (limit 3 main)) (Err (limit 3 main)))) (sym (work-done state.spent many)) refl
+    (((table : Table) × Defines state.table line origin plain table × (◌≡◌ {A = Outcome} (Err (limit limits.work main)) (Ok (with_definition table state))))
+    ⊎ ((stop : Stop) × CannotDefine state.table line origin plain stop × (◌≡◌ {A = Outcome} (Err (limit limits.work main)) (Err stop))))
+    (◌≡◌ {A = Outcome} (Err (limit limits.work main)) (Err (limit limits.work main)))) (sym (work-done state.spent many)) refl
 
-line-outcome : (main : ℕ) (line : List PpToken) (origin : Origin) (plain : Bool) (state : State) (outcome : Outcome) → state.spent < 8000000
+line-outcome : (main : ℕ) (line : List PpToken) (origin : Origin) (plain : Bool) (state : State) (outcome : Outcome) → state.spent < most_work
     → (((table : Table) × Defines state.table line origin plain table × (outcome ≡ Ok (with_definition table state)))
     ⊎ ((stop : Stop) × CannotDefine state.table line origin plain stop × (outcome ≡ Err stop)))
     → DefinesLine main line origin plain state outcome
@@ -39,19 +39,19 @@ line-outcome main line origin plain state outcome few is =
     subst (λ b. MatchBool b
     (((table : Table) × Defines state.table line origin plain table × (outcome ≡ Ok (with_definition table state)))
     ⊎ ((stop : Stop) × CannotDefine state.table line origin plain stop × (outcome ≡ Err stop)))
-    (outcome ≡ Err (limit 3 main))) (sym (work-left state.spent few)) is
+    (outcome ≡ Err (limit limits.work main))) (sym (work-left state.spent few)) is
 
 -- the line defines a macro
-pub line-defines : (main : ℕ) (line : List PpToken) (origin : Origin) (plain : Bool) (state after : State) (table : Table) → state.spent < 8000000 → Defines state.table line origin plain table
+pub line-defines : (main : ℕ) (line : List PpToken) (origin : Origin) (plain : Bool) (state after : State) (table : Table) → state.spent < most_work → Defines state.table line origin plain table
     → after ≡ with_definition table state → DefinesLine main line origin plain state (Ok after)
 line-defines main line origin plain state after table few defines is = line-outcome main line origin plain state (Ok after) few (inl (table, defines, ap Ok is))
 
-line-cannot : (main : ℕ) (line : List PpToken) (origin : Origin) (plain : Bool) (state : State) (stop : Stop) → state.spent < 8000000 → CannotDefine state.table line origin plain stop
+line-cannot : (main : ℕ) (line : List PpToken) (origin : Origin) (plain : Bool) (state : State) (stop : Stop) → state.spent < most_work → CannotDefine state.table line origin plain stop
     → DefinesLine main line origin plain state (Err stop)
 line-cannot main line origin plain state stop few cannot = line-outcome main line origin plain state (Err stop) few (inr (stop, cannot, refl))
 
 -- or it can't
-pub line-stops : (main : ℕ) (line : List PpToken) (origin : Origin) (plain : Bool) (state : State) (stop : Stop) → state.spent < 8000000 → Refuses state.table line origin plain stop
+pub line-stops : (main : ℕ) (line : List PpToken) (origin : Origin) (plain : Bool) (state : State) (stop : Stop) → state.spent < most_work → Refuses state.table line origin plain stop
     → Stops (DefinesLine main line origin plain state) stop
 line-stops main line origin plain state stop few (inl memory) = subst (Stops (DefinesLine main line origin plain state)) (sym memory) tt
 line-stops main line origin plain state Memory few (inr cannot) = tt
@@ -64,23 +64,6 @@ pub manifest-line : {A : Type 0} (main : ℕ) (define : List ℕ) (line : List P
     → Does (DefinesLine main line Manifest true state) result after → Does (DoesManifest main define state) result after
 manifest-line main define line state result after is does =
     subst (λ read. Does (DefinesText main define read state) result after) (sym is.1) (subst (λ l. Does (DefinesLine main l Manifest true state) result after) is.2 does)
-
--- its text is refused
-pub manifest-stops : (main : ℕ) (define : List ℕ) (state : State) (stop : Stop) → TextStops main define stop → Stops (DoesManifest main define state) stop
-manifest-stops main define state Memory stops = tt
-manifest-stops main define state (Refused refusal) stops =
-    subst (λ read. DefinesText main define read state (Err (Refused refusal))) (sym stops.1) (by stops.2)
-  where
-    by : ◌≡◌ {A = Result (List PpToken) Stop} (Err (Refused refusal)) (Err (Refused stops.0)) → ◌≡◌ {A = Outcome} (Err (Refused refusal)) (Err (Refused stops.0))
-    by e = cc
-manifest-stops main define state (Limit passed) stops = absurd (by stops.2)
-  where
-    by : ◌≡◌ {A = Result (List PpToken) Stop} (Err (Limit passed)) (Err (Refused stops.0)) → ⊥
-    by e = cc
-manifest-stops main define state (ReadFault file) stops = absurd (by stops.2)
-  where
-    by : ◌≡◌ {A = Result (List PpToken) Stop} (Err (ReadFault file)) (Err (Refused stops.0)) → ⊥
-    by e = cc
 
 -- THE TEXT OF A DEFINE
 
@@ -122,9 +105,6 @@ text-some define n is =
     ap (λ k. set define k 32) at.0 ∙ set-split (position_or_len is_equals_sign define) 32 define inside
     ∙ sym (ap (λ b. cond b (before_first is_equals_sign define ++ 32 ∷ after_first is_equals_sign define) define) (any-inside is_equals_sign define inside))
 
-pub text-inside : (define : List ℕ) (n : ℕ) → Some n ≡ position is_equals_sign define → n < length define
-text-inside define n is = (some-any is_equals_sign define n is).1
-
 pub text-none : (define : List ℕ) → None ≡ position is_equals_sign define → define ≡ define_text define
 text-none define none =
     sym (ap (λ b. cond b (before_first is_equals_sign define ++ 32 ∷ after_first is_equals_sign define) define) (any-none is_equals_sign define (position-none is_equals_sign define none)))
@@ -135,12 +115,12 @@ pub refuses-faultless : (table : Table) (line : List PpToken) (origin : Origin) 
 refuses-faultless table line origin plain stop (inl memory) = subst IsFaultless (sym memory) tt
 refuses-faultless table line origin plain stop (inr (inl misformed)) = misformed-faultless (slice_get line 0) misformed.1
   where
-    misformed-faultless : (o : Option PpToken) → IsSomeAnd o (λ hash. stop ≡ refused 5 hash.place) → IsFaultless stop
+    misformed-faultless : (o : Option PpToken) → IsSomeAnd o (λ hash. stop ≡ refused refusals.form hash.place) → IsFaultless stop
     misformed-faultless None is = absurd is
     misformed-faultless (Some token) is = subst IsFaultless (sym is) tt
 refuses-faultless table line origin plain stop (inr (inr (inl bare))) = bare-faultless (bare_hash bare.0) bare.2
   where
-    bare-faultless : (o : Option PpToken) → IsSomeAnd o (λ operator. stop ≡ refused 11 operator.place) → IsFaultless stop
+    bare-faultless : (o : Option PpToken) → IsSomeAnd o (λ operator. stop ≡ refused refusals.hash_operand operator.place) → IsFaultless stop
     bare-faultless None is = absurd is
     bare-faultless (Some token) is = subst IsFaultless (sym is) tt
 refuses-faultless table line origin plain stop (inr (inr (inr redefines))) = subst IsFaultless (sym redefines.4) tt
@@ -149,12 +129,3 @@ refuses-faultless table line origin plain stop (inr (inr (inr redefines))) = sub
 pub ok-defined : {A : Type 0} (result : Result A Stop) (P : Type 0) → ((stop : Stop) → result ≡ Err stop → ⊥) → OnOk result P → P
 ok-defined (Ok answer) P not on = on
 ok-defined (Err stop) P not on = absurd (not stop refl)
-
-pub text-faultless : (main : ℕ) (define : List ℕ) (stop : Stop) → TextStops main define stop → IsFaultless stop
-text-faultless main define Memory stops = tt
-text-faultless main define (Refused refusal) stops = tt
-text-faultless main define (Limit passed) stops = tt
-text-faultless main define (ReadFault file) stops = by stops.2
-  where
-    by : ◌≡◌ {A = Result (List PpToken) Stop} (Err (ReadFault file)) (Err (Refused stops.0)) → ⊥
-    by e = cc

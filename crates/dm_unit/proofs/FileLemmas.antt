@@ -18,7 +18,8 @@ use Rattle.dm_unit.specs.Loaders.{Grows, WasUnknown}
 use Rattle.dm_unit.specs.Views.{IsHeld}
 use Rattle.dm_unit.proofs.NameLemmas.{HasSlots, name-at, name-behind, name-kept, held-among, with_name-slots, number-with_name, name-with_name, number-inside, held-with_name, absent-with_name, names-with_name}
 use Rattle.dm_unit.proofs.GrowLemmas.{some-of, held-now, held-other, number-grows}
-use Rattle.dm_unit.proofs.SearchLemmas.{unknown-file, held-file, passes-same, passes-slots, passes-grows, read-bytes}
+use Rattle.dm_search.proofs.CallLemmas.{passes-same}
+use Rattle.dm_unit.proofs.SearchLemmas.{unknown-file, held-file, passes-slots, passes-grows, read-bytes}
 
 -- THE FILES OF THE CALL STAY
 

@@ -25,14 +25,6 @@ use Rattle.dm_unit.proofs.FileLemmas.{finds-same, finds-held, finds-fault, heade
 pub NoFault : Option Stop → Type 0
 NoFault stop = (file : ℕ) → stop ≡ Some (ReadFault file) → ⊥
 
-pub none-fault : NoFault None
-unfolding NoFault
-none-fault file e = cc
-
-pub refused-fault : (stop : Stop) → ((file : ℕ) → stop ≡ ReadFault file → ⊥) → NoFault (Some stop)
-unfolding NoFault
-refused-fault stop not file e = let same : stop ≡ ReadFault file = cc in not file same
-
 pub faultless : (stop : Stop) → IsFaultless stop → NoFault (Some stop)
 unfolding NoFault
 faultless stop is file e = let same : stop ≡ ReadFault file = cc in subst IsFaultless same is

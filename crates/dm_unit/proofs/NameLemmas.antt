@@ -75,10 +75,6 @@ pub with_name-known : (old : Loaded) (name : List ℕ) → list_any (bytes_eq na
 unfolding with_last
 with_name-known old name h = ap (λ b. cond b old (with_last old name)) h
 
-pub with_name-new : (old : Loaded) (name : List ℕ) → list_any (bytes_eq name) old.names ≡ false → with_name old name ≡ with_last old name
-unfolding with_last
-with_name-new old name h = ap (λ b. cond b old (with_last old name)) h
-
 -- a list of slots has one for each name
 abbrev pub HasSlots : Loaded → Type 0
 HasSlots loaded = length loaded.held ≡ length loaded.names

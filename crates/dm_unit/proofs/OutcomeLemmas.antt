@@ -4,6 +4,9 @@ use Rattle.std.specs.Prelude.{nat_lt, not, slice_get, slice_index_or, IfErr, IsP
 use Rattle.std.specs.Option.{IsSomeAnd}
 use Rattle.std.specs.List.{list_any}
 use Rattle.std.proofs.lemmas.List.Sorted.{IsPermutation-refl, IsPermutation-sym, IsPermutation-trans, IsPermutation-append, IsPermutation-append_left}
+use Rattle.dm_token.specs.Limits.{most_work, most_tokens, most_inclusions}
+use Rattle.dm_token.specs.LimitNumbers as limits
+use Rattle.dm_token.specs.Refusals as refusals
 use Rattle.dm_token.specs.declared.stop.Stop.{Stop}
 use Rattle.dm_token.specs.declared.stop.Stop.TheVariants.{Refused}
 use Rattle.dm_token.specs.declared.stop.Refusal.{Refusal}
@@ -17,7 +20,6 @@ use Rattle.dm_macro.specs.Signs.{is_identifier, is_macro_name}
 use Rattle.dm_macro.specs.Forms.{Gives, bare_hash, AreSame, refused}
 use Rattle.dm_macro.specs.Tables.{Table, defined, recorded, Defines}
 use Rattle.dm_expand.specs.Expansion.{Answer}
-use Rattle.dm_expand.specs.Steps.{greatest_work}
 use Rattle.dm_cond.proofs.Truths.{truth-unique}
 use Rattle.dm_search.specs.Headers.{header_number}
 use Rattle.dm_search.specs.Joining.{candidates, places}
@@ -34,7 +36,7 @@ use Rattle.dm_unit.specs.Sources.{bytes_in, tokens_in, reading_of}
 use Rattle.dm_unit.specs.Definitions.{CannotDefine, DefinesLine, DoesDefine, with_definition, begins_with_name, origin_of, is_plain_head, with_undefined, after_undef, use_of, define_line, define_text, DefinesText, DoesManifest}
 use Rattle.dm_unit.specs.Includes.{Sought, sought, Searches, SearchesFor, LooksAt, is_header_kind, header_name, is_quoted, found_as, number_in, numbered}
 use Rattle.dm_unit.specs.Conditions.{Tested, tested, with_uses, no_condition, Judged, JudgesExpanded, Evaluates, defined_test, names_asked, replaced, is_defined, is_defined_word, use_by}
-use Rattle.dm_unit.specs.Readings.{most_tokens, with_text, after_expansion, after_text, within, pushed, opens, Opens, lost, DoesElifAt, DoesElif, else_in, endif_in, end_in, is_once, with_number, after_pragma, counted, most_inclusions, Includes, DoesInclude, DoesRead, DoesDirective, ReadsPart, ReadsParts, begun, ReadsFile, is_passed, Enters, most_nested, DoesManifests, absent_place, ReadsFound, ReadsMain, ReadsUnit}
+use Rattle.dm_unit.specs.Readings.{with_text, after_expansion, after_text, within, pushed, opens, Opens, lost, DoesElifAt, DoesElif, else_in, endif_in, end_in, is_once, with_number, after_pragma, counted, Includes, DoesInclude, DoesRead, DoesDirective, ReadsPart, ReadsParts, begun, ReadsFile, is_passed, Enters, most_nested, DoesManifests, absent_place, ReadsFound, ReadsMain, ReadsUnit}
 use Rattle.dm_unit.specs.Views.{IsFaultless}
 use Rattle.dm_unit.specs.Outcomes.{seeing, Agree, using, IsLike}
 
@@ -124,7 +126,7 @@ agree-defined wanted start (name ∷ others) s u p =
     let one = use_of s.table name ∷ [] in
     agree-if IsTestedLike (is_identifier name)
     (Ok (tested truth (record s { uses = s.uses ++ one }))) (Ok (tested truth (record s { uses = u ++ one })))
-    (Err (refusal 4 start.place)) (Err (refusal 4 start.place))
+    (Err (refusal refusals.directive start.place)) (Err (refusal refusals.directive start.place))
     (u ++ one, IsPermutation-append_left one s.uses u p, refl) refl
 
 -- CONDITIONAL INCLUSION
@@ -178,7 +180,7 @@ agree-end (section ∷ outer) s u p = refl
 
 agree-expansion : (main : ℕ) (s : State) (u : List Use) (r : Result Answer Stop) → IsPermutation s.uses u → Agree IsLike (after_expansion main s r) (after_expansion main (using u s) r)
 agree-expansion main s u (Ok answer) p =
-    agree-if IsLike (nat_lt most_tokens (length (s.tokens ++ answer.tokens))) (Err (limit 2 main)) (Err (limit 2 main)) (Ok (with_text answer s)) (Ok (with_text answer (using u s)))
+    agree-if IsLike (nat_lt most_tokens (length (s.tokens ++ answer.tokens))) (Err (limit limits.unit_tokens main)) (Err (limit limits.unit_tokens main)) (Ok (with_text answer s)) (Ok (with_text answer (using u s)))
     refl (u, p, refl)
 agree-expansion main s u (Err stop) p = refl
 
@@ -204,26 +206,26 @@ keeps-changes (Some value) P keeps changes = changes keeps
 defines-cannot : (table after : Table) (line : List PpToken) (origin : Origin) (plain : Bool) (stop : Stop) → Defines table line origin plain after → CannotDefine table line origin plain stop → ⊥
 defines-cannot table after line origin plain stop x (inl y) = y.0 x.0 x.1
 defines-cannot table after line origin plain stop x (inr (inl y)) =
-    none-some (bare_hash y.0) (λ operator. stop ≡ refused 11 operator.place) (ap bare_hash (gives-one line origin plain y.0 x.0 y.1 x.1) ∙ x.2) y.2
+    none-some (bare_hash y.0) (λ operator. stop ≡ refused refusals.hash_operand operator.place) (ap bare_hash (gives-one line origin plain y.0 x.0 y.1 x.1) ∙ x.2) y.2
 defines-cannot table after line origin plain stop x (inr (inr y)) =
     keeps-changes (defined table y.0.name) (λ earlier. AreSame earlier y.0)
     (subst (λ (d : Definition). IfSome (defined table d.name) (λ earlier. AreSame earlier d)) (gives-one line origin plain x.0 y.0 x.1 y.1) x.3) y.3
 
 cannot-once : (table : Table) (line : List PpToken) (origin : Origin) (plain : Bool) (a b : Stop) → CannotDefine table line origin plain a → CannotDefine table line origin plain b → a ≡ b
-cannot-once table line origin plain a b (inl x) (inl y) = some-once (slice_get line 0) (λ hash. refused 5 hash.place) a b x.1 y.1
+cannot-once table line origin plain a b (inl x) (inl y) = some-once (slice_get line 0) (λ hash. refused refusals.form hash.place) a b x.1 y.1
 cannot-once table line origin plain a b (inl x) (inr (inl y)) = absurd (x.0 y.0 y.1)
 cannot-once table line origin plain a b (inl x) (inr (inr y)) = absurd (x.0 y.0 y.1)
 cannot-once table line origin plain a b (inr (inl x)) (inl y) = absurd (y.0 x.0 x.1)
 cannot-once table line origin plain a b (inr (inr x)) (inl y) = absurd (y.0 x.0 x.1)
 cannot-once table line origin plain a b (inr (inl x)) (inr (inl y)) =
-    some-once (bare_hash y.0) (λ operator. refused 11 operator.place) a b
-    (subst (λ (d : Definition). IsSomeAnd (bare_hash d) (λ operator. a ≡ refused 11 operator.place)) (gives-one line origin plain x.0 y.0 x.1 y.1) x.2) y.2
+    some-once (bare_hash y.0) (λ operator. refused refusals.hash_operand operator.place) a b
+    (subst (λ (d : Definition). IsSomeAnd (bare_hash d) (λ operator. a ≡ refused refusals.hash_operand operator.place)) (gives-one line origin plain x.0 y.0 x.1 y.1) x.2) y.2
 cannot-once table line origin plain a b (inr (inl x)) (inr (inr y)) =
-    absurd (none-some (bare_hash x.0) (λ operator. a ≡ refused 11 operator.place) (ap bare_hash (gives-one line origin plain x.0 y.0 x.1 y.1) ∙ y.2) x.2)
+    absurd (none-some (bare_hash x.0) (λ operator. a ≡ refused refusals.hash_operand operator.place) (ap bare_hash (gives-one line origin plain x.0 y.0 x.1 y.1) ∙ y.2) x.2)
 cannot-once table line origin plain a b (inr (inr x)) (inr (inl y)) =
-    absurd (none-some (bare_hash y.0) (λ operator. b ≡ refused 11 operator.place) (ap bare_hash (gives-one line origin plain y.0 x.0 y.1 x.1) ∙ x.2) y.2)
+    absurd (none-some (bare_hash y.0) (λ operator. b ≡ refused refusals.hash_operand operator.place) (ap bare_hash (gives-one line origin plain y.0 x.0 y.1 x.1) ∙ x.2) y.2)
 cannot-once table line origin plain a b (inr (inr x)) (inr (inr y)) =
-    x.4 ∙ ap (λ (d : Definition). refused 12 d.place) (gives-one line origin plain x.0 y.0 x.1 y.1) ∙ sym y.4
+    x.4 ∙ ap (λ (d : Definition). refused refusals.redefinition d.place) (gives-one line origin plain x.0 y.0 x.1 y.1) ∙ sym y.4
 
 -- what a line does while there is work left
 abbrev DefinesOrNot : List PpToken → Origin → Bool → State → Outcome → Type 0
@@ -244,8 +246,8 @@ once-defines line origin plain s u p a b (inr x) (inr y) ca cb =
 once-line : (main : ℕ) (line : List PpToken) (origin : Origin) (plain : Bool) (s : State) (u : List Use) → IsPermutation s.uses u
     → Once IsLike (DefinesLine main line origin plain s) (DefinesLine main line origin plain (using u s))
 once-line main line origin plain s u p =
-    once-match IsLike (nat_lt s.spent greatest_work) (DefinesOrNot line origin plain s) (DefinesOrNot line origin plain (using u s))
-    (λ r. r ≡ Err (limit 3 main)) (λ r. r ≡ Err (limit 3 main)) (once-defines line origin plain s u p) (once-is IsLike (Err (limit 3 main)) (Err (limit 3 main)) refl)
+    once-match IsLike (nat_lt s.spent most_work) (DefinesOrNot line origin plain s) (DefinesOrNot line origin plain (using u s))
+    (λ r. r ≡ Err (limit limits.work main)) (λ r. r ≡ Err (limit limits.work main)) (once-defines line origin plain s u p) (once-is IsLike (Err (limit limits.work main)) (Err (limit limits.work main)) refl)
 
 once-define : (main file : ℕ) (bytes : List ℕ) (start : PpToken) (behind : List PpToken) (s : State) (u : List Use) → IsPermutation s.uses u
     → Once IsLike (DoesDefine main file bytes start behind s) (DoesDefine main file bytes start behind (using u s))
@@ -253,13 +255,13 @@ once-define main file bytes start behind s u p =
     let plain = is_plain_head bytes start (start ∷ behind) in
     once-match IsLike (begins_with_name (drop 1 behind))
     (DefinesLine main (start ∷ behind) (origin_of file) plain s) (DefinesLine main (start ∷ behind) (origin_of file) plain (using u s))
-    (λ r. r ≡ Err (refusal 4 start.place)) (λ r. r ≡ Err (refusal 4 start.place))
-    (once-line main (start ∷ behind) (origin_of file) plain s u p) (once-is IsLike (Err (refusal 4 start.place)) (Err (refusal 4 start.place)) refl)
+    (λ r. r ≡ Err (refusal refusals.directive start.place)) (λ r. r ≡ Err (refusal refusals.directive start.place))
+    (once-line main (start ∷ behind) (origin_of file) plain s u p) (once-is IsLike (Err (refusal refusals.directive start.place)) (Err (refusal refusals.directive start.place)) refl)
 
 agree-undef : (start : PpToken) (operands : List PpToken) (s : State) (u : List Use) → IsPermutation s.uses u → Agree IsLike (after_undef start operands s) (after_undef start operands (using u s))
 agree-undef start [] s u p = refl
 agree-undef start (name ∷ others) s u p =
-    agree-if IsLike (is_macro_name name) (Ok (with_undefined name s)) (Ok (with_undefined name (using u s))) (Err (refusal 4 start.place)) (Err (refusal 4 start.place)) (u, p, refl) refl
+    agree-if IsLike (is_macro_name name) (Ok (with_undefined name s)) (Ok (with_undefined name (using u s))) (Err (refusal refusals.directive start.place)) (Err (refusal refusals.directive start.place)) (u, p, refl) refl
 
 once-text : (main : ℕ) (define : List ℕ) (r : Result (List PpToken) Refusal) (s : State) (u : List Use) → IsPermutation s.uses u
     → Once IsLike (DefinesText main define r s) (DefinesText main define r (using u s))
@@ -314,26 +316,26 @@ EntersOnce E E' = (file : ℕ) (s : State) (u : List Use) → IsPermutation s.us
 once-includes : (setting : Setting) (looked : List ℕ → Bool) (named : ℕ → List ℕ) (E E' : ℕ → State → Outcome → Type 0) → EntersOnce E E'
     → (start : PpToken) (number : Option ℕ) (files : Catalogue) (s : State) (u : List Use) → IsPermutation s.uses u
     → Once IsLike (Includes setting E start number files s) (Includes (seeing looked named setting) E' start number files (using u s))
-once-includes setting looked named E E' enters start None files s u p = once-is IsLike (Err (refusal 7 start.place)) (Err (refusal 7 start.place)) refl
+once-includes setting looked named E E' enters start None files s u p = once-is IsLike (Err (refusal refusals.not_found start.place)) (Err (refusal refusals.not_found start.place)) refl
 once-includes setting looked named E E' enters start (Some number) files s u p =
     once-match IsLike (nat_lt s.inclusions most_inclusions) (E number (counted files s)) (E' number (counted files (using u s)))
-    (λ r. r ≡ Err (limit 9 setting.main)) (λ r. r ≡ Err (limit 9 setting.main))
-    (enters number (counted files s) u p) (once-is IsLike (Err (limit 9 setting.main)) (Err (limit 9 setting.main)) refl)
+    (λ r. r ≡ Err (limit limits.inclusions setting.main)) (λ r. r ≡ Err (limit limits.inclusions setting.main))
+    (enters number (counted files s) u p) (once-is IsLike (Err (limit limits.inclusions setting.main)) (Err (limit limits.inclusions setting.main)) refl)
 
 once-include : (setting : Setting) (looked : List ℕ → Bool) (named : ℕ → List ℕ) (E E' : ℕ → State → Outcome → Type 0) → EntersOnce E E'
     → (file : ℕ) (start : PpToken) (operands : List PpToken) (s : State) (u : List Use) → IsPermutation s.uses u
     → Once IsLike (DoesInclude setting E file start operands s) (DoesInclude (seeing looked named setting) E' file start operands (using u s))
-once-include setting looked named E E' enters file start [] s u p = once-is IsLike (Err (refusal 4 start.place)) (Err (refusal 4 start.place)) refl
+once-include setting looked named E E' enters file start [] s u p = once-is IsLike (Err (refusal refusals.directive start.place)) (Err (refusal refusals.directive start.place)) refl
 once-include setting looked named E E' enters file start (header ∷ others) s u p =
     let goes = λ (sought : Sought) (outcome : Outcome). Includes setting E start sought.number sought.files s outcome in
     let goes' = λ (sought : Sought) (outcome : Outcome). Includes (seeing looked named setting) E' start sought.number sought.files (using u s) outcome in
     once-match IsLike (is_header_kind header.kind)
     (Then (SearchesFor setting file header.spelling s.files) goes) (Then (SearchesFor (seeing looked named setting) file header.spelling s.files) goes')
-    (λ r. r ≡ Err (refusal 18 start.place)) (λ r. r ≡ Err (refusal 18 start.place))
+    (λ r. r ≡ Err (refusal refusals.out_of_subset start.place)) (λ r. r ≡ Err (refusal refusals.out_of_subset start.place))
     (once-then IsSame IsLike (SearchesFor setting file header.spelling s.files) (SearchesFor (seeing looked named setting) file header.spelling s.files) goes goes'
     (once-searches-for setting looked named file header.spelling s.files)
     (λ m n same. subst (λ n. Once IsLike (goes m) (goes' n)) same (once-includes setting looked named E E' enters start m.number m.files s u p)))
-    (once-is IsLike (Err (refusal 18 start.place)) (Err (refusal 18 start.place)) refl)
+    (once-is IsLike (Err (refusal refusals.out_of_subset start.place)) (Err (refusal refusals.out_of_subset start.place)) refl)
 
 -- DIRECTIVES
 
@@ -344,14 +346,14 @@ once-read setting looked named E E' enters file Include start behind s u p = onc
 once-read setting looked named E E' enters file Define start behind s u p = once-define setting.main file (bytes_in setting s.files file) start behind s u p
 once-read setting looked named E E' enters file Undef start behind s u p =
     once-is IsLike (after_undef start (drop 1 behind) s) (after_undef start (drop 1 behind) (using u s)) (agree-undef start (drop 1 behind) s u p)
-once-read setting looked named E E' enters file Line start behind s u p = once-is IsLike (Err (refusal 18 start.place)) (Err (refusal 18 start.place)) refl
-once-read setting looked named E E' enters file Error start behind s u p = once-is IsLike (Err (refusal 14 start.place)) (Err (refusal 14 start.place)) refl
+once-read setting looked named E E' enters file Line start behind s u p = once-is IsLike (Err (refusal refusals.out_of_subset start.place)) (Err (refusal refusals.out_of_subset start.place)) refl
+once-read setting looked named E E' enters file Error start behind s u p = once-is IsLike (Err (refusal refusals.error_directive start.place)) (Err (refusal refusals.error_directive start.place)) refl
 once-read setting looked named E E' enters file Pragma start behind s u p =
     once-is IsLike (after_pragma file start (drop 1 behind) s) (after_pragma file start (drop 1 behind) (using u s))
     (agree-if IsLike (is_once (drop 1 behind)) (Ok (record s { once = with_number s.once file })) (Ok (record (using u s) { once = with_number s.once file }))
-    (Err (refusal 18 start.place)) (Err (refusal 18 start.place)) (u, p, refl) refl)
+    (Err (refusal refusals.out_of_subset start.place)) (Err (refusal refusals.out_of_subset start.place)) (u, p, refl) refl)
 once-read setting looked named E E' enters file Null start behind s u p = once-is IsLike (Ok s) (Ok (using u s)) (u, p, refl)
-once-read setting looked named E E' enters file Unknown start behind s u p = once-is IsLike (Err (refusal 4 start.place)) (Err (refusal 4 start.place)) refl
+once-read setting looked named E E' enters file Unknown start behind s u p = once-is IsLike (Err (refusal refusals.directive start.place)) (Err (refusal refusals.directive start.place)) refl
 once-read setting looked named E E' enters file other start behind s u p = λ a b x y ca cb. absurd x
 
 -- a directive that is done only where the group is read
@@ -420,7 +422,7 @@ once-file setting looked named E E' enters file s u p =
 
 once-enters : (setting : Setting) (looked : List ℕ → Bool) (named : ℕ → List ℕ) (more : ℕ) → EntersOnce (Enters setting more) (Enters (seeing looked named setting) more)
 unfolding Enters
-once-enters setting looked named zero file s u p = once-is IsLike (Err (limit 4 setting.main)) (Err (limit 4 setting.main)) refl
+once-enters setting looked named zero file s u p = once-is IsLike (Err (limit limits.nested_files setting.main)) (Err (limit limits.nested_files setting.main)) refl
 once-enters setting looked named (suc more) file s u p =
     once-match IsLike (is_passed file s) (λ r. r ≡ Ok s) (λ r. r ≡ Ok (using u s))
     (ReadsFile setting (Enters setting more) file s) (ReadsFile (seeing looked named setting) (Enters (seeing looked named setting) more) file (using u s))
@@ -431,7 +433,7 @@ once-enters setting looked named (suc more) file s u p =
 
 once-found : (setting : Setting) (looked : List ℕ → Bool) (named : ℕ → List ℕ) (number : Option ℕ) (files : Catalogue) (s : State) (u : List Use) → IsPermutation s.uses u
     → Once IsLike (ReadsFound setting number files s) (ReadsFound (seeing looked named setting) number files (using u s))
-once-found setting looked named None files s u p = once-is IsLike (Err (refusal 7 (absent_place setting.main))) (Err (refusal 7 (absent_place setting.main))) refl
+once-found setting looked named None files s u p = once-is IsLike (Err (refusal refusals.not_found (absent_place setting.main))) (Err (refusal refusals.not_found (absent_place setting.main))) refl
 once-found setting looked named (Some number) files s u p =
     once-file setting looked named (Enters setting most_nested) (Enters (seeing looked named setting) most_nested) (once-enters setting looked named most_nested) number (record s { files = files }) u p
 

@@ -1,6 +1,9 @@
 -- What the part of a file does that the code reads.
-use Rattle.std.proofs.Common.{◌≡◌, ℕ, ◌≤◌, true, false, cond, inl, inr, List, [], ◌∷◌, length, drop, get_or, Option, None, Some, Result, Ok, Err, MatchBool, slice_index_or, refl, sym, ap, ◌∙◌, subst, arith}
+use Rattle.std.proofs.Common.{◌≡◌, ℕ, ◌≤◌, true, cond, inl, inr, List, [], ◌∷◌, length, drop, get_or, Option, None, Some, Result, Ok, Err, MatchBool, slice_index_or, refl, sym, ap, ◌∙◌, subst, arith}
 use Rattle.std.proofs.lemmas.Bool.{lt-ltb, le-ltb}
+use Rattle.dm_token.specs.Limits.{most_inclusions}
+use Rattle.dm_token.specs.LimitNumbers as limits
+use Rattle.dm_token.specs.Refusals as refusals
 use Rattle.dm_token.specs.declared.token.PpToken.{PpToken}
 use Rattle.dm_token.specs.declared.stop.Stop.{Stop}
 use Rattle.dm_token.specs.declared.stop.Stop.TheVariants.{Memory, Refused, Limit, ReadFault}
@@ -17,8 +20,7 @@ use Rattle.dm_unit.specs.Sections.{is_read}
 use Rattle.dm_unit.specs.States.{Setting, Catalogue, State, Outcome, Then, refusal, limit}
 use Rattle.dm_unit.specs.Includes.{Sought, sought, Searches, SearchesFor, is_header_kind, header_name}
 use Rattle.dm_unit.specs.Readings.{ReadsPart, DoesDirective, DoesInclude, Includes, Enters, counted}
-use Rattle.dm_unit.specs.Views.{state_of, Stops, IsHeader, LacksHeader, FindsIncluded, SearchesHeader, IncludesStop, IncludesOne, part_of}
-use Rattle.dm_unit.proofs.ReadingLemmas.{stops-map}
+use Rattle.dm_unit.specs.Views.{state_of, Stops, IsHeader, FindsIncluded, SearchesHeader, IncludesStop, IncludesOne, part_of}
 
 -- THE LINE OF A DIRECTIVE
 
@@ -55,7 +57,7 @@ with-header : (setting : Setting) (more file : ℕ) (start header : PpToken) (ot
     → DoesInclude setting (Enters setting more) file start (header ∷ others) state outcome
 with-header setting more file start header others state outcome is does =
     subst (λ b. MatchBool b (Then (SearchesFor setting file header.spelling state.files) (λ (found : Sought) (result : Outcome). Includes setting (Enters setting more) start found.number found.files state result) outcome)
-    (outcome ≡ Err (refusal 18 start.place))) (sym is) does
+    (outcome ≡ Err (refusal refusals.out_of_subset start.place))) (sym is) does
 
 -- a file is found and entered
 pub include-enters : (setting : Setting) (more file : ℕ) (start : PpToken) (operands : List PpToken) (found : Header) (old new : Reader) (before after : Catalogue) (number : ℕ) (outcome : Outcome) → IsHeader start operands found
@@ -67,7 +69,7 @@ include-enters setting more file start (header ∷ others) found old new before 
     (inr (
       sought (Some number) after,
       header-search setting file start header others found before (Ok (sought (Some number) after)) is finds,
-      subst (λ b. MatchBool b (Enters setting more number (counted after (state_of old before)) outcome) (outcome ≡ Err (limit 9 setting.main))) (sym (lt-ltb old.inclusions 16384 one.0))
+      subst (λ b. MatchBool b (Enters setting more number (counted after (state_of old before)) outcome) (outcome ≡ Err (limit limits.inclusions setting.main))) (sym (lt-ltb old.inclusions most_inclusions one.0))
           (subst (λ (s : State). Enters setting more number s outcome) (ap (λ (r : Reader). state_of r after) one.1) enters),
     ))
 
@@ -84,19 +86,9 @@ include-stops setting more file start (header ∷ others) found old before stop 
     (inr (goes.0, header-search setting file start header others found before (Ok goes.0) is goes.1, by goes.0.number goes.2))
   where
     by : (number : Option ℕ) → IncludesStop setting.main found.start old.inclusions number (Err stop) → Includes setting (Enters setting more) start number goes.0.files (state_of old before) (Err stop)
-    by None e = e ∙ ap (λ place. Err (refusal 7 place)) is.1
+    by None e = e ∙ ap (λ place. Err (refusal refusals.not_found place)) is.1
     by (Some number) e =
-        subst (λ b. MatchBool b (Enters setting more number (counted goes.0.files (state_of old before)) (Err stop)) (◌≡◌ {A = Outcome} (Err stop) (Err (limit 9 setting.main)))) (sym (le-ltb old.inclusions 16384 e.0)) e.1
-
--- or there is no header name
-pub include-lacks : (setting : Setting) (more file : ℕ) (start : PpToken) (operands : List PpToken) (state : State) (stop : Stop) → LacksHeader start operands stop
-    → Stops (DoesInclude setting (Enters setting more) file start operands state) stop
-include-lacks setting more file start [] state stop lacks = lacks
-include-lacks setting more file start (header ∷ others) state stop lacks =
-    stops-map (λ (outcome : Outcome). (is_header_kind header.kind ≡ false) × (outcome ≡ Err (refusal 18 start.place))) (DoesInclude setting (Enters setting more) file start (header ∷ others) state) stop
-    (λ other is. subst (λ b. MatchBool b (Then (SearchesFor setting file header.spelling state.files) (λ (found : Sought) (result : Outcome). Includes setting (Enters setting more) start found.number found.files state result) (Err other))
-    (◌≡◌ {A = Outcome} (Err other) (Err (refusal 18 start.place)))) (sym is.0) is.1)
-    lacks
+        subst (λ b. MatchBool b (Enters setting more number (counted goes.0.files (state_of old before)) (Err stop)) (◌≡◌ {A = Outcome} (Err stop) (Err (limit limits.inclusions setting.main)))) (sym (le-ltb old.inclusions most_inclusions e.0)) e.1
 
 -- THE PART
 

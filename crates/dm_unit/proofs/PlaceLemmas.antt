@@ -2,6 +2,7 @@
 use Rattle.std.proofs.Common.{◌≡◌, ◌≢◌, ℕ, zero, suc, Bool, true, false, cond, not, ◌&&◌, ◌⊎◌, inl, inr, List, [], ◌∷◌, ◌++◌, map, drop, Option, None, Some, IsSomeAnd, slice_get, Result, Ok, Err, bytes_eq, refl, sym, ap, ◌∙◌, subst}
 use Rattle.std.specs.List.{list_any, after_first}
 use Rattle.std.specs.Option.{option_map_or}
+use Rattle.dm_token.specs.Refusals as refusals
 use Rattle.dm_token.specs.declared.token.PpToken.{PpToken}
 use Rattle.dm_token.specs.declared.stop.Refusal.{Refusal}
 use Rattle.dm_token.specs.declared.stop.Stop.{Stop}
@@ -21,10 +22,9 @@ use Rattle.dm_search.specs.Loaded.{Loaded, name_of, is_held, is_absent}
 use Rattle.dm_search.specs.Loading.{Loads}
 use Rattle.dm_unit.specs.Sources.{reading_of, tokens_of_flat, tokens_or_open}
 use Rattle.dm_unit.specs.Definitions.{at_start, one_token, implied_body, is_equals_sign, define_text}
-use Rattle.dm_unit.specs.Loaders.{Grows, IsOf, file_of}
-use Rattle.dm_unit.specs.Views.{AreIn, NamesMain, HoldsMain, IsHeld, IsLineOf, TextStops, named_by, stop_of}
+use Rattle.dm_unit.specs.Loaders.{IsOf, file_of}
+use Rattle.dm_unit.specs.Views.{AreIn, NamesMain, IsLineOf, TextStops}
 use Rattle.dm_unit.proofs.GrowLemmas.{refused-file}
-use Rattle.dm_unit.proofs.FileLemmas.{held-grows}
 use Rattle.dm_unit.proofs.SearchLemmas.{stop-file}
 
 -- TOKENS IN A FILE
@@ -92,12 +92,12 @@ pub refuses-main : (main : ℕ) (table : Table) (line : List PpToken) (origin : 
 refuses-main main table line origin plain stop all (inl memory) not = absurd (not memory)
 refuses-main main table line origin plain stop all (inr (inl misformed)) not = by line all misformed.1
   where
-    by : (ts : List PpToken) → AreIn main ts → IsSomeAnd (slice_get ts 0) (λ hash. stop ≡ refused 5 hash.place) → IsOf (file_of stop) main
+    by : (ts : List PpToken) → AreIn main ts → IsSomeAnd (slice_get ts 0) (λ hash. stop ≡ refused refusals.form hash.place) → IsOf (file_of stop) main
     by [] all is = absurd is
     by (t ∷ ts) all is = subst (λ s. IsOf (file_of s) main) (sym is) (sym all.0)
 refuses-main main table line origin plain stop all (inr (inr (inl bare))) not = by (bare_hash bare.0) refl bare.2
   where
-    by : (o : Option PpToken) → bare_hash bare.0 ≡ o → IsSomeAnd o (λ operator. stop ≡ refused 11 operator.place) → IsOf (file_of stop) main
+    by : (o : Option PpToken) → bare_hash bare.0 ≡ o → IsSomeAnd o (λ operator. stop ≡ refused refusals.hash_operand operator.place) → IsOf (file_of stop) main
     by None e is = absurd is
     by (Some t) e is = subst (λ s. IsOf (file_of s) main) (sym is) (sym ((gives-in main line origin plain bare.0 all bare.1).1 t e))
 refuses-main main table line origin plain stop all (inr (inr (inr redefines))) not =
@@ -150,12 +150,3 @@ load-names told old file (Err stop) new held absent read = λ not. by (is_held o
         wrong : (there : Bool) → ◌≡◌ {A = Result Bool Stop} (Err stop) (Ok there) → ⊥
         wrong there e = cc
     by false false h e not = stop-file told (name_of old file) old file stop (read h e).0 not
-
--- a main file that is held stays
-pub holds-main : {A : Type 0} (main : ℕ) (old new : Loaded) (result : Result A Stop) → IsHeld old main → (stop_of result ≢ Some Memory → Grows (named_by (stop_of result)) old new) → HoldsMain main result new
-holds-main main old new (Ok answer) is grows = (held-grows None old new main (grows (λ e. cc)) is).held
-holds-main main old new (Err stop) is grows = λ not. inl (held-grows (file_of stop) old new main (grows (λ e. not (let same : stop ≡ Memory = cc in same))) is).held
-
--- a stop that names it
-pub named-holds : {A : Type 0} (main : ℕ) (result : Result A Stop) (stop : Stop) (new : Loaded) → result ≡ Err stop → (stop ≢ Memory → IsOf (file_of stop) main) → HoldsMain main result new
-named-holds main result stop new is names = subst (λ r. HoldsMain main r new) (sym is) (λ not. inr (names not))

@@ -1,5 +1,8 @@
 -- How a reading goes on.
 use Rattle.std.proofs.Common.{◌≡◌, ℕ, suc, true, false, inl, inr, List, [], ◌∷◌, None, Some, Result, Ok, Err, MatchBool, refl, sym, subst}
+use Rattle.dm_token.specs.Limits as greatest
+use Rattle.dm_token.specs.LimitNumbers as limits
+use Rattle.dm_token.specs.Refusals as refusals
 use Rattle.dm_token.specs.declared.stop.Stop.{Stop}
 use Rattle.dm_token.specs.declared.stop.Stop.TheVariants.{Memory, Refused, Limit, ReadFault}
 use Rattle.dm_unit.specs.States.{Setting, Catalogue, State, Outcome, Then, refusal, limit}
@@ -50,7 +53,7 @@ file-stops setting more file state stop stops =
 
 -- AN INCLUDED FILE
 
-pub enters-none : (setting : Setting) (file : ℕ) (state : State) → Enters setting 0 file state (Err (limit 4 setting.main))
+pub enters-none : (setting : Setting) (file : ℕ) (state : State) → Enters setting 0 file state (Err (limit limits.nested_files setting.main))
 unfolding Enters
 enters-none setting file state = refl
 
@@ -90,7 +93,7 @@ unfolding ReadsUnit
 unit-reads setting name defines state middle outcome first rest = inr (middle, first, rest)
 
 -- the main file is absent
-pub main-absent : (setting : Setting) (name : List ℕ) (state : State) (files : Catalogue) → Searches setting None (name ∷ []) state.files (Ok (sought None files)) → ReadsMain setting name state (Err (refusal 7 (absent_place setting.main)))
+pub main-absent : (setting : Setting) (name : List ℕ) (state : State) (files : Catalogue) → Searches setting None (name ∷ []) state.files (Ok (sought None files)) → ReadsMain setting name state (Err (refusal refusals.not_found (absent_place setting.main)))
 main-absent setting name state files search = inr (sought None files, search, refl)
 
 -- its search stops
@@ -102,6 +105,6 @@ pub main-reads : (setting : Setting) (name : List ℕ) (state : State) (number :
     → ReadsFile setting (Enters setting most_nested) number (record state { files = files }) outcome → ReadsMain setting name state outcome
 main-reads setting name state number files outcome search reads = inr (sought (Some number) files, search, reads)
 
-pub most_nested-is : most_nested ≡ 64
+pub most_nested-is : most_nested ≡ greatest.most_nested
 unfolding most_nested
 most_nested-is = refl

@@ -1,22 +1,24 @@
 -- A search by a loader is the search of the definition.
-use Rattle.std.proofs.Common.{◌≡◌, ◌≢◌, ℕ, ◌<◌, ◌≤◌, Bool, true, false, cond, ◌||◌, ◌⊎◌, inl, inr, List, [], ◌∷◌, length, drop, map, count_by, Option, None, Some, Result, Ok, Err, is_some, get_or, nat_lt, nat_le, refl, sym, ap, ◌∙◌, subst, arith, bytes_eq, true≢false}
+use Rattle.std.proofs.Common.{◌≡◌, ◌≢◌, ℕ, ◌<◌, ◌≤◌, Bool, true, false, cond, ◌||◌, ◌⊎◌, inl, inr, List, [], ◌∷◌, length, drop, map, count_by, Option, None, Some, Result, Ok, Err, is_some, get_or, nat_lt, nat_le, refl, sym, ap, ◌∙◌, subst, arith, bytes_eq}
 use Rattle.std.proofs.lemmas.Bool.{lt-leb, le-leb}
 use Rattle.std.proofs.lemmas.List.{drop-map}
 use Rattle.std.proofs.lemmas.List.Sums.{sum_by-append}
 use Rattle.std.proofs.lemmas.List.Folds.{list_any-append}
 use Rattle.std.proofs.lemmas.Slice.Eq.{bytes_eq-Decides}
+use Rattle.dm_token.specs.LimitNumbers as limits
 use Rattle.dm_token.specs.declared.stop.Stop.{Stop}
 use Rattle.dm_token.specs.declared.stop.Stop.TheVariants.{Memory, Refused, Limit, ReadFault}
-use Rattle.dm_token.specs.Limits.{source_length_limit}
-use Rattle.dm_io.specs.declared.folder.Got.TheVariants.{Bytes, Absent, Long}
+use Rattle.dm_token.specs.Limits.{source_length_limit, most_files}
+use Rattle.dm_io.specs.declared.folder.Got.TheVariants.{Bytes, Long}
 use Rattle.dm_io.specs.Answers as io
 use Rattle.dm_io.specs.Files.{Files, file_at}
-use Rattle.dm_search.specs.Loaded.{Loaded, number_of, name_of, held_at, is_held, is_absent, with_name, with_bytes, without_file}
+use Rattle.dm_search.specs.Loaded.{Loaded, number_of, name_of, held_at, is_held, is_absent, with_name, with_bytes}
 use Rattle.dm_search.specs.Loaded as loaded
 use Rattle.dm_search.specs.CallFiles.{known_or, file_for}
 use Rattle.dm_search.specs.Readable.{IsReadable}
-use Rattle.dm_search.specs.Loading.{HasBytes, StopsLoading, Loads, most_files}
+use Rattle.dm_search.specs.Loading.{HasBytes, StopsLoading, Loads}
 use Rattle.dm_search.specs.Searching.{IsUnknown, PassesOver, EndsAt, Finds}
+use Rattle.dm_search.proofs.CallLemmas.{nothing-known, passed-none, passes-same}
 use Rattle.dm_unit.specs.States.{Setting, Catalogue, limit}
 use Rattle.dm_unit.specs.Sources.{reading_of}
 use Rattle.dm_unit.specs.Loaders.{Grows, IsOf, is_known, shown, file_of, stopped_at}
@@ -28,23 +30,6 @@ use Rattle.dm_unit.proofs.GrowLemmas.{some-of, grows-refl, grows-trans, grows-ab
 
 -- WHAT IS KNOWN OF A FILE
 
-nothing-known : (held : Option (List ℕ)) (absent : Bool) (file : Option (List ℕ)) → is_some held ≡ false → absent ≡ false → known_or held absent file ≡ file
-nothing-known (Some bytes) absent file h a = absurd (true≢false h)
-nothing-known None true file h a = absurd (true≢false a)
-nothing-known None false file h a = refl
-
-absent-known : (held : Option (List ℕ)) (absent : Bool) (file : Option (List ℕ)) → is_some held ≡ false → absent ≡ true → known_or held absent file ≡ None
-absent-known (Some bytes) absent file h a = absurd (true≢false h)
-absent-known None true file h a = refl
-absent-known None false file h a = absurd (true≢false (sym a))
-
-known-none : (held : Option (List ℕ)) (a b : Bool) (file : Option (List ℕ)) → file ≡ None → known_or held a file ≡ known_or held b file
-known-none (Some bytes) a b file none = refl
-known-none None true true file none = refl
-known-none None true false file none = sym none
-known-none None false true file none = none
-known-none None false false file none = refl
-
 -- the file of a name of which nothing is known is the folder's
 pub unknown-file : (files : Files) (old : Loaded) (name : List ℕ) → IsUnknown old name → file_for old files name ≡ file_at files name
 unknown-file files old name unknown = nothing-known (held_at old (number_of old name)) (is_absent old name) (file_at files name) unknown.0 unknown.1
@@ -54,14 +39,6 @@ pub held-file : (files : Files) (old : Loaded) (name bytes : List ℕ) → held_
 held-file files old name bytes held = ap (λ o. known_or o (is_absent old name) (file_at files name)) held
 
 -- WHAT A READING SAYS
-
-read-none : (file : Option (List ℕ)) → Absent ≡ io.reading_of file source_length_limit → file ≡ None
-read-none None is = refl
-read-none (Some bytes) is = absurd (by (nat_lt source_length_limit (length bytes)) is)
-  where
-    by : (b : Bool) → Absent ≡ cond b Long (Bytes bytes) → ⊥
-    by true e = cc
-    by false e = cc
 
 pub read-bytes : (file : Option (List ℕ)) (bytes : List ℕ) → Bytes bytes ≡ io.reading_of file source_length_limit → (file ≡ Some bytes) × (nat_lt source_length_limit (length bytes) ≡ false)
 read-bytes None bytes is = absurd (cc)
@@ -96,22 +73,22 @@ found-count l = ap (count_by (λ w. w)) (drop-map is_some 6 l.held) ∙ count-ma
 found-new : (l : Loaded) (number : ℕ) (bytes : List ℕ) → is_held l number ≡ false → found_as number bytes (shown l) ≡ first_found number bytes (shown l)
 found-new l number bytes none = ap (λ b. cond b (Ok (sought (Some number) (shown l))) (first_found number bytes (shown l))) (found-is l number ∙ none)
 
-first-long : (files : Catalogue) (number : ℕ) (bytes : List ℕ) → nat_lt source_length_limit (length bytes) ≡ true → first_found number bytes files ≡ Err (limit 1 number)
+first-long : (files : Catalogue) (number : ℕ) (bytes : List ℕ) → nat_lt source_length_limit (length bytes) ≡ true → first_found number bytes files ≡ Err (limit limits.file_bytes number)
 unfolding first_found
 first-long files number bytes long =
-    ap (λ b. cond b (Err (limit 1 number)) (cond (nat_le most_files (found_files files)) (Err (limit 6 number)) (if_readable number files (reading_of number bytes)))) long
+    ap (λ b. cond b (Err (limit limits.file_bytes number)) (cond (nat_le most_files (found_files files)) (Err (limit limits.files number)) (if_readable number files (reading_of number bytes)))) long
 
-first-many : (files : Catalogue) (number : ℕ) (bytes : List ℕ) → nat_lt source_length_limit (length bytes) ≡ false → nat_le most_files (found_files files) ≡ true → first_found number bytes files ≡ Err (limit 6 number)
+first-many : (files : Catalogue) (number : ℕ) (bytes : List ℕ) → nat_lt source_length_limit (length bytes) ≡ false → nat_le most_files (found_files files) ≡ true → first_found number bytes files ≡ Err (limit limits.files number)
 unfolding first_found
 first-many files number bytes short many =
-    ap (λ b. cond b (Err (limit 1 number)) (cond (nat_le most_files (found_files files)) (Err (limit 6 number)) (if_readable number files (reading_of number bytes)))) short
-    ∙ ap (λ b. cond b (Err (limit 6 number)) (if_readable number files (reading_of number bytes))) many
+    ap (λ b. cond b (Err (limit limits.file_bytes number)) (cond (nat_le most_files (found_files files)) (Err (limit limits.files number)) (if_readable number files (reading_of number bytes)))) short
+    ∙ ap (λ b. cond b (Err (limit limits.files number)) (if_readable number files (reading_of number bytes))) many
 
 first-read : (files : Catalogue) (number : ℕ) (bytes : List ℕ) → nat_lt source_length_limit (length bytes) ≡ false → nat_le most_files (found_files files) ≡ false → first_found number bytes files ≡ if_readable number files (reading_of number bytes)
 unfolding first_found
 first-read files number bytes short few =
-    ap (λ b. cond b (Err (limit 1 number)) (cond (nat_le most_files (found_files files)) (Err (limit 6 number)) (if_readable number files (reading_of number bytes)))) short
-    ∙ ap (λ b. cond b (Err (limit 6 number)) (if_readable number files (reading_of number bytes))) few
+    ap (λ b. cond b (Err (limit limits.file_bytes number)) (cond (nat_le most_files (found_files files)) (Err (limit limits.files number)) (if_readable number files (reading_of number bytes)))) short
+    ∙ ap (λ b. cond b (Err (limit limits.files number)) (if_readable number files (reading_of number bytes))) few
 
 few-found : (l : Loaded) → loaded.found_files l < most_files → nat_le most_files (found_files (shown l)) ≡ false
 few-found l few = let count = found-count l in lt-leb most_files (found_files (shown l)) (omega (arith, count, few))
@@ -221,26 +198,6 @@ passes-absent told name old next (inr unknown) =
     ap (λ (l : Loaded). is_absent l name) unknown.2 ∙ list_any-append (bytes_eq name) old.absent (name ∷ [])
     ∙ ap (λ b. is_absent old name || (b || false)) ((bytes_eq-Decides name name).1 refl) ∙ or-true (is_absent old name)
 
-pub passes-none : (files : Files) (name : List ℕ) (old next : Loaded) → PassesOver (Some files) name old next → file_for old files name ≡ None
-passes-none files name old next (inl known) = absent-known (held_at old (number_of old name)) (is_absent old name) (file_at files name) known.0.0 known.0.1
-passes-none files name old next (inr unknown) = unknown-file files old name unknown.0 ∙ read-none (file_at files name) unknown.1
-
-or-false : (b : Bool) → (b || false) ≡ b
-or-false true = refl
-or-false false = refl
-
--- to pass over a name leaves the files of the call
-pub passes-same : (files : Files) (name : List ℕ) (old next : Loaded) → PassesOver (Some files) name old next → (other : List ℕ) → file_for next files other ≡ file_for old files other
-passes-same files name old next (inl known) other = ap (λ (l : Loaded). file_for l files other) known.1
-passes-same files name old next (inr unknown) other =
-    ap (λ (l : Loaded). file_for l files other) unknown.2
-    ∙ ap (λ b. known_or (held_at old (number_of old other)) b (file_at files other)) (list_any-append (bytes_eq other) old.absent (name ∷ []))
-    ∙ by (bytes_eq other name) refl
-  where
-    by : (t : Bool) → bytes_eq other name ≡ t → known_or (held_at old (number_of old other)) (is_absent old other || (t || false)) (file_at files other) ≡ file_for old files other
-    by true same = known-none (held_at old (number_of old other)) _ _ (file_at files other) (ap (file_at files) ((bytes_eq-Decides other name).0 same) ∙ read-none (file_at files name) unknown.1)
-    by false apart = ap (λ b. known_or (held_at old (number_of old other)) b (file_at files other)) (or-false (is_absent old other))
-
 -- WHAT A SEARCH LEAVES
 
 -- a stop names the file at which the search ended
@@ -338,5 +295,5 @@ finds-leads setting files header (name ∷ names) old result new slots served lo
     let rest = finds-leads setting files header names next result new next_slots (λ other. passes-same files name old next passes.1 other ∙ served other) looked named passes.2 in
     let known : result ≢ Err Memory → setting.looked name ≡ true = λ not.
     looked name (known-absent new name ((finds-grows (Some files) header names next result new next_slots not passes.2).absent_too name (passes-absent (Some files) name old next passes.1))) in
-    over-leads setting header name names (shown old) result (shown new) (sym (served name) ∙ passes-none files name old next passes.1) known
+    over-leads setting header name names (shown old) result (shown new) (sym (served name) ∙ passed-none files name old next passes.1) known
     (subst (λ before. SearchLeads setting header names before result (shown new)) (passes-shown (Some files) name old next passes.1) rest)

@@ -3,6 +3,7 @@ use Rattle.std.proofs.Common.{Vec, Global, map, ◌≡◌, ℕ, suc, ◌+◌, �
 use Rattle.std.specs.List.{list_any, position, position_or_len}
 use Rattle.std.specs.Result.{result_unwrap_or}
 use Rattle.std.proofs.lemmas.List.{reverse-append}
+use Rattle.dm_token.specs.Refusals as refusals
 use Rattle.dm_token.specs.declared.place.Place.{Place}
 use Rattle.dm_token.specs.declared.token.PpToken.{PpToken}
 use Rattle.dm_token.specs.declared.token.Token.{Token}
@@ -32,7 +33,8 @@ use Rattle.dm_unit.specs.Conditions.{AreInOrder, use_by, with_uses, Tested, test
 use Rattle.dm_unit.specs.Readings.{DoesRead, DoesDirective, Opens, DoesElif, DoesElifAt, Enters, pushed, opens, within, lost}
 use Rattle.dm_unit.specs.Loaders.{shown}
 use Rattle.dm_unit.specs.Views.{IsFaultless, IsBeforeElse, state_of, Stops, Does, LeadsTo, TestsBy, part_of, held_tokens, IsBytesOf}
-use Rattle.dm_unit.proofs.ListLemmas.{position-le, position-none}
+use Rattle.dm_search.proofs.SearchLemmas.{position-le}
+use Rattle.dm_unit.proofs.ListLemmas.{position-none}
 use Rattle.dm_unit.proofs.LineLemmas.{first_directive, first_group}
 use Rattle.dm_unit.proofs.SourceLemmas.{reading-tokens}
 use Rattle.dm_unit.proofs.GrowLemmas.{some-of}
@@ -144,12 +146,6 @@ stops-map First Second (Refused refusal) map stops = map (Refused refusal) stops
 stops-map First Second (Limit passed) map stops = map (Limit passed) stops
 stops-map First Second (ReadFault file) map stops = map (ReadFault file) stops
 
-pub opens-stopped : (start : PpToken) (state : State) (Meant : Result Tested Stop → Type 0) (stop : Stop) → is_read state.sections ≡ true → Stops Meant stop → Stops (Opens start state Meant) stop
-opens-stopped start state Meant stop read stops =
-    stops-map Meant (Opens start state Meant) stop (λ other meant.
-    subst (λ b. MatchBool b (Then Meant (λ (t : Tested) (r : Outcome). r ≡ opens start t) (Err other)) (◌≡◌ {A = Outcome} (Err other) (pushed start.place Over state))) (sym read) (inl (other, meant, refl)))
-    stops
-
 -- `elif` in a section without `else`
 elif-by : (start : PpToken) (section : Section) (outer : List Section) (Meant : Result Tested Stop → Type 0) (state : State) (outcome : Outcome) → section.has_else ≡ false
     → DoesElifAt section.stage section outer Meant state outcome → DoesElif start (section ∷ outer) Meant state outcome
@@ -229,7 +225,7 @@ before-else (first ∷ outer) section is = (outer, ap (λ (s : Section). s ∷ o
 pub does-define : {A : Type 0} (main file : ℕ) (bytes : List ℕ) (start : PpToken) (behind : List PpToken) (state : State) (result : Result A Stop) (after : State) → begins_with_name (drop 1 behind) ≡ true
     → Does (DefinesLine main (start ∷ behind) (origin_of file) (is_plain_head bytes start (start ∷ behind)) state) result after → Does (DoesDefine main file bytes start behind state) result after
 does-define main file bytes start behind state result after named does =
-    subst (λ b. Does (λ outcome. MatchBool b (DefinesLine main (start ∷ behind) (origin_of file) (is_plain_head bytes start (start ∷ behind)) state outcome) (outcome ≡ Err (refusal 4 start.place))) result after) (sym named) does
+    subst (λ b. Does (λ outcome. MatchBool b (DefinesLine main (start ∷ behind) (origin_of file) (is_plain_head bytes start (start ∷ behind)) state outcome) (outcome ≡ Err (refusal refusals.directive start.place))) result after) (sym named) does
 
 -- the third token of a line is the name behind the directive's
 pub third-name : (line : List PpToken) (start : PpToken) (behind : List PpToken) (name : PpToken) → line ≡ start ∷ behind → 3 ≤ length line → name ≡ get_or line 2 name → is_identifier name ≡ true

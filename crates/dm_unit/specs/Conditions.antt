@@ -6,6 +6,7 @@ use Rattle.std.specs.Prelude.{◌≡◌, ◌⊎◌, ℕ, zero, suc, Bool, ◌+�
 use Rattle.std.specs.List.{list_any, filter_map}
 use Rattle.std.specs.Option.{option_map_or}
 use Rattle.std.specs.List.Sorted.{IsNonDecreasingBy}
+use Rattle.dm_token.specs.Refusals as refusals
 use Rattle.dm_token.specs.declared.place.Place.{Place}
 use Rattle.dm_token.specs.declared.stop.Stop.{Stop}
 use Rattle.dm_token.specs.declared.token.PpToken.{PpToken}
@@ -14,7 +15,8 @@ use Rattle.dm_token.specs.declared.token.Token.{Token}
 use Rattle.dm_token.specs.declared.expansion.Definition.{Definition}
 use Rattle.dm_token.specs.declared.expansion.Expansion.{Expansion}
 use Rattle.dm_token.specs.declared.unit.Use.{Use}
-use Rattle.dm_macro.specs.Signs.{left_parenthesis, right_parenthesis, is_punctuator, is_identifier, is_word, is_predefined}
+use Rattle.dm_spell.specs.Punctuators.{left_parenthesis, right_parenthesis}
+use Rattle.dm_macro.specs.Signs.{is_punctuator, is_identifier, is_word, is_predefined}
 use Rattle.dm_macro.specs.Tables.{Table, number_of}
 use Rattle.dm_expand.specs.Expansion.{Answer}
 use Rattle.dm_cond.specs.Readings.{HasTruth}
@@ -132,7 +134,7 @@ with_uses uses answer state =
 
 -- the condition is refused
 abbrev pub no_condition : PpToken → Result Tested Stop
-no_condition start = Err (refusal 13 start.place)
+no_condition start = Err (refusal refusals.condition start.place)
 
 -- The condition has a value, which is its truth, or none, and then it is refused.
 abbrev pub Judged : PpToken → List Use → Answer → State → Result Tested Stop → Type 0
@@ -160,8 +162,8 @@ Evaluates main start operands state result =
 
 -- `ifdef` and `ifndef` ask whether a name is defined, or isn't (6.10.1p5)
 abbrev pub defined_test : Bool → PpToken → List PpToken → State → Result Tested Stop
-defined_test wanted start [] state = Err (refusal 4 start.place)
+defined_test wanted start [] state = Err (refusal refusals.directive start.place)
 defined_test wanted start (name ∷ others) state =
     if is_identifier name
     then Ok (tested (if wanted then is_defined state.table name else not (is_defined state.table name)) (record state { uses = state.uses ++ use_of state.table name ∷ [] }))
-    else Err (refusal 4 start.place)
+    else Err (refusal refusals.directive start.place)

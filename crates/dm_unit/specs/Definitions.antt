@@ -1,6 +1,9 @@
 -- Macro definitions: `#define`, `#undef` (6.10.3, 6.10.3.5) and the defines of a manifest.
 use Rattle.std.specs.Prelude.{◌≡◌, ◌⊎◌, ℕ, suc, Bool, true, false, ◌+◌, ◌&&◌, ◌==◌, not, nat_lt, List, [], ◌∷◌, ◌++◌, map, length, take, drop, Result, Ok, Err, codes, slice_range, MatchBool, if◌then◌else◌}
 use Rattle.std.specs.List.{list_any, position_or_len, before_first, after_first}
+use Rattle.dm_token.specs.LimitNumbers as limits
+use Rattle.dm_token.specs.Refusals as refusals
+use Rattle.dm_token.specs.Limits.{header_count, most_work}
 use Rattle.dm_token.specs.declared.place.Place.{Place}
 use Rattle.dm_token.specs.declared.stop.Refusal.{Refusal}
 use Rattle.dm_token.specs.declared.stop.Stop.{Stop}
@@ -11,11 +14,10 @@ use Rattle.dm_token.specs.declared.expansion.Origin.{Origin}
 use Rattle.dm_token.specs.declared.expansion.Origin.TheVariants.{File, Header, Manifest}
 use Rattle.dm_token.specs.declared.unit.Use.{Use}
 use Rattle.dm_token.specs.Bytes.{newline, slash}
-use Rattle.dm_macro.specs.Signs.{hash, is_identifier, is_macro_name, is_right_parenthesis}
+use Rattle.dm_spell.specs.Punctuators.{hash}
+use Rattle.dm_macro.specs.Signs.{is_identifier, is_macro_name, is_right_parenthesis}
 use Rattle.dm_macro.specs.Forms.{is_function_like}
 use Rattle.dm_macro.specs.Tables.{Table, number_of, undefined, Defines, IsMisformed, HasBareHash, Redefines}
-use Rattle.dm_expand.specs.Steps.{greatest_work}
-use Rattle.dm_search.specs.Loaded.{header_count}
 use Rattle.dm_unit.specs.Sources.{reading_of}
 use Rattle.dm_unit.specs.States.{State, Outcome, refusal, limit}
 
@@ -34,10 +36,10 @@ with_definition table state =
 -- A line defines a macro, or can't. It counts as work in any case.
 abbrev pub DefinesLine : ℕ → List PpToken → Origin → Bool → State → Outcome → Type 0
 DefinesLine main line origin plain state outcome =
-    MatchBool (nat_lt state.spent greatest_work)
+    MatchBool (nat_lt state.spent most_work)
     (((table : Table) × Defines state.table line origin plain table × (outcome ≡ Ok (with_definition table state)))
     ⊎ ((stop : Stop) × CannotDefine state.table line origin plain stop × (outcome ≡ Err stop)))
-    (outcome ≡ Err (limit 3 main))
+    (outcome ≡ Err (limit limits.work main))
 
 -- THE DIRECTIVES
 
@@ -87,7 +89,7 @@ abbrev pub DoesDefine : ℕ → ℕ → List ℕ → PpToken → List PpToken �
 DoesDefine main file bytes start behind state outcome =
     MatchBool (begins_with_name (drop 1 behind))
     (DefinesLine main (start ∷ behind) (origin_of file) (is_plain_head bytes start (start ∷ behind)) state outcome)
-    (outcome ≡ Err (refusal 4 start.place))
+    (outcome ≡ Err (refusal refusals.directive start.place))
 
 -- a name that a directive uses
 abbrev pub use_of : Table → PpToken → Use
@@ -104,8 +106,8 @@ with_undefined name state =
 
 -- `#undef` with these operands
 abbrev pub after_undef : PpToken → List PpToken → State → Outcome
-after_undef start [] state = Err (refusal 4 start.place)
-after_undef start (name ∷ others) state = if is_macro_name name then Ok (with_undefined name state) else Err (refusal 4 start.place)
+after_undef start [] state = Err (refusal refusals.directive start.place)
+after_undef start (name ∷ others) state = if is_macro_name name then Ok (with_undefined name state) else Err (refusal refusals.directive start.place)
 
 -- THE DEFINES OF A MANIFEST
 

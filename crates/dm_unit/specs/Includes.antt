@@ -2,17 +2,16 @@
 --     Searches setting header names files result      the search for the first of these names that has a file
 use Rattle.std.specs.Prelude.{◌≡◌, ◌⊎◌, ℕ, Bool, true, false, ◌-◌, ◌==◌, nat_lt, nat_le, List, [], ◌∷◌, ◌++◌, length, drop, count_by, Option, Some, None, Result, Ok, Err, bytes_eq, slice_index_or, slice_set, slice_range, if◌then◌else◌}
 use Rattle.std.specs.List.{list_any, position_or_len}
+use Rattle.dm_token.specs.LimitNumbers as limits
 use Rattle.dm_token.specs.declared.stop.Refusal.{Refusal}
 use Rattle.dm_token.specs.declared.stop.Stop.{Stop}
 use Rattle.dm_token.specs.declared.stop.Stop.TheVariants.{Refused, ReadFault}
 use Rattle.dm_token.specs.declared.token.PpKind.{PpKind}
 use Rattle.dm_token.specs.declared.token.PpKind.TheVariants.{Identifier, Number, Character, Literal, Punctuator, Header, Stray}
 use Rattle.dm_token.specs.Bytes.{quotation_mark}
-use Rattle.dm_token.specs.Limits.{source_length_limit}
+use Rattle.dm_token.specs.Limits.{source_length_limit, header_count, most_files}
 use Rattle.dm_search.specs.Headers.{header_number}
 use Rattle.dm_search.specs.Joining.{candidates, places}
-use Rattle.dm_search.specs.Loaded.{header_count}
-use Rattle.dm_search.specs.Loading.{most_files}
 use Rattle.dm_unit.specs.Sources.{reading_of}
 use Rattle.dm_unit.specs.States.{Setting, Catalogue, limit}
 
@@ -59,8 +58,8 @@ if_readable number files (Err refusal) = Err (Refused refusal)
 -- last newline stays, and no comment is open in it.
 unfoldable pub first_found : ℕ → List ℕ → Catalogue → Result Sought Stop
 first_found number bytes files =
-    if nat_lt source_length_limit (length bytes) then Err (limit 1 number)
-    else if nat_le most_files (found_files files) then Err (limit 6 number)
+    if nat_lt source_length_limit (length bytes) then Err (limit limits.file_bytes number)
+    else if nat_le most_files (found_files files) then Err (limit limits.files number)
     else if_readable number files (reading_of number bytes)
 
 -- a file with these bytes is found

@@ -5,6 +5,10 @@ use Rattle.dm_token.specs.declared.stop.Stop.TheVariants.{Memory, Refused, Limit
 use Rattle.dm_search.specs.Loaded.{Loaded, name_of, number_of, held_at, is_held, is_absent}
 use Rattle.dm_unit.specs.States.{Catalogue}
 
+-- with fewer names than so many there is room for those of a unit: its main file, and one for each inclusion
+abbrev pub most_names : ℕ
+most_names = 4000000000
+
 -- the files that a loader knows: those that it holds were found
 abbrev pub shown : Loaded → Catalogue
 shown loaded = record { names = loaded.names; found = map is_some loaded.held }

@@ -5,12 +5,15 @@
 --     ReadsUnit      a unit
 use Rattle.std.specs.Prelude.{◌≡◌, ℕ, zero, suc, Bool, true, false, ◌+◌, ◌&&◌, ◌||◌, ◌==◌, nat_lt, List, [], ◌∷◌, ◌++◌, length, drop, Option, Some, None, Result, Ok, Err, codes, MatchBool, if◌then◌else◌}
 use Rattle.std.specs.List.{list_any}
+use Rattle.dm_token.specs.Limits as greatest
+use Rattle.dm_token.specs.LimitNumbers as limits
+use Rattle.dm_token.specs.Refusals as refusals
+use Rattle.dm_token.specs.Limits.{header_count, most_tokens, most_inclusions}
 use Rattle.dm_token.specs.declared.place.Place.{Place}
 use Rattle.dm_token.specs.declared.stop.Stop.{Stop}
 use Rattle.dm_token.specs.declared.token.PpToken.{PpToken}
 use Rattle.dm_macro.specs.Signs.{is_word}
 use Rattle.dm_expand.specs.Expansion.{Answer}
-use Rattle.dm_search.specs.Loaded.{header_count}
 use Rattle.dm_unit.specs.declared.directive.Directive.{Directive}
 use Rattle.dm_unit.specs.declared.directive.Directive.TheVariants.{If, Ifdef, Ifndef, Elif, Else, Endif, Include, Define, Undef, Line, Error, Pragma, Null, Unknown}
 use Rattle.dm_unit.specs.declared.section.Stage.{Stage}
@@ -27,10 +30,6 @@ use Rattle.dm_unit.specs.Conditions.{Tested, Evaluates, defined_test}
 
 -- TEXT GROUPS
 
--- the greatest number of tokens of a unit
-abbrev pub most_tokens : ℕ
-most_tokens = 1000000
-
 -- the state behind what a text group expands to
 abbrev pub with_text : Answer → State → State
 with_text answer state =
@@ -43,7 +42,7 @@ with_text answer state =
 
 -- there are no more tokens than a unit may have
 abbrev pub if_few : ℕ → State → Outcome
-if_few main state = if nat_lt most_tokens (length state.tokens) then Err (limit 2 main) else Ok state
+if_few main state = if nat_lt most_tokens (length state.tokens) then Err (limit limits.unit_tokens main) else Ok state
 
 -- a text group is expanded, unless that stops
 abbrev pub after_expansion : ℕ → State → Result Answer Stop → Outcome
@@ -76,7 +75,7 @@ Opens start state Tests outcome =
 
 -- a directive that has no section to which it belongs
 abbrev pub lost : PpToken → Outcome
-lost start = Err (refusal 6 start.place)
+lost start = Err (refusal refusals.conditionals start.place)
 
 -- `elif` by the stage of its section: its condition is evaluated only where no group was read yet
 abbrev pub DoesElifAt : Stage → Section → List Section → (Result Tested Stop → Type 0) → State → Outcome → Type 0
@@ -104,7 +103,7 @@ endif_in start (section ∷ outer) state = Ok (within outer state)
 -- the end of a file, where no section may be open
 abbrev pub end_in : List Section → State → Outcome
 end_in [] state = Ok state
-end_in (section ∷ outer) state = Err (refusal 6 section.hash)
+end_in (section ∷ outer) state = Err (refusal refusals.conditionals section.hash)
 
 -- OTHER DIRECTIVES
 
@@ -124,11 +123,7 @@ is_once (word ∷ second ∷ others) = false
 
 abbrev pub after_pragma : ℕ → PpToken → List PpToken → State → Outcome
 after_pragma file start operands state =
-    if is_once operands then Ok (record state { once = with_number state.once file }) else Err (refusal 18 start.place)
-
--- the greatest number of inclusions
-abbrev pub most_inclusions : ℕ
-most_inclusions = 16384
+    if is_once operands then Ok (record state { once = with_number state.once file }) else Err (refusal refusals.out_of_subset start.place)
 
 -- the state in which an inclusion begins
 abbrev pub counted : Catalogue → State → State
@@ -136,18 +131,18 @@ counted files state = record state { files = files; inclusions = state.inclusion
 
 -- a file was found, or none: it is entered, unless there are too many inclusions
 abbrev pub Includes : Setting → (ℕ → State → Outcome → Type 0) → PpToken → Option ℕ → Catalogue → State → Outcome → Type 0
-Includes setting Enters start None files state outcome = outcome ≡ Err (refusal 7 start.place)
+Includes setting Enters start None files state outcome = outcome ≡ Err (refusal refusals.not_found start.place)
 Includes setting Enters start (Some number) files state outcome =
     MatchBool (nat_lt state.inclusions most_inclusions) (Enters number (counted files state) outcome)
-    (outcome ≡ Err (limit 9 setting.main))
+    (outcome ≡ Err (limit limits.inclusions setting.main))
 
 -- `include` (6.10.2)
 abbrev pub DoesInclude : Setting → (ℕ → State → Outcome → Type 0) → ℕ → PpToken → List PpToken → State → Outcome → Type 0
-DoesInclude setting Enters file start [] state outcome = outcome ≡ Err (refusal 4 start.place)
+DoesInclude setting Enters file start [] state outcome = outcome ≡ Err (refusal refusals.directive start.place)
 DoesInclude setting Enters file start (header ∷ others) state outcome =
     MatchBool (is_header_kind header.kind)
     (Then (SearchesFor setting file header.spelling state.files) (λ sought. Includes setting Enters start sought.number sought.files state) outcome)
-    (outcome ≡ Err (refusal 18 start.place))
+    (outcome ≡ Err (refusal refusals.out_of_subset start.place))
 
 -- A directive in a group that is read, apart from those of conditional inclusion. The tokens behind its `#` are the name
 -- and its operands.
@@ -156,11 +151,11 @@ DoesRead setting Enters file Include start behind state outcome = DoesInclude se
 DoesRead setting Enters file Define start behind state outcome =
     DoesDefine setting.main file (bytes_in setting state.files file) start behind state outcome
 DoesRead setting Enters file Undef start behind state outcome = outcome ≡ after_undef start (drop 1 behind) state
-DoesRead setting Enters file Line start behind state outcome = outcome ≡ Err (refusal 18 start.place)
-DoesRead setting Enters file Error start behind state outcome = outcome ≡ Err (refusal 14 start.place)
+DoesRead setting Enters file Line start behind state outcome = outcome ≡ Err (refusal refusals.out_of_subset start.place)
+DoesRead setting Enters file Error start behind state outcome = outcome ≡ Err (refusal refusals.error_directive start.place)
 DoesRead setting Enters file Pragma start behind state outcome = outcome ≡ after_pragma file start (drop 1 behind) state
 DoesRead setting Enters file Null start behind state outcome = outcome ≡ Ok state
-DoesRead setting Enters file Unknown start behind state outcome = outcome ≡ Err (refusal 4 start.place)
+DoesRead setting Enters file Unknown start behind state outcome = outcome ≡ Err (refusal refusals.directive start.place)
 DoesRead setting Enters file other start behind state outcome = ⊥
 
 -- Those of conditional inclusion are done in any group, all others only where the group is read.
@@ -208,13 +203,13 @@ is_passed file state = is_among file state.once || (nat_lt file header_count && 
 
 -- An included file, where so many more may be open within each other.
 unfoldable pub Enters : Setting → ℕ → ℕ → State → Outcome → Type 0
-Enters setting zero file state outcome = outcome ≡ Err (limit 4 setting.main)
+Enters setting zero file state outcome = outcome ≡ Err (limit limits.nested_files setting.main)
 Enters setting (suc more) file state outcome =
     MatchBool (is_passed file state) (outcome ≡ Ok state) (ReadsFile setting (Enters setting more) file state outcome)
 
 -- the greatest number of files that are open within each other, the main file not counted
 unfoldable pub most_nested : ℕ
-most_nested = 64
+most_nested = greatest.most_nested
 
 -- THE UNIT
 
@@ -230,7 +225,7 @@ absent_place main = record { file = main; byte = 0; line = 1; column = 1 }
 
 -- the main file, if there is one
 abbrev pub ReadsFound : Setting → Option ℕ → Catalogue → State → Outcome → Type 0
-ReadsFound setting None files state outcome = outcome ≡ Err (refusal 7 (absent_place setting.main))
+ReadsFound setting None files state outcome = outcome ≡ Err (refusal refusals.not_found (absent_place setting.main))
 ReadsFound setting (Some number) files state outcome = ReadsFile setting (Enters setting most_nested) number (record state { files = files }) outcome
 
 abbrev pub ReadsMain : Setting → List ℕ → State → Outcome → Type 0

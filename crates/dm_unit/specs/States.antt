@@ -3,6 +3,7 @@
 --     State      what was read so far
 --     Then First Second      one step, and then another
 use Rattle.std.specs.Prelude.{◌≡◌, ◌⊎◌, ℕ, Bool, List, Option, Result, Ok, Err}
+use Rattle.dm_token.specs.LimitNumbers as limits
 use Rattle.dm_token.specs.declared.place.Place.{Place}
 use Rattle.dm_token.specs.declared.stop.Stop.{Stop}
 use Rattle.dm_token.specs.declared.stop.Stop.TheVariants.{Memory, Refused, Limit, ReadFault}
@@ -74,8 +75,8 @@ limit number file = Limit (record { number = number; file = file })
 abbrev pub in_unit : ℕ → Stop → Stop
 in_unit main Memory = Memory
 in_unit main (Refused refusal) = Refused refusal
-in_unit main (Limit passed) = limit 3 main
-in_unit main (ReadFault file) = limit 3 main
+in_unit main (Limit passed) = limit limits.work main
+in_unit main (ReadFault file) = limit limits.work main
 
 -- an expansion in a unit, whose limit is named beside the main file
 abbrev pub for_unit : {A : Type 0} → ℕ → Result A Stop → Result A Stop

@@ -1,5 +1,8 @@
 -- What the code's values and answers mean.
 use Rattle.std.specs.Prelude.{◌≡◌, ◌≢◌, ◌⊎◌, ◌≤◌, ◌<◌, ℕ, ◌+◌, Bool, true, false, List, [], ◌∷◌, ◌++◌, length, slice_index_or, option_to_list, unwrap_or, if◌then◌else◌, Option, Some, None, Result, Ok, Err}
+use Rattle.dm_token.specs.Limits.{most_work, most_tokens, most_inclusions}
+use Rattle.dm_token.specs.LimitNumbers as limits
+use Rattle.dm_token.specs.Refusals as refusals
 use Rattle.dm_token.specs.declared.stop.Stop.{Stop}
 use Rattle.dm_token.specs.declared.stop.Refusal.{Refusal}
 use Rattle.dm_token.specs.declared.place.Place.{Place}
@@ -32,7 +35,7 @@ use Rattle.dm_unit.specs.declared.condition.Operand.{Operand}
 use Rattle.dm_unit.specs.Includes.{Sought, sought, Searches, is_header_kind, is_quoted, header_name}
 use Rattle.dm_search.specs.Headers.{header_number}
 use Rattle.dm_search.specs.Joining.{candidates, places}
-use Rattle.dm_unit.specs.Readings.{ReadsPart, Enters, after_text, most_inclusions}
+use Rattle.dm_unit.specs.Readings.{ReadsPart, Enters, after_text}
 use Rattle.dm_unit.specs.Loaders.{Grows, WasUnknown, IsOf, file_of, is_known, shown}
 use Rattle.dm_io.specs.Faults.{Rose}
 
@@ -79,10 +82,10 @@ Tests Meant (Err stop) after = Stops Meant stop
 
 -- the counts keep their limits
 pub record IsCounted (reader : Reader) : Type 0 where
-  pub spent : reader.work.spent ≤ 8000000
+  pub spent : reader.work.spent ≤ most_work
   pub instance : reader.instance ≤ reader.work.spent
   pub read : length reader.table.read ≤ reader.work.spent
-  pub tokens : length reader.tokens.items ≤ 1000000
+  pub tokens : length reader.tokens.items ≤ most_tokens
 
 -- One reader follows another in the same inclusion.
 pub record Follows (old new : Reader) : Type 0 where
@@ -116,8 +119,8 @@ IsLineOf main define line = (tokens : List PpToken) × (reading_of main (define_
 
 -- the refusal of an `include` without a header name
 abbrev pub LacksHeader : PpToken → List PpToken → Stop → Type 0
-LacksHeader start [] stop = Stops (λ (outcome : Outcome). outcome ≡ Err (refusal 4 start.place)) stop
-LacksHeader start (header ∷ others) stop = Stops (λ (outcome : Outcome). (is_header_kind header.kind ≡ false) × (outcome ≡ Err (refusal 18 start.place))) stop
+LacksHeader start [] stop = Stops (λ (outcome : Outcome). outcome ≡ Err (refusal refusals.directive start.place)) stop
+LacksHeader start (header ∷ others) stop = Stops (λ (outcome : Outcome). (is_header_kind header.kind ≡ false) × (outcome ≡ Err (refusal refusals.out_of_subset start.place))) stop
 
 -- a header name, as the code has it
 abbrev pub IsHeader : PpToken → List PpToken → Header → Type 0
@@ -267,8 +270,8 @@ IsBeforeElse (section ∷ outer) found = (found ≡ section) × (section.has_els
 
 -- there is none
 abbrev pub LacksSection : PpToken → List Section → Stop → Type 0
-LacksSection start [] stop = stop ≡ refusal 6 start.place
-LacksSection start (section ∷ outer) stop = (section.has_else ≡ true) × (stop ≡ refusal 6 start.place)
+LacksSection start [] stop = stop ≡ refusal refusals.conditionals start.place
+LacksSection start (section ∷ outer) stop = (section.has_else ≡ true) × (stop ≡ refusal refusals.conditionals start.place)
 
 -- one inclusion more
 abbrev pub IncludesOne : Reader → Reader → Type 0
@@ -286,8 +289,8 @@ SearchesHeader setting file header files result =
 
 -- the stop behind a search: no file was found, or there are too many inclusions
 abbrev pub IncludesStop : ℕ → Place → ℕ → Option ℕ → Outcome → Type 0
-IncludesStop main start inclusions None outcome = outcome ≡ Err (refusal 7 start)
-IncludesStop main start inclusions (Some number) outcome = (most_inclusions ≤ inclusions) × (outcome ≡ Err (limit 9 main))
+IncludesStop main start inclusions None outcome = outcome ≡ Err (refusal refusals.not_found start)
+IncludesStop main start inclusions (Some number) outcome = (most_inclusions ≤ inclusions) × (outcome ≡ Err (limit limits.inclusions main))
 
 -- a search with what follows it, up to the file that is entered
 abbrev pub FindsIncluded : Setting → ℕ → Header → Catalogue → Reader → Result ℕ Stop → Catalogue → Type 0

@@ -11,14 +11,15 @@ ghost use Rattle.dm_unit.specs.Views.{IsFaultless, state_of, Tests, item_value, 
 
 use crate::definition::use_of;
 use crate::reader::Reader;
-use crate::sign::{is_identifier, is_left_parenthesis, is_right_parenthesis, is_word};
 use crate::stops::refused;
 use crate::text::expand_in;
 use dm_cond::condition;
 use dm_expand::Expanded;
-use dm_macro::{MacroTable, is_predefined};
+use dm_macro::{
+    MacroTable, is_identifier, is_left_parenthesis, is_predefined, is_right_parenthesis, is_word,
+};
 use dm_search::Loader;
-use dm_token::{Expansion, Memory, PpKind, PpToken, Stop, Text, Token, Use};
+use dm_token::{Expansion, Memory, PpKind, PpToken, Stop, Text, Token, Use, refusals};
 use std::alloc::Global;
 
 /// What stands behind a `defined`.
@@ -56,7 +57,7 @@ pub(crate) fn evaluate(
     let expanded = expand_in(alloc, reader, loader.names(), &tokens)?;
     let Expanded { tokens, expansions } = expanded;
     if has_defined(tokens.items()) {
-        return Err(refused(13, start.place));
+        return Err(refused(refusals::CONDITION, start.place));
     }
     let truth = match condition(alloc, tokens.items(), start.place) {
         Ok(truth) => truth,
@@ -80,10 +81,10 @@ pub(crate) fn test_defined(
     ensures faultless { IfErr result IsFaultless }
 {
     let [name, ..] = operands else {
-        return Err(refused(4, start.place));
+        return Err(refused(refusals::DIRECTIVE, start.place));
     };
     if !is_identifier(name) {
-        return Err(refused(4, start.place));
+        return Err(refused(refusals::DIRECTIVE, start.place));
     }
     let used = use_of(&reader.table, name)?;
     reader.uses.push(used)?;

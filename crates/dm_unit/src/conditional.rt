@@ -15,7 +15,7 @@ use crate::reader::Reader;
 use crate::section::{Section, Stage};
 use crate::stops::refused;
 use dm_search::Loader;
-use dm_token::{Place, PpToken, Stop};
+use dm_token::{Place, PpToken, Stop, refusals};
 use std::alloc::Global;
 
 /// `if`, `ifdef` and `ifndef`: in a skipped group only the nesting is followed.
@@ -161,7 +161,7 @@ fn before_else(reader: &Reader, start: &PpToken) -> Result<Section, Stop>
 {
     match reader.sections.innermost() {
         Some(section) if !section.has_else => Ok(section),
-        _ => Err(refused(6, start.place)),
+        _ => Err(refused(refusals::CONDITIONALS, start.place)),
     }
 }
 
@@ -173,7 +173,7 @@ pub(crate) fn close(reader: &mut Reader, start: &PpToken) -> Result<(), Stop>
     ensures faultless { IfErr result IsFaultless }
 {
     if reader.sections.innermost().is_none() {
-        return Err(refused(6, start.place));
+        return Err(refused(refusals::CONDITIONALS, start.place));
     }
     reader.sections.close();
     Ok(())
@@ -186,6 +186,6 @@ pub(crate) fn end(reader: &Reader) -> Result<(), Stop>
 {
     match reader.sections.innermost() {
         None => Ok(()),
-        Some(section) => Err(refused(6, section.hash)),
+        Some(section) => Err(refused(refusals::CONDITIONALS, section.hash)),
     }
 }

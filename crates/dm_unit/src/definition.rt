@@ -11,19 +11,16 @@ ghost use Rattle.dm_unit.specs.Views.{AreIn, IsFaultless, state_of, Does, LeadsT
 
 use crate::head::is_plain_head;
 use crate::reader::Reader;
-use crate::sign::{HASH, is_identifier};
 use crate::stops::{passed, refused};
 use dm_lex::tokens;
-use dm_macro::{MacroTable, is_fixed};
+use dm_macro::{MacroTable, is_fixed, is_identifier};
 use dm_phase::flatten;
-use dm_token::{List, Memory, Origin, Place, PpKind, PpToken, Stop, Text, Use};
+use dm_spell::punctuator;
+use dm_token::{
+    HEADER_COUNT, List, MOST_WORK, Memory, Origin, Place, PpKind, PpToken, Stop, Text, Use,
+    limit_numbers, refusals,
+};
 use std::alloc::Global;
-
-/// The most work that a unit may take.
-const MAX_WORK: u32 = 8_000_000;
-
-/// How many built-in headers there are; their numbers are the first.
-pub(crate) const HEADER_COUNT: u32 = 6;
 
 /// Reads a line that defines a macro.
 fn define_line(
@@ -39,8 +36,8 @@ fn define_line(
     ensures faultless { IfErr result IsFaultless }
     ensures file { AreIn reader.old.main line.now → NamesMain reader.old.main result }
 {
-    if reader.work.spent >= MAX_WORK {
-        return Err(passed(3, reader.main));
+    if reader.work.spent >= MOST_WORK {
+        return Err(passed(limit_numbers::WORK, reader.main));
     }
     if let Err(stop) = reader.table.define(line, origin, plain) {
         return Err(stop);
@@ -65,10 +62,10 @@ pub(crate) fn define(
     ensures faultless { IfErr result IsFaultless }
 {
     let [_, _, name, ..] = line else {
-        return Err(refused(4, start.place));
+        return Err(refused(refusals::DIRECTIVE, start.place));
     };
     if !is_identifier(name) {
-        return Err(refused(4, start.place));
+        return Err(refused(refusals::DIRECTIVE, start.place));
     }
     let plain = is_plain_head(bytes, start, line);
     define_line(reader, line, origin_of(file), plain)
@@ -78,7 +75,7 @@ pub(crate) fn define(
 fn origin_of(file: u32) -> Origin
     ensures { result ≡ origin_in file }
 {
-    if file < HEADER_COUNT {
+    if file < HEADER_COUNT as u32 {
         Origin::Header
     } else {
         Origin::File
@@ -97,10 +94,10 @@ pub(crate) fn undefine(
     ensures faultless { IfErr result IsFaultless }
 {
     let [name, ..] = operands else {
-        return Err(refused(4, start.place));
+        return Err(refused(refusals::DIRECTIVE, start.place));
     };
     if !is_identifier(name) || is_fixed(name.spelling.bytes()) {
-        return Err(refused(4, start.place));
+        return Err(refused(refusals::DIRECTIVE, start.place));
     }
     let used = use_of(&reader.table, name)?;
     reader.undefined.push(used)?;
@@ -234,7 +231,14 @@ fn manifest_head(alloc: Global, main: u32) -> Result<Vec<PpToken>, Memory>
     ensures { IfOk result (λ line. line.items ≡ hash_token main ∷ (define_token main ∷ [])) }
 {
     let mut line = Vec::new(alloc);
-    line.push(made(alloc, main, PpKind::Punctuator(HASH), "#", true, true)?)?;
+    line.push(made(
+        alloc,
+        main,
+        PpKind::Punctuator(punctuator::HASH),
+        "#",
+        true,
+        true,
+    )?)?;
     line.push(made(alloc, main, PpKind::Identifier, "define", false, false)?)?;
     Ok(line)
 }

@@ -1,7 +1,7 @@
 ghost use Rattle.std.specs.Prelude.{◌≡◌};
 ghost use Rattle.dm_unit.specs.Directives.{named as directive_named, directive_of as directive_behind};
 
-use crate::sign::is_identifier;
+use dm_macro::is_identifier;
 use dm_token::PpToken;
 
 /// A directive (6.10p1), by its name.

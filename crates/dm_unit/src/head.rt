@@ -5,7 +5,7 @@ ghost use Rattle.std.specs.List.{list_any, position_or_len};
 ghost use Rattle.dm_macro.specs.Signs.{is_right_parenthesis as closes};
 ghost use Rattle.dm_unit.specs.Definitions.{is_plain_head as plain_head, head_of as head_tokens, parameter_list, are_plain as plain, is_plain_token as plain_token, is_plain_gap as plain_gap, is_one_line as one_line};
 
-use crate::sign::{is_left_parenthesis, is_right_parenthesis};
+use dm_macro::{is_left_parenthesis, is_right_parenthesis};
 use dm_token::PpToken;
 
 /// Whether neither a splice nor a comment stands in the head of a `define` directive, where `bytes` are those of its file.

@@ -5,23 +5,22 @@ ghost use Rattle.dm_token.specs.declared.unit.Unit.{Unit as Source};
 ghost use Rattle.dm_search.specs.Headers.{header_number};
 ghost use Rattle.dm_search.specs.Joining.{candidates as names_for, places};
 ghost use Rattle.dm_search.specs.Loaded.{name_of, number_of};
+ghost use Rattle.dm_token.specs.Limits.{most_inclusions};
 ghost use Rattle.dm_unit.specs.States.{Setting, Catalogue};
-ghost use Rattle.dm_unit.specs.Includes.{is_quoted as quoted, header_name};
-ghost use Rattle.dm_unit.specs.Loaders.{shown};
+ghost use Rattle.dm_unit.specs.Includes.{is_quoted as quoted, is_header_kind, header_name};
+ghost use Rattle.dm_unit.specs.Loaders.{shown, most_names};
 ghost use Rattle.dm_unit.specs.Readings.{is_passed as passes};
 ghost use Rattle.dm_unit.specs.Views.{IsFaultless, state_of, Serves, Leaves, stop_of, loaded_as, SearchLeads, NamesMain, IsHeld, FindsHeld, IsHeader, LacksHeader, FindsIncluded, IncludesOne};
 
-use crate::definition::HEADER_COUNT;
 use crate::reader::Reader;
-use crate::sign::is_header;
 use crate::stops::{passed, refused};
 use dm_io::Folder;
 use dm_search::Loader;
-use dm_token::{Place, PpToken, Stop, Text, Unit};
+use dm_token::{
+    HEADER_COUNT, MOST_INCLUSIONS, Place, PpKind, PpToken, Stop, Text, Unit, limit_numbers,
+    refusals,
+};
 use std::alloc::Global;
-
-/// The greatest number of inclusions in a unit.
-const MAX_INCLUSIONS: u32 = 16_384;
 
 /// A header name, and the place of the directive's `#`.
 #[derive(Drop)]
@@ -42,10 +41,10 @@ pub(crate) fn header_of(
     ensures faultless { IfErr result IsFaultless }
 {
     let [header, ..] = operands else {
-        return Err(refused(4, start.place));
+        return Err(refused(refusals::DIRECTIVE, start.place));
     };
     if !is_header(header) {
-        return Err(refused(18, start.place));
+        return Err(refused(refusals::OUT_OF_SUBSET, start.place));
     }
     let spelling = header.spelling.bytes();
     Ok(Header {
@@ -53,6 +52,12 @@ pub(crate) fn header_of(
         quoted: is_quoted(spelling),
         name: Text::from_bytes(alloc, between(spelling))?,
     })
+}
+
+fn is_header(token: &PpToken) -> bool
+    ensures { result ≡ is_header_kind token.now.kind }
+{
+    matches!(token.kind, PpKind::Header)
 }
 
 fn is_quoted(spelling: &[u8]) -> bool
@@ -83,23 +88,23 @@ pub(crate) fn find_included<F: Folder>(
     file: u32,
     header: Header,
 ) -> Result<u32, Stop>
-    requires room { length loader.old.names ≤ 4000000001 + reader.old.inclusions }
-    requires few { reader.old.inclusions ≤ 16384 }
+    requires room { length loader.old.names ≤ most_names + reader.old.inclusions }
+    requires few { reader.old.inclusions ≤ most_inclusions }
     requires numbered { file < length loader.old.names }
     ensures finds { (setting : Setting) → Serves (F.files folder.old) unit.now reader.old.main loader.old loader.new setting →
         FindsIncluded setting file header (shown loader.old) reader.old result (shown loader.new) }
     ensures included { OnOk result (IncludesOne reader.old reader.new) }
     ensures held { IfOk result (IsHeld loader.new) }
-    ensures room { OnOk result (length loader.new.names ≤ 4000000001 + reader.new.inclusions) }
+    ensures room { OnOk result (length loader.new.names ≤ most_names + reader.new.inclusions) }
     ensures leaves { Leaves (F.files folder.old) (F.files folder.new) (F.room folder.old) (F.room folder.new) (F.faults folder.old) (F.faults folder.new) loader.old loader.new (stop_of result) }
 {
     let found = match search(folder, loader, unit, file, &header) {
         Ok(Some(found)) => found,
-        Ok(None) => return Err(refused(7, header.start)),
+        Ok(None) => return Err(refused(refusals::NOT_FOUND, header.start)),
         Err(stop) => return Err(stop),
     };
-    if reader.inclusions >= MAX_INCLUSIONS {
-        return Err(passed(9, reader.main));
+    if reader.inclusions >= MOST_INCLUSIONS {
+        return Err(passed(limit_numbers::INCLUSIONS, reader.main));
     }
     reader.inclusions += 1;
     Ok(found)
@@ -121,6 +126,7 @@ fn search<F: Folder>(
     ensures names { length loader.new.names ≤ length loader.old.names + 1 }
     ensures leaves { Leaves (F.files folder.old) (F.files folder.new) (F.room folder.old) (F.room folder.new) (F.faults folder.old) (F.faults folder.new) loader.old loader.new (stop_of result) }
 {
+    // The proof needs a clause of this call: each name has a slot for its bytes.
     let _ = loader.names();
     loader.find(
         folder,
@@ -147,6 +153,7 @@ pub(crate) fn load_main<F: Folder>(
     ensures file { NamesMain file result }
     ensures leaves { Leaves (F.files folder.old) (F.files folder.new) (F.room folder.old) (F.room folder.new) (F.faults folder.old) (F.faults folder.new) loader.old loader.new (stop_of result) }
 {
+    // The proof needs a clause of this call: each name has a slot for its bytes.
     let _ = loader.names();
     loader.load(folder, file)
 }
@@ -155,5 +162,5 @@ pub(crate) fn load_main<F: Folder>(
 pub(crate) fn is_passed(reader: &Reader, file: u32) -> bool
     ensures { (files : Catalogue) → result ≡ passes file (state_of reader.now files) }
 {
-    reader.once.contains(&file) || (file < HEADER_COUNT && reader.files_read.contains(&file))
+    reader.once.contains(&file) || (file < HEADER_COUNT as u32 && reader.files_read.contains(&file))
 }

@@ -3,14 +3,14 @@
 #![tactic(auto)]
 
 ghost use Rattle.std.specs.Prelude.{◌≡◌, ◌≢◌, ◌+◌, ◌<◌, ◌≤◌, ℕ, Bool, List, Some, Err, IfErr, OnOk, All, length, slice_range};
-ghost use Rattle.dm_token.specs.Limits.{source_length_limit};
+ghost use Rattle.dm_token.specs.Limits.{source_length_limit, most_inclusions};
 ghost use Rattle.dm_token.specs.declared.stop.Stop.TheVariants.{Memory, ReadFault};
 ghost use Rattle.dm_io.specs.Faults.{Rose};
 ghost use Rattle.dm_io.specs.Files.{Files};
 ghost use Rattle.dm_search.specs.Loaded.{number_of};
 ghost use Rattle.dm_unit.specs.States.{Setting, Catalogue, State, Outcome};
 ghost use Rattle.dm_unit.specs.Outcomes.{seeing, Agree, IsLike};
-ghost use Rattle.dm_unit.specs.Loaders.{Grows, WasUnknown, shown, stopped_at};
+ghost use Rattle.dm_unit.specs.Loaders.{Grows, WasUnknown, shown, stopped_at, most_names};
 ghost use Rattle.dm_unit.specs.Readings.{ReadsPart, ReadsFile, ReadsMain, ReadsUnit, DoesManifests, Enters};
 ghost use Rattle.dm_unit.specs.Units.{IsReadAs, setting_of};
 ghost use Rattle.dm_unit.specs.Views.{IsFaultless, state_of, Does, Serves, Leaves, stop_of, IsHeld, part_of, held_tokens, HoldsMain, NamesMain, IsCounted, Follows, FollowsPart};
@@ -26,7 +26,6 @@ mod lines;
 mod part;
 mod reader;
 mod section;
-mod sign;
 mod stops;
 mod text;
 
@@ -34,7 +33,7 @@ use conditional::end;
 use definition::{define_of_manifest, first_place};
 use dm_io::Folder;
 use dm_search::Loader;
-use dm_token::{Stop, Text, Unit, UnitTokens};
+use dm_token::{MOST_NESTED, Stop, Text, Unit, UnitTokens, limit_numbers, refusals};
 use finish::finish;
 use include::{is_passed, load_main};
 use part::{part_length, read_part, tokens_of};
@@ -43,9 +42,6 @@ use section::Sections;
 use std::alloc::Global;
 use std::mem;
 use stops::{passed, refused};
-
-/// The greatest number of files that are open within each other, the main file not counted.
-const MAX_NESTED: u32 = 64;
 
 /// The tokens of a unit: those of its main file behind the manifest's defines, with its directives done and its macros
 /// expanded (6.10). The files are those that the loader holds or knows to be absent, and for all other names the folder's.
@@ -60,7 +56,7 @@ pub fn unit_tokens<F: Folder>(
     loader: &mut Loader,
     unit: &Unit,
 ) -> Result<UnitTokens, Stop>
-    requires room { length loader.old.names < 4000000000 }
+    requires room { length loader.old.names < most_names }
     requires short { All (λ (define : List ℕ). length define ≤ source_length_limit) unit.now.define }
     ensures reading { (files : Files) → F.files folder.old ≡ Some files →
         IsReadAs (setting_of loader.old loader.new files unit.now) unit.now loader.old result loader.new }
@@ -95,12 +91,13 @@ fn read_unit<F: Folder>(
     loader: &mut Loader,
     unit: &Unit,
 ) -> Result<UnitTokens, Stop>
-    requires room { length loader.old.names < 4000000000 }
+    requires room { length loader.old.names < most_names }
     requires short { All (λ (define : List ℕ). length define ≤ source_length_limit) unit.now.define }
     ensures reading { (files : Files) → F.files folder.old ≡ Some files →
         IsReadAs (setting_of loader.old loader.new files unit.now) unit.now loader.old result loader.new }
     ensures leaves { Leaves (F.files folder.old) (F.files folder.new) (F.room folder.old) (F.room folder.new) (F.faults folder.old) (F.faults folder.new) loader.old loader.new (stop_of result) }
 {
+    // The proof needs a clause of this call: each name has a slot for its bytes.
     let _ = loader.names();
     let main = loader.number(&unit.file)?;
     let mut reader = Reader::new(alloc, main)?;
@@ -121,7 +118,7 @@ fn read_all<F: Folder>(
 ) -> Result<(), Stop>
     requires counted { IsCounted reader.old }
     requires few { reader.old.inclusions ≡ 0 }
-    requires room { length loader.old.names ≤ 4000000001 }
+    requires room { length loader.old.names ≤ most_names }
     requires numbered { main < length loader.old.names }
     requires number { main ≡ number_of loader.old unit.now.file }
     requires main { reader.old.main ≡ main }
@@ -167,8 +164,8 @@ fn read_main<F: Folder>(
     main: u32,
 ) -> Result<(), Stop>
     requires counted { IsCounted reader.old }
-    requires few { reader.old.inclusions ≤ 16384 }
-    requires room { length loader.old.names ≤ 4000000001 }
+    requires few { reader.old.inclusions ≤ most_inclusions }
+    requires room { length loader.old.names ≤ most_names }
     requires numbered { main < length loader.old.names }
     requires number { main ≡ number_of loader.old unit.now.file }
     requires main { reader.old.main ≡ main }
@@ -178,8 +175,8 @@ fn read_main<F: Folder>(
     ensures leaves { Leaves (F.files folder.old) (F.files folder.new) (F.room folder.old) (F.room folder.new) (F.faults folder.old) (F.faults folder.new) loader.old loader.new (stop_of result) }
 {
     match load_main(folder, loader, &unit.file, main) {
-        Ok(true) => read_file(alloc, folder, loader, unit, reader, main, MAX_NESTED),
-        Ok(false) => Err(refused(7, first_place(main))),
+        Ok(true) => read_file(alloc, folder, loader, unit, reader, main, MOST_NESTED),
+        Ok(false) => Err(refused(refusals::NOT_FOUND, first_place(main))),
         Err(stop) => Err(stop),
     }
 }
@@ -196,13 +193,13 @@ fn read_file<F: Folder>(
     more: u32,
 ) -> Result<(), Stop>
     requires counted { IsCounted reader.old }
-    requires few { reader.old.inclusions ≤ 16384 }
-    requires room { length loader.old.names ≤ 4000000001 + reader.old.inclusions }
+    requires few { reader.old.inclusions ≤ most_inclusions }
+    requires room { length loader.old.names ≤ most_names + reader.old.inclusions }
     requires held { IsHeld loader.old file }
     ensures leads { (setting : Setting) → Serves (F.files folder.old) unit.now reader.old.main loader.old loader.new setting →
         Does (ReadsFile setting (Enters setting more) file (state_of reader.old (shown loader.old))) result (state_of reader.new (shown loader.new)) }
     ensures follows { OnOk result (FollowsPart reader.old reader.new) }
-    ensures room { OnOk result (length loader.new.names ≤ 4000000001 + reader.new.inclusions) }
+    ensures room { OnOk result (length loader.new.names ≤ most_names + reader.new.inclusions) }
     ensures leaves { Leaves (F.files folder.old) (F.files folder.new) (F.room folder.old) (F.room folder.new) (F.faults folder.old) (F.faults folder.new) loader.old loader.new (stop_of result) }
 {
     reader.files_read.insert(file)?;
@@ -238,15 +235,15 @@ fn read_and_enter<F: Folder>(
     to: usize,
 ) -> Result<(), Stop>
     requires counted { IsCounted reader.old }
-    requires few { reader.old.inclusions ≤ 16384 }
-    requires room { length loader.old.names ≤ 4000000001 + reader.old.inclusions }
+    requires few { reader.old.inclusions ≤ most_inclusions }
+    requires room { length loader.old.names ≤ most_names + reader.old.inclusions }
     requires held { IsHeld loader.old file }
     requires some { from < to }
     requires inside { to ≤ length (held_tokens loader.old file) }
     ensures leads { (setting : Setting) → Serves (F.files folder.old) unit.now reader.old.main loader.old loader.new setting →
         Does (ReadsPart setting (Enters setting more) file (part_of (slice_range (held_tokens loader.old file) from to)) (state_of reader.old (shown loader.old))) result (state_of reader.new (shown loader.new)) }
     ensures follows { OnOk result (FollowsPart reader.old reader.new) }
-    ensures room { OnOk result (length loader.new.names ≤ 4000000001 + reader.new.inclusions) }
+    ensures room { OnOk result (length loader.new.names ≤ most_names + reader.new.inclusions) }
     ensures leaves { Leaves (F.files folder.old) (F.files folder.new) (F.room folder.old) (F.room folder.new) (F.faults folder.old) (F.faults folder.new) loader.old loader.new (stop_of result) }
 {
     match read_part(alloc, folder, loader, unit, reader, file, from, to) {
@@ -268,17 +265,17 @@ fn enter<F: Folder>(
     more: u32,
 ) -> Result<(), Stop>
     requires counted { IsCounted reader.old }
-    requires few { reader.old.inclusions ≤ 16384 }
-    requires room { length loader.old.names ≤ 4000000001 + reader.old.inclusions }
+    requires few { reader.old.inclusions ≤ most_inclusions }
+    requires room { length loader.old.names ≤ most_names + reader.old.inclusions }
     requires held { IsHeld loader.old file }
     ensures leads { (setting : Setting) → Serves (F.files folder.old) unit.now reader.old.main loader.old loader.new setting →
         Does (Enters setting more file (state_of reader.old (shown loader.old))) result (state_of reader.new (shown loader.new)) }
     ensures follows { OnOk result (FollowsPart reader.old reader.new) }
-    ensures room { OnOk result (length loader.new.names ≤ 4000000001 + reader.new.inclusions) }
+    ensures room { OnOk result (length loader.new.names ≤ most_names + reader.new.inclusions) }
     ensures leaves { Leaves (F.files folder.old) (F.files folder.new) (F.room folder.old) (F.room folder.new) (F.faults folder.old) (F.faults folder.new) loader.old loader.new (stop_of result) }
 {
     if more == 0 {
-        return Err(passed(4, reader.main));
+        return Err(passed(limit_numbers::NESTED_FILES, reader.main));
     }
     if is_passed(reader, file) {
         return Ok(());

@@ -4,7 +4,7 @@ ghost use Rattle.std.specs.Prelude.{◌≡◌, ◌<◌, suc, length, drop, posit
 ghost use Rattle.std.specs.List.{position_or_len};
 ghost use Rattle.dm_unit.specs.Lines.{is_first, begins_directive as begins};
 
-use crate::sign::is_hash;
+use dm_macro::is_hash;
 use dm_token::PpToken;
 
 /// How many tokens the line at the front has.

@@ -2,10 +2,11 @@
 
 ghost use Rattle.std.specs.Prelude.{◌≡◌, ◌↔◌, ◌+◌, ◌<◌, ◌≤◌, ℕ, true, false, ◌∷◌, take, drop, length, slice_range, IsTrue, IfOk, IfErr, IfSome, OnOk, List as Sequence};
 ghost use Rattle.dm_token.specs.declared.token.PpToken.{PpToken as Preprocessing};
+ghost use Rattle.dm_token.specs.Limits.{most_inclusions};
 ghost use Rattle.dm_unit.specs.States.{Setting, Catalogue};
 ghost use Rattle.dm_unit.specs.Lines.{parts_of};
 ghost use Rattle.dm_unit.specs.Sections.{is_read};
-ghost use Rattle.dm_unit.specs.Loaders.{shown};
+ghost use Rattle.dm_unit.specs.Loaders.{shown, most_names};
 ghost use Rattle.dm_unit.specs.Readings.{DoesDirective, DoesRead, Enters, after_pragma};
 ghost use Rattle.dm_unit.specs.Views.{IsFaultless, state_of, Does, LeadsTo, Serves, Leaves, stop_of, IsHeld, IsBytesOf, IsOther, PartLeads, part_of, held_tokens, text_or_none, IsCounted, Follows, FollowsPart};
 
@@ -15,12 +16,12 @@ use crate::directive::{Directive, directive_of};
 use crate::include::{find_included, header_of};
 use crate::lines::{line_length, text_length};
 use crate::reader::Reader;
-use crate::sign::{is_hash, is_word};
 use crate::stops::refused;
 use crate::text::read_text;
 use dm_io::Folder;
+use dm_macro::{is_hash, is_word};
 use dm_search::Loader;
-use dm_token::{PpToken, Stop, Unit};
+use dm_token::{PpToken, Stop, Unit, refusals};
 use std::alloc::Global;
 
 /// How many tokens the part at the front has.
@@ -58,8 +59,8 @@ pub(crate) fn read_part<F: Folder>(
     to: usize,
 ) -> Result<Option<u32>, Stop>
     requires counted { IsCounted reader.old }
-    requires few { reader.old.inclusions ≤ 16384 }
-    requires room { length loader.old.names ≤ 4000000001 + reader.old.inclusions }
+    requires few { reader.old.inclusions ≤ most_inclusions }
+    requires room { length loader.old.names ≤ most_names + reader.old.inclusions }
     requires held { IsHeld loader.old file }
     requires some { from < to }
     requires inside { to ≤ length (held_tokens loader.old file) }
@@ -67,7 +68,7 @@ pub(crate) fn read_part<F: Folder>(
         PartLeads setting file (part_of (slice_range (held_tokens loader.old file) from to)) (state_of reader.old (shown loader.old)) result (state_of reader.new (shown loader.new)) }
     ensures follows { OnOk result (FollowsPart reader.old reader.new) }
     ensures held { IfOk result (λ included. IfSome included (IsHeld loader.new)) }
-    ensures room { OnOk result (length loader.new.names ≤ 4000000001 + reader.new.inclusions) }
+    ensures room { OnOk result (length loader.new.names ≤ most_names + reader.new.inclusions) }
     ensures leaves { Leaves (F.files folder.old) (F.files folder.new) (F.room folder.old) (F.room folder.new) (F.faults folder.old) (F.faults folder.new) loader.old loader.new (stop_of result) }
 {
     let part = &tokens_of(loader, file)[from..to];
@@ -189,9 +190,9 @@ fn do_read(
         Directive::Undef => undefine(reader, start, operands_of(line)),
         Directive::Pragma => pragma(reader, file, start, operands_of(line)),
         Directive::Null => Ok(()),
-        Directive::Error => Err(refused(14, start.place)),
-        Directive::Line => Err(refused(18, start.place)),
-        _ => Err(refused(4, start.place)),
+        Directive::Error => Err(refused(refusals::ERROR_DIRECTIVE, start.place)),
+        Directive::Line => Err(refused(refusals::OUT_OF_SUBSET, start.place)),
+        _ => Err(refused(refusals::DIRECTIVE, start.place)),
     }
 }
 
@@ -207,6 +208,6 @@ fn pragma(reader: &mut Reader, file: u32, start: &PpToken, operands: &[PpToken])
             reader.once.insert(file)?;
             Ok(())
         }
-        _ => Err(refused(18, start.place)),
+        _ => Err(refused(refusals::OUT_OF_SUBSET, start.place)),
     }
 }

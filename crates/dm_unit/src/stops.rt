@@ -4,7 +4,7 @@ ghost use Rattle.std.specs.Prelude.{◌≡◌};
 ghost use Rattle.dm_unit.specs.Views.{IsFaultless};
 ghost use Rattle.dm_unit.specs.States.{refusal, limit as limit_of, in_unit as unit_stop};
 
-use dm_token::{Limit, Place, Refusal, Stop};
+use dm_token::{Limit, Place, Refusal, Stop, limit_numbers};
 
 /// The refusal of this number, at a place.
 pub(crate) fn refused(number: u8, place: Place) -> Stop
@@ -34,7 +34,7 @@ pub(crate) fn in_unit(main: u32, stop: Stop) -> Stop
     match stop {
         Stop::Memory => Stop::Memory,
         Stop::Refused(refusal) => Stop::Refused(refusal),
-        Stop::Limit(_) => passed(3, main),
-        Stop::ReadFault(_) => passed(3, main),
+        Stop::Limit(_) => passed(limit_numbers::WORK, main),
+        Stop::ReadFault(_) => passed(limit_numbers::WORK, main),
     }
 }

@@ -9,11 +9,8 @@ use crate::reader::Reader;
 use crate::stops::{in_unit, passed};
 use dm_expand::{Expanded, expand};
 use dm_search::Loader;
-use dm_token::{Memory, PpToken, Stop, Text};
+use dm_token::{MOST_TOKENS, Memory, PpToken, Stop, Text, limit_numbers};
 use std::alloc::Global;
-
-/// The greatest number of tokens of a unit.
-const MAX_TOKENS: usize = 1_000_000;
 
 /// Expands a text group (6.10.3).
 pub(crate) fn read_text(
@@ -31,8 +28,8 @@ pub(crate) fn read_text(
     let Expanded { tokens, expansions } = expanded;
     add_behind(expansions.into_vec(), &mut reader.expansions)?;
     add_behind(tokens.into_vec(), &mut reader.tokens)?;
-    if reader.tokens.len() > MAX_TOKENS {
-        return Err(passed(2, reader.main));
+    if reader.tokens.len() > MOST_TOKENS {
+        return Err(passed(limit_numbers::UNIT_TOKENS, reader.main));
     }
     Ok(())
 }

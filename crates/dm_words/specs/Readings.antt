@@ -9,12 +9,16 @@ use Rattle.dm_words.specs.declared.part.Name.{Name}
 use Rattle.dm_words.specs.declared.part.Name.TheVariants as name
 use Rattle.dm_words.specs.declared.part.Part as read
 use Rattle.dm_words.specs.declared.part.Part.TheVariants as one
-use Rattle.dm_words.specs.Requests.{Part, operand, order, steps, input, Given, Are, given_by, nothing_given, Means, RunRequest, request_of, is_plain_word, equals_sign}
+use Rattle.dm_words.specs.Requests.{Part, operand, order, steps, input, Given, Are, given_by, nothing_given, Means, RunRequest, request_of, is_plain_word, equals_sign, most_digits}
+
+-- the greatest number of 64 bits
+abbrev pub greatest_number : ℕ
+greatest_number = 18446744073709551615
 
 -- a number with one more digit, if it has 64 bits
 abbrev pub with_digit : ℕ → ℕ → Option ℕ
 with_digit number digit =
-    if is_digit digit && nat_le (number * 10 + (digit - 48)) 18446744073709551615 then Some (number * 10 + (digit - 48)) else None
+    if is_digit digit && nat_le (number * 10 + (digit - 48)) greatest_number then Some (number * 10 + (digit - 48)) else None
 
 abbrev pub then_read : {A B : Type 0} → Option A → (A → Option B) → Option B
 then_read None next = None
@@ -26,7 +30,7 @@ value_after number (digit ∷ digits) = then_read (with_digit number digit) (λ 
 
 abbrev pub number_in : List ℕ → Option ℕ
 number_in [] = None
-number_in (digit ∷ digits) = if nat_le (length (digit ∷ digits)) 20 then value_after 0 (digit ∷ digits) else None
+number_in (digit ∷ digits) = if nat_le (length (digit ∷ digits)) most_digits then value_after 0 (digit ∷ digits) else None
 
 -- the part that the code reads
 abbrev pub meant : read.Part → Part

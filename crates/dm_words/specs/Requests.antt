@@ -6,6 +6,7 @@
 --     AsksToRun words request      good words that ask for this run
 use Rattle.std.specs.Prelude.{◌≡◌, ◌⊎◌, ◌≤◌, ◌<◌, ◌^◌, ◌+◌, ◌-◌, ◌*◌, ℕ, Bool, true, false, not, ◌==◌, List, [], ◌∷◌, ◌++◌, map, length, Option, Some, None, option_map, codes}
 use Rattle.std.specs.List.{list_all}
+use Rattle.dm_token.specs.Limits.{usual_steps}
 use Rattle.dm_token.specs.Bytes.{is_digit}
 use Rattle.dm_words.specs.declared.asked.RunWords.{RunWords}
 
@@ -25,10 +26,14 @@ abbrev pub number_behind : ℕ → List ℕ → ℕ
 number_behind number [] = number
 number_behind number (digit ∷ digits) = number_behind (number * 10 + (digit - 48)) digits
 
+-- how many digits the value of an option may have: as many as the greatest number of 64 bits
+abbrev pub most_digits : ℕ
+most_digits = 20
+
 -- one to twenty decimal digits, which write a number of 64 bits
 pub record IsNumber (text : List ℕ) (number : ℕ) : Type 0 where
   pub some : 1 ≤ length text
-  pub few : length text ≤ 20
+  pub few : length text ≤ most_digits
   pub digits : list_all is_digit text ≡ true
   pub is : number_behind 0 text ≡ number
   pub small : number < 2 ^ 64
@@ -92,7 +97,7 @@ IsValue default (one ∷ other ∷ more) value = ⊥
 pub record Means (given : Given) (request : RunRequest) : Type 0 where
   pub operands : given.operands ≡ request.project ∷ request.file ∷ []
   pub order : IsValue 0 given.orders request.order
-  pub steps : IsValue 1000000 given.steps request.steps
+  pub steps : IsValue usual_steps given.steps request.steps
   pub input : IsValue None (map Some given.inputs) request.input
 
 pub record AsksToRun (words : List (List ℕ)) (request : RunRequest) : Type 0 where

@@ -5,6 +5,7 @@ ghost use Rattle.dm_words.specs.Requests.{AsksAs};
 ghost use Rattle.dm_words.specs.Readings.{AsksBehind, TakesOn, MakesUp};
 
 use crate::part::{Part, next_part};
+use dm_token::USUAL_STEPS;
 
 /// What good words of `run` ask for.
 #[derive(Clone, Copy, Debug, PartialEq, Eq)]
@@ -117,7 +118,7 @@ fn request<'a>(found: Found<'a>) -> Option<RunWords<'a>>
             project,
             file,
             order: found.order.unwrap_or(0),
-            steps: found.steps.unwrap_or(1000000),
+            steps: found.steps.unwrap_or(USUAL_STEPS),
             input: found.input,
         }),
         Operands::Neither | Operands::One(_) => None,

@@ -3,11 +3,14 @@ ghost use Rattle.dm_words.specs.Readings.{number_in, value_after, with_digit as 
 
 use dm_token::is_digit;
 
+/// How many digits the value of an option may have: as many as the greatest number of 64 bits.
+const MOST_DIGITS: usize = 20;
+
 /// The number of an option's value: one to twenty decimal digits, which write less than 2 to the power of 64.
 pub(crate) fn number(text: &[u8]) -> Option<u64>
     ensures { result ≡ number_in text.now }
 {
-    if text.is_empty() || text.len() > 20 {
+    if text.is_empty() || text.len() > MOST_DIGITS {
         return None;
     }
     value(text)
@@ -33,7 +36,7 @@ fn with_digit(number: u64, digit: u8) -> Option<u64>
         return None;
     }
     let longer = u128::from(number) * 10 + u128::from(digit - b'0');
-    if longer <= 18446744073709551615 {
+    if longer <= u128::from(u64::MAX) {
         Some(longer as u64)
     } else {
         None

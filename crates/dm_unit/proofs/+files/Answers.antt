@@ -3,6 +3,7 @@ use Rattle.dm_unit.specs.States.{limit}
 use Rattle.dm_unit.specs.Loaders.{shown}
 use Rattle.dm_unit.specs.Readings.{ReadsPart, ReadsFile, Enters, begun, within}
 use Rattle.dm_unit.specs.Lines.{parts_of}
+use Rattle.dm_token.specs.LimitNumbers as limits
 use Rattle.dm_token.specs.declared.token.PpToken.{PpToken}
 use Rattle.dm_unit.specs.declared.section.Section.{Section}
 use Rattle.dm_unit.specs.Views.{state_of, Does, Stops, stop_of, part_of, held_tokens}
@@ -22,8 +23,8 @@ less n some = by n refl
 pub enter-returns-then-more-eq0-clause-leads : goal.enter-returns-then-more-eq0-clause-leads
 enter-returns-then-more-eq0-clause-leads g t c = λ setting serves.
     let state = state_of c.args.reader.now (shown c.args.loader.now) in
-    subst (Stops (Enters setting c.args.more c.args.file state)) (ap (λ main. limit 4 main) serves.main_is ∙ sym c.passed.ensures.stop)
-    (subst (λ n. Enters setting n c.args.file state (Err (limit 4 setting.main))) (sym c.if-more-eq0.true) (enters-none setting c.args.file state))
+    subst (Stops (Enters setting c.args.more c.args.file state)) (ap (λ main. limit limits.nested_files main) serves.main_is ∙ sym c.passed.ensures.stop)
+    (subst (λ n. Enters setting n c.args.file state (Err (limit limits.nested_files setting.main))) (sym c.if-more-eq0.true) (enters-none setting c.args.file state))
 
 pub enter-returns-then-is_passed-clause-leads : goal.enter-returns-then-is_passed-clause-leads
 enter-returns-then-is_passed-clause-leads g t c = λ setting serves.

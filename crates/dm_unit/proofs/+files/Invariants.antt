@@ -1,9 +1,10 @@
 -- How many files may still be open falls with each file that is entered. Of a file the parts that are left give what the
 -- whole file gives.
 use Rattle.std.proofs.Common.{◌≡◌, ◌+◌, ◌-◌, ◌*◌, ◌≤◌, None, drop, length}
+use Rattle.dm_token.specs.Limits.{most_inclusions}
 use Rattle.dm_unit.specs.Lines.{parts_of}
 use Rattle.dm_unit.specs.States.{Setting, Outcome}
-use Rattle.dm_unit.specs.Loaders.{shown}
+use Rattle.dm_unit.specs.Loaders.{shown, most_names}
 use Rattle.dm_unit.specs.Readings.{ReadsParts, Enters, begun}
 use Rattle.dm_unit.specs.Views.{state_of, IsHeld, Serves, Leaves, IsCounted, held_tokens}
 use Rattle.dm_unit.proofs.+files.Given as goal
@@ -17,10 +18,10 @@ decreases-enter g l = 3 * l.more
 abbrev pub invariant-read_file-loop-at : goal.invariant-read_file-loop-at
 invariant-read_file-loop-at g l = record {
   counted : IsCounted l.reader;
-  few : l.reader.inclusions ≤ 16384;
+  few : l.reader.inclusions ≤ most_inclusions;
   rises : l.fn.reader.inclusions ≤ l.reader.inclusions;
   main : l.reader.main ≡ l.fn.reader.main;
-  room : length l.loader.names ≤ 4000000001 + l.reader.inclusions;
+  room : length l.loader.names ≤ most_names + l.reader.inclusions;
   held : IsHeld l.loader l.fn.file;
   same : held_tokens l.loader l.fn.file ≡ held_tokens l.fn.loader l.fn.file;
   inside : l.at ≤ length (held_tokens l.fn.loader l.fn.file);

@@ -1,4 +1,5 @@
 use Rattle.std.proofs.Common.{◌∷◌, [], ℕ, None, Ok, Bool, sym, ap, ◌∙◌, subst}
+use Rattle.dm_token.specs.Refusals as refusals
 use Rattle.dm_token.specs.declared.place.Place.{Place}
 use Rattle.dm_unit.specs.States.{refusal}
 use Rattle.dm_unit.specs.Loaders.{shown}
@@ -37,7 +38,7 @@ pub returns-in-Ok-false-clause-leads : goal.returns-in-Ok-false-clause-leads
 returns-in-Ok-false-clause-leads g c = λ setting serves.
     let name = c.args.unit.now.file in
     let state = state_of c.args.reader.now (shown c.args.loader.now) in
-    subst (Stops (ReadsMain setting name state)) (ap (λ (main : ℕ). refusal 7 (absent_place main)) serves.main_is ∙ ap (λ (place : Place). refusal 7 place) (sym c.first_place.ensures) ∙ sym c.refused.ensures.stop)
+    subst (Stops (ReadsMain setting name state)) (ap (λ (main : ℕ). refusal refusals.not_found (absent_place main)) serves.main_is ∙ ap (λ (place : Place). refusal refusals.not_found place) (sym c.first_place.ensures) ∙ sym c.refused.ensures.stop)
     (main-absent setting name state (shown c.load_main.new.loader)
     (subst (λ (there : Bool). SearchLeads setting None (name ∷ []) (shown c.args.loader.now) (loaded_as c.args.main (Ok there)) (shown c.load_main.new.loader)) c.in-Ok-false.field-0-test
     (c.in-Ok-false.ensures.search setting c.args.unit.now c.args.main serves)))

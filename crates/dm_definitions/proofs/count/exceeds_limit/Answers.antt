@@ -6,8 +6,8 @@ use Rattle.dm_definitions.specs.Counts.{keys_behind, with_definition}
 use Rattle.dm_definitions.proofs.KeyLemmas.{too_many}
 use Rattle.dm_definitions.proofs.count.exceeds_limit.Goals as goal
 
-pub returns-then-len-gt4096 : goal.returns-then-len-gt4096
-returns-then-len-gt4096 c =
+pub returns-then-len-gt-MOST_DEFINITIONS : goal.returns-then-len-gt-MOST_DEFINITIONS
+returns-then-len-gt-MOST_DEFINITIONS c =
     let at = c.loop-one.one-index in
     let read = c.args.read.now in
     let keys = c.loop-one.keys.keys in
@@ -15,4 +15,4 @@ returns-then-len-gt4096 c =
     too_many c.add.new.keys.keys rest read
     (ap (λ more. keys_behind more rest) c.in_ok-add.ensures ∙ ap (λ (one : Read). keys_behind (with_definition keys one.definition) rest) c.one-item.is
     ∙ sym (at_drop_more (keys_behind keys) read at c.one-item.result c.loop-one-test.true) ∙ c.loop-one.invariant.all)
-    (omega (arith, c.len.ensures.len, c.if-len-gt4096.true))
+    (omega (arith, c.len.ensures.len, c.if-len-gt-MOST_DEFINITIONS.true))

@@ -9,8 +9,13 @@ use Rattle.dm_edeclarator.specs.Steps.{parameter_over, ParameterFits}
 use Rattle.dm_typing.proofs.GivesLemmas.{obeyed, disobeyed}
 use Rattle.dm_typing.proofs.LaterLemmas.{begins-itself, type-later}
 use Rattle.dm_edeclarator.proofs.ReachLemmas.{says, ends, done, breaks, relays}
-use Rattle.dm_edeclarator.proofs.ParameterLemmas.{parameter-reaches}
+use Rattle.dm_edeclarator.proofs.ParameterLemmas.{parameter-reaches, new-name}
 use Rattle.dm_edeclarator.proofs.declarators.typed_parameter.Goals as goal
+
+pub parameter_declared-requires-clause-new : goal.parameter_declared-requires-clause-new
+parameter_declared-requires-clause-new c =
+    new-name c.args.typer.now c.args.known.now c.adjusted.new.known c.args.name c.in-Some.at c.in_ok-kind.ensures.grows
+    (λ later. sym (c.in_ok-is_new.ensures later) ∙ c.if-not-is_new.false) c.in-Some.is
 
 pub returns-then-not-is_new : goal.returns-then-not-is_new
 returns-then-not-is_new c =

@@ -24,16 +24,16 @@ returns-then-is_declared-clause-gives c = λ later begins number is.
     (ap (λ name. not (is_declared scopes name)) (sym c.in_ok-name.ensures) ∙ ap not (sym c.is_declared.ensures ∙ c.if-is_declared.true)))
     c.broken.ensures
 
-pub returns-in-None-clause-gives : goal.returns-in-None-clause-gives
-returns-in-None-clause-gives c = λ later begins number is.
+pub returns-in_default-clause-gives : goal.returns-in_default-clause-gives
+returns-in_default-clause-gives c = λ later begins number is.
     let scopes = c.args.known.now.scopes in
     let source = source_of c.args.typer.now in
     let name = spelling_at source c.args.at in
-    refused {A = ℤ} (λ value. value) source (known_over later c.args.known.now) _ 7 c.args.at c.broken-in-None.result
+    refused {A = ℤ} (λ value. value) source (known_over later c.args.known.now) _ 7 c.args.at c.broken-in_default.result
     (obeyed (not (is_declared scopes name)) 2 c.args.at _
     (ap (λ x. not (is_declared scopes x)) (sym c.in_ok-name.ensures) ∙ ap not (sym c.is_declared.ensures ∙ c.if-is_declared.false))
-    ∙ disobeyed (is_int number) 7 c.args.at _ (no-int number (sym c.in-None.is ∙ is)))
-    c.broken-in-None.ensures
+    ∙ disobeyed (is_int number) 7 c.args.at _ (no-int number (sym c.in_default.is ∙ is)))
+    c.broken-in_default.ensures
 
 pub returns-then-is_main_in_file-clause-gives : goal.returns-then-is_main_in_file-clause-gives
 returns-then-is_main_in_file-clause-gives c = λ later begins number is.

@@ -5,8 +5,8 @@ use Rattle.dm_manifest.specs.Units.{new_unit_at}
 use Rattle.dm_manifest.proofs.Steps.{units_of-few, units_of-many, manifest_of-units, Gives-along}
 use Rattle.dm_manifest.proofs.unit.read_units.Goals as goal
 
-pub returns-then-len-gt-MAX_UNITS : goal.returns-then-len-gt-MAX_UNITS
-returns-then-len-gt-MAX_UNITS c =
+pub returns-then-len-gt-MOST_UNITS : goal.returns-then-len-gt-MOST_UNITS
+returns-then-len-gt-MOST_UNITS c =
     manifest_of-units (view c.args.root.now) _ (items_view c.in_ok-values.values.now.items) c.in_ok-check_root.ensures c.in_ok-values.ensures
     ∙ units_of-many c.in_ok-values.values.now.items (omega arith)
 
