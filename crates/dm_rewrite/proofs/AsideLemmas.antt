@@ -1,6 +1,6 @@
 -- The evaluation of a tree that the program hasn't begun, followed on the side: what it comes to the tree comes to, and where it is undefined the
 -- tree is.
-use Rattle.std.specs.Prelude.{◌≡◌, refl, ◌⊎◌, ℕ, zero, suc, true, false, List, [], Option, Some, None}
+use Rattle.std.specs.Prelude.{◌≡◌, refl, ◌⊎◌, ℕ, zero, suc, List, [], Option, Some, None}
 use Rattle.std.proofs.Common.{true≢false, ap, sym, ◌∙◌, subst, inl, inr}
 use Rattle.dm_meaning.specs.Among.{IsAmong}
 use Rattle.dm_meaning.specs.Values.{At}

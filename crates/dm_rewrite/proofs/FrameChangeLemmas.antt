@@ -1,6 +1,6 @@
 -- What stays of a world while frames above open, run and end: `ChangesOnly` goes on from world to world, objects that are made later and die
 -- again don't matter to it.
-use Rattle.std.specs.Prelude.{◌≡◌, refl, ℕ, suc, ◌==◌, true, false, not, List, [], ◌∷◌, length, Option, Some, None, option_map, if◌then◌else◌}
+use Rattle.std.specs.Prelude.{◌≡◌, refl, ℕ, suc, ◌==◌, false, not, List, [], ◌∷◌, length, Option, Some, None, option_map, if◌then◌else◌}
 use Rattle.std.proofs.Common.{true≢false, ap, sym, ◌∙◌, inl, inr}
 use Rattle.dm_tree.specs.Trees.{parts_of}
 use Rattle.dm_meaning.specs.declared.cause.Cause.TheVariants.{Life}
