@@ -15,5 +15,3 @@ mod spans;
 mod trees;
 #[cfg(test)]
 mod typing;
-#[cfg(test)]
-mod words;

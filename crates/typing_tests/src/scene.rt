@@ -5,7 +5,6 @@ ghost use Rattle.dm_type.specs.Tables.{IsId};
 ghost use Rattle.dm_typing.specs.Bounds.{AreBelow};
 ghost use Rattle.dm_typing.specs.Fitting.{HaveTypes};
 
-use crate::words::{tokens_of, typedefs_of};
 use dm_eexpr::syntax::typed_name;
 use dm_enames::tags::declare;
 use dm_pexpr::{Names, type_name};
@@ -18,6 +17,7 @@ use dm_typing::{Known, Typer};
 use std::alloc::Global;
 use std::process::Abort;
 use std::test::Fail;
+use test_words::{tokens_of, type_names};
 
 // In each line what is declared, its name, and the words of its type. The words of a tag declare it and its enumerators.
 const DECLARATIONS: &str = "tag S => struct S { int m ; const int k ; int a [ 2 ] ; }
@@ -297,6 +297,11 @@ fn scene_of(known: Known, kinds: List<(TypeId, &'static str)>) -> Scene {
         declared,
         kinds,
     }
+}
+
+/// The names of types that the tests use.
+pub fn typedefs_of(alloc: Global) -> Result<Names, Fail> {
+    Ok(type_names(alloc, &["Int", "Fixed", "Three"])?)
 }
 
 /// The scene of the tests.

@@ -3,11 +3,11 @@
 use crate::scene::full_scene;
 use crate::showing::show_outermost;
 use crate::typing::{expression_of, tree_of};
-use crate::words::{token_of, tokens_of};
 use dm_token::{CToken, List};
 use std::alloc::Global;
 use std::process::Abort;
 use std::test::Fail;
+use test_words::{put, tokens_of};
 
 /// What the outermost node of a typed tree is, and its type. Empty where the tokens are no expression or are refused.
 fn outermost(alloc: Global, tokens: &List<CToken>) -> Result<String, Fail> {
@@ -21,14 +21,6 @@ fn outermost(alloc: Global, tokens: &List<CToken>) -> Result<String, Fail> {
     }
 }
 
-/// The tokens of words behind others.
-fn append(alloc: Global, tokens: &mut List<CToken>, words: &str) -> Result<(), Fail> {
-    for word in words.split(' ') {
-        tokens.push(token_of(alloc, word, 0)?)?;
-    }
-    Ok(())
-}
-
 /// The words, then other words so many times, then the last ones.
 fn repeated(
     alloc: Global,
@@ -39,9 +31,9 @@ fn repeated(
 ) -> Result<List<CToken>, Fail> {
     let mut tokens = tokens_of(alloc, first)?;
     for _ in 0..count {
-        append(alloc, &mut tokens, words)?;
+        put(alloc, &mut tokens, words)?;
     }
-    append(alloc, &mut tokens, last)?;
+    put(alloc, &mut tokens, last)?;
     Ok(tokens)
 }
 
@@ -81,9 +73,9 @@ fn members(alloc: Global, count: u32) -> Result<List<CToken>, Fail> {
     let mut tokens = tokens_of(alloc, "sizeof ( struct {")?;
     for number in 0..count {
         let member = format!(in alloc; "int m{number} ;")?;
-        append(alloc, &mut tokens, member.as_str())?;
+        put(alloc, &mut tokens, member.as_str())?;
     }
-    append(alloc, &mut tokens, "} )")?;
+    put(alloc, &mut tokens, "} )")?;
     Ok(tokens)
 }
 

@@ -1,8 +1,7 @@
 //! What the tests ask of `elaborate_expr`.
 
-use crate::scene::{Scene, full_scene, plain_scene};
+use crate::scene::{Scene, full_scene, plain_scene, typedefs_of};
 use crate::showing::show;
-use crate::words::{tokens_of, typedefs_of};
 use dm_eexpr::elaborate_expr;
 use dm_pexpr::expression;
 use dm_syn::Expr;
@@ -12,6 +11,7 @@ use dm_tree::Core;
 use std::alloc::Global;
 use std::fmt::Write;
 use std::test::Fail;
+use test_words::tokens_of;
 
 /// The expression that tokens are.
 pub fn expression_of(alloc: Global, tokens: &List<CToken>) -> Result<Option<Boxed<Expr>>, Fail> {

@@ -19,5 +19,3 @@ mod trees;
 mod typing;
 #[cfg(test)]
 mod units;
-#[cfg(test)]
-mod words;

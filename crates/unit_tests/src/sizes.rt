@@ -1,12 +1,12 @@
 //! Large units: long ones are typed to their end, and high ones up to the greatest height.
 
 use crate::typing::{refused, typed};
-use crate::words::token_of;
 use dm_token::{CToken, List};
 use std::alloc::Global;
 use std::fmt::Write;
 use std::process::Abort;
 use std::test::Fail;
+use test_words::token_of;
 
 /// Words of which `open` and `close` stand any number of times. In a word that ends in `#` the number of its turn, from 1 on,
 /// stands in place of that sign, and in one that ends in `@` the number of the turn before.

@@ -1,12 +1,12 @@
 //! The external declarations of units, by `unit_syntax`: how many there are, or the column at which none stands.
 
 use crate::typing::refused;
-use crate::words::tokens_of;
 use dm_read::unit_syntax;
 use dm_token::{CToken, List, Stop};
 use std::alloc::Global;
 use std::process::Abort;
 use std::test::Fail;
+use test_words::tokens_of;
 
 const UNITS: &str = r#"int a ; int b ; => 2
 int f ( void ) { } typedef int T ; T x ; => 3

@@ -5,7 +5,6 @@ ghost use Rattle.dm_typing.specs.Fitting.{HaveTypes};
 
 use crate::entries::entries;
 use crate::units::externals;
-use crate::words::tokens_of;
 use dm_eunit::elaborate;
 use dm_read::unit_syntax;
 use dm_token::refusals::TYPING;
@@ -15,6 +14,7 @@ use dm_type::Types;
 use std::alloc::Global;
 use std::fmt::Write;
 use std::test::Fail;
+use test_words::tokens_of;
 
 /// A typed unit, and the types that its numbers stand for.
 #[derive(Drop)]
