@@ -1,0 +1,4 @@
+//! Small trees and units, and what the definitions say of them.
+
+/// x
+pub fn nothing_yet() {}

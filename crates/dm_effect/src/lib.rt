@@ -1,0 +1,7 @@
+//! What the evaluation of an expression does and needs (ISO/IEC 9899:2011, 5.1.2.3, 6.5): which operand comes first, which operands are
+//! unsequenced to another one, and which expressions write nothing, stay the same, or can't go wrong.
+#![tactic(auto)]
+
+mod examples;
+
+pub use examples::nothing_yet;
