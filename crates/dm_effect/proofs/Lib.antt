@@ -1,0 +1,3 @@
+pub mod EffectLemmas
+pub mod PartLemmas
+pub mod SequencingLemmas

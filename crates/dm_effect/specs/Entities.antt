@@ -1,5 +1,4 @@
 -- What trees do to objects, and what the trees of a unit say of its objects and functions.
---     stores_in tree      some node of a tree stores
 --     writes d tree      a tree stores in an object by its name (6.5.16, 6.5.2.4, 6.5.3.1)
 --     is_addressed unit d      the address of an object is taken somewhere (6.5.3.2)
 --     locals_of_unit unit      the declarators of a unit, each with the expressions of its initialiser (6.7)
@@ -33,9 +32,13 @@ abbrev pub function_first : Trees → Option ℕ
 function_first (more_trees (node (function d) kind spans parts) rest) = Some d
 function_first trees = None
 
+-- one is named, and passes; and it is this one
+abbrev pub is_named : (ℕ → Bool) → Option ℕ → Bool
+is_named test None = false
+is_named test (Some d) = test d
+
 abbrev pub is_this : ℕ → Option ℕ → Bool
-is_this d None = false
-is_this d (Some c) = c == d
+is_this d named = is_named (λ c. c == d) named
 
 -- ---- stores
 

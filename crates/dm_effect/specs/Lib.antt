@@ -1,6 +1,10 @@
+pub mod Effects
 pub mod Entities
 pub mod Forms
+pub mod Parts
+pub mod Questions
 pub mod Quiet
 pub mod Safe
 pub mod Sequencing
 pub mod Stable
+pub mod Walks

@@ -19,9 +19,8 @@ use Rattle.dm_tree.specs.Scenes.{is_integer}
 use Rattle.dm_tree.specs.Trees.{Label, number, enumerator, read, convert, unary, binary, both, either, choose, comma, Tree, Trees, no_trees, more_trees, kind_of, spans_of}
 use Rattle.dm_tree.specs.Units.{Declaration, External, ExternalForm, declares, defines_function, TypedUnit}
 use Rattle.dm_meaning.specs.Statements.{Local}
-use Rattle.dm_effect.specs.Entities.{object_first, locals_of_unit}
+use Rattle.dm_effect.specs.Entities.{object_first, is_named, locals_of_unit}
 use Rattle.dm_effect.specs.Forms.{Ruling, settled, by_operand, by_parts, is_built}
-use Rattle.dm_effect.specs.Stable.{is_named}
 
 -- ---- objects that are set
 

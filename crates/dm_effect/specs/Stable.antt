@@ -10,7 +10,7 @@ use Rattle.dm_tree.specs.Paths.{Path, all_in}
 use Rattle.dm_tree.specs.Scenes.{is_scalar}
 use Rattle.dm_tree.specs.Trees.{Label, number, enumerator, read, decay, address, call, is_statement, Tree, Trees, label_of}
 use Rattle.dm_tree.specs.Units.{Declaration, TypedUnit}
-use Rattle.dm_effect.specs.Entities.{object_first, is_store, writes, is_addressed}
+use Rattle.dm_effect.specs.Entities.{object_first, is_named, is_store, writes, is_addressed}
 use Rattle.dm_effect.specs.Forms.{Ruling, settled, by_parts, is_built}
 use Rattle.dm_effect.specs.Quiet.{is_quiet}
 use Rattle.dm_effect.specs.Sequencing.{around}
@@ -43,10 +43,6 @@ abbrev pub stays : TypedUnit → List Tree → ℕ → Bool
 stays one trees d = is_scalar_local (slice_get one.declared d) && (not (is_addressed one d) && not (list_any (writes d) trees))
 
 -- ---- leaves
-
-abbrev pub is_named : (ℕ → Bool) → Option ℕ → Bool
-is_named test None = false
-is_named test (Some d) = test d
 
 -- Its leaves are integer constants, addresses of named objects by & and by decay, and reads of whole objects that pass; there is no
 -- other read.

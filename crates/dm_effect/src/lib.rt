@@ -2,6 +2,12 @@
 //! unsequenced to another one, and which expressions write nothing, stay the same, or can't go wrong.
 #![tactic(auto)]
 
-mod examples;
+mod declarators;
+mod effect;
+mod functions;
+mod parts;
+mod question;
+mod sequencing;
+mod walk;
 
-pub use examples::nothing_yet;
+pub use sequencing::{Path, first};

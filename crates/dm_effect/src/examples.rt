@@ -1,4 +1,0 @@
-//! Small trees and units, and what the definitions say of them.
-
-/// x
-pub fn nothing_yet() {}

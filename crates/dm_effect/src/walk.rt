@@ -1,0 +1,168 @@
+//! Questions to all nodes of a tree.
+
+ghost use Rattle.std.specs.Prelude.{◌≡◌, map};
+ghost use Rattle.std.specs.List.{list_any};
+ghost use Rattle.std.specs.Option.{option_copied, option_map};
+ghost use Rattle.dm_type.specs.Tables.{Table};
+ghost use Rattle.dm_tree.specs.Paths.{all_in};
+ghost use Rattle.dm_tree.specs.Views.{expressions_of_items, expressions_of_locals, if_there, view, view_of_external, view_of_local};
+ghost use Rattle.dm_meaning.specs.Wholes.{view_of_initial};
+ghost use Rattle.dm_effect.specs.Parts.{parts_in};
+ghost use Rattle.dm_effect.specs.Questions.{answer, is_asked};
+ghost use Rattle.dm_effect.specs.Quiet.{is_one_of, quiet_functions};
+ghost use Rattle.dm_effect.specs.Walks.{joins};
+
+use crate::declarators::{defines, initialises};
+use crate::effect::{Effect, acts, addresses, effect_of, writes};
+use crate::functions::{is_quiet_by, returned};
+use crate::parts::{Parts, parts_of};
+use crate::question::Question;
+use dm_tree::{Core, CoreExternal, Form, Initial, Local};
+
+/// Whether the answer is yes at some node of a tree. Goes down the left operands of commas in a loop, since a comma expression
+/// may have any number of parts.
+#[cycle(walk)]
+pub(crate) fn any_node(tree: &Core, question: Question) -> bool
+    ensures { (types : Table) → result ≡ list_any (answer types question.entry) (all_in (view types tree.now)) }
+{
+    let mut at = tree;
+    while let Form::Comma(left, right) = &at.form {
+        if answers(at, question) || any_node(right.get(), question) {
+            return true;
+        }
+        at = left.get();
+    }
+    answers(at, question) || any_part(parts_of(&at.form), question)
+}
+
+/// Whether it is at some node of the parts of a node.
+#[cycle(walk)]
+fn any_part(parts: Parts, question: Question) -> bool
+    ensures { (types : Table) → result ≡ is_asked types question.entry (parts_in types parts.entry) }
+{
+    any_optional(parts.first, question)
+        || any_optional(parts.second, question)
+        || any_optional(parts.third, question)
+        || any_optional(parts.fourth, question)
+        || any_tree(parts.items, question)
+        || any_local(parts.locals, question)
+}
+
+/// Whether it is at some node of a tree that may be left out.
+#[cycle(walk)]
+fn any_optional(tree: Option<&Core>, question: Question) -> bool
+    ensures { (types : Table) → result ≡ is_asked types question.entry (if_there (option_map (view types) (option_copied tree.entry))) }
+{
+    match tree {
+        Some(tree) => any_node(tree, question),
+        None => false,
+    }
+}
+
+/// Whether it is at some node of some trees.
+#[cycle(walk)]
+pub(crate) fn any_tree(trees: &[Core], question: Question) -> bool
+    ensures { (types : Table) → result ≡ is_asked types question.entry (map (view types) trees.now) }
+{
+    let mut left = trees;
+    while let Some((tree, rest)) = left.split_first() {
+        if any_node(tree, question) {
+            return true;
+        }
+        left = rest;
+    }
+    false
+}
+
+/// Whether it is at some node of the initialisers of declarators.
+#[cycle(walk)]
+pub(crate) fn any_local(locals: &[Local], question: Question) -> bool
+    ensures { (types : Table) → result ≡ is_asked types question.entry (expressions_of_locals (map (view_of_local types) locals.now)) }
+{
+    let mut left = locals;
+    while let Some((local, rest)) = left.split_first() {
+        if let Some(initial) = &local.initial {
+            if in_initial(initial, question) {
+                return true;
+            }
+        }
+        left = rest;
+    }
+    false
+}
+
+/// Whether it is at some node of an initialiser.
+#[cycle(walk)]
+fn in_initial(initial: &Initial, question: Question) -> bool
+    ensures { (types : Table) → result ≡ is_asked types question.entry (view_of_initial types initial.now).expressions }
+{
+    match initial {
+        Initial::Value(tree) => any_node(tree.get(), question),
+        Initial::Parts(list) => any_initial(list.items(), question),
+    }
+}
+
+/// Whether it is at some node of some initialisers.
+#[cycle(walk)]
+fn any_initial(initials: &[Initial], question: Question) -> bool
+    ensures { (types : Table) → result ≡ is_asked types question.entry (expressions_of_items (map (view_of_initial types) initials.now)) }
+{
+    let mut left = initials;
+    while let Some((initial, rest)) = left.split_first() {
+        if in_initial(initial, question) {
+            return true;
+        }
+        left = rest;
+    }
+    false
+}
+
+/// The answer at a node.
+#[cycle(walk)]
+fn answers(node: &Core, question: Question) -> bool
+    ensures { (types : Table) → result ≡ answer types question.entry (view types node.now) }
+{
+    match question {
+        Question::Acts => acts(effect_of(node)),
+        Question::Writes(object) => writes(node, object),
+        Question::Addresses(object) => addresses(node, object),
+        Question::Defines(object) => defines(node, object),
+        Question::Initialises(object, token) => initialises(node, object, token),
+        Question::Disturbs(before) => match effect_of(node) {
+            Effect::Nothing => false,
+            Effect::Stores | Effect::Calls(None) => true,
+            Effect::Calls(Some(function)) => !is_quiet_function(before, function),
+        },
+        Question::DisturbsSince(since, count) => match effect_of(node) {
+            Effect::Nothing => false,
+            Effect::Stores | Effect::Calls(None) => true,
+            Effect::Calls(Some(function)) => !is_quiet_by(since, count, function),
+        },
+    }
+}
+
+/// Whether a function is quiet behind these external declarations.
+#[cycle(walk)]
+pub(crate) fn is_quiet_function(externals: &[CoreExternal], function: u32) -> bool
+    ensures { (types : Table) → result ≡ is_one_of (quiet_functions (map (view_of_external types) externals.now)) function }
+{
+    let mut left = externals;
+    while let Some((last, before)) = left.split_last() {
+        if defines_quietly(last, before, function) {
+            return true;
+        }
+        left = before;
+    }
+    false
+}
+
+/// Whether a declaration defines the function, and its body is one `return` of a tree that is quiet behind these others.
+#[cycle(walk)]
+fn defines_quietly(external: &CoreExternal, before: &[CoreExternal], function: u32) -> bool
+    ensures { (types : Table) → result ≡ joins (is_one_of (quiet_functions (map (view_of_external types) before.now))) function (view_of_external types external.now).form }
+{
+    match returned(external, function) {
+        Some(value) => !any_node(value, Question::Disturbs(before)),
+        None => false,
+    }
+}
