@@ -1,3 +1,5 @@
+pub mod DeclaratorLemmas
 pub mod EffectLemmas
 pub mod PartLemmas
 pub mod SequencingLemmas
+pub mod WalkLemmas

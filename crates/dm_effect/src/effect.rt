@@ -15,9 +15,10 @@ use dm_tree::{Core, Form};
 #[derive(Clone, Copy)]
 pub(crate) enum Effect {
     Nothing,
-    Stores,
-    /// It calls the function of this number, or what is no name of a function.
-    Calls(Option<u32>),
+    /// It stores, or calls what isn't named.
+    Disturbs,
+    /// It calls the function of this number.
+    Calls(u32),
 }
 
 /// What a node does.
@@ -26,13 +27,16 @@ pub(crate) fn effect_of(node: &Core) -> Effect
     ensures disturbs { (types : Table) (quiet : ℕ → Bool) → disturbs quiet (view types node.now) ≡ disturbed quiet result }
 {
     match &node.form {
-        Form::Store(_, _) | Form::Update(_, _, _, _) => Effect::Stores,
+        Form::Store(_, _) | Form::Update(_, _, _, _) => Effect::Disturbs,
         Form::Count {
             plus: _,
             before: _,
             object: _,
-        } => Effect::Stores,
-        Form::Call(function, _) => Effect::Calls(function_named(function.get())),
+        } => Effect::Disturbs,
+        Form::Call(function, _) => match function_named(function.get()) {
+            Some(number) => Effect::Calls(number),
+            None => Effect::Disturbs,
+        },
         _ => Effect::Nothing,
     }
 }
@@ -43,7 +47,7 @@ pub(crate) fn acts(effect: Effect) -> bool
 {
     match effect {
         Effect::Nothing => false,
-        Effect::Stores | Effect::Calls(_) => true,
+        Effect::Disturbs | Effect::Calls(_) => true,
     }
 }
 

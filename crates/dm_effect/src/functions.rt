@@ -1,9 +1,12 @@
 //! Functions whose body is one `return`.
 
-ghost use Rattle.std.specs.Prelude.{◌≡◌, ◌≤◌, ◌*◌, ◌+◌, ℕ, Bool, false, IfSome};
+ghost use Rattle.std.specs.Prelude.{◌≡◌, ◌≤◌, ◌*◌, ◌+◌, ℕ, Bool, false, IfSome, map};
 ghost use Rattle.std.specs.Option.{option_copied, option_map_or};
+ghost use denote.Param.Weighed.{most};
+ghost use Rattle.dm_type.specs.CTypes.{CType};
 ghost use Rattle.dm_type.specs.Tables.{Table};
 ghost use Rattle.dm_tree.specs.declared.tree.Core.{size-Core};
+ghost use Rattle.dm_tree.specs.Trees.{block, Spans, node, trees};
 ghost use Rattle.dm_tree.specs.Views.{view, view_of_external};
 ghost use Rattle.dm_effect.specs.Questions.{is_quiet_since};
 ghost use Rattle.dm_effect.specs.Quiet.{is_quiet_with, returns_quietly};
@@ -44,7 +47,10 @@ pub(crate) fn returned_by(body: &Core) -> Option<&Core>
 }
 
 /// What the only one of some items returns.
-fn returned_alone(items: &[Core]) -> Option<&Core> {
+fn returned_alone(items: &[Core]) -> Option<&Core>
+    ensures same { (types : Table) (quiet : ℕ → Bool) (kind : CType) (spans : Spans) → returns_quietly quiet (node block kind spans (trees (map (view types) items.now))) ≡ option_map_or (λ value. is_quiet_with quiet (view types value)) (option_copied result) false }
+    ensures below { IfSome result (λ value. size-Core value.now ≤ most size-Core items.now) }
+{
     match items {
         [only] => match &only.form {
             Form::Return(Some(value)) => Some(value.get()),

@@ -130,13 +130,13 @@ fn answers(node: &Core, question: Question) -> bool
         Question::Initialises(object, token) => initialises(node, object, token),
         Question::Disturbs(before) => match effect_of(node) {
             Effect::Nothing => false,
-            Effect::Stores | Effect::Calls(None) => true,
-            Effect::Calls(Some(function)) => !is_quiet_function(before, function),
+            Effect::Disturbs => true,
+            Effect::Calls(function) => !is_quiet_function(before, function),
         },
         Question::DisturbsSince(since, count) => match effect_of(node) {
             Effect::Nothing => false,
-            Effect::Stores | Effect::Calls(None) => true,
-            Effect::Calls(Some(function)) => !is_quiet_by(since, count, function),
+            Effect::Disturbs => true,
+            Effect::Calls(function) => !is_quiet_by(since, count, function),
         },
     }
 }

@@ -1,0 +1,85 @@
+-- The answer is yes where it is at what is left. A tree's depth measures the walk, and a walk goes on from a call only to external
+-- declarations before those that the question has.
+use Rattle.std.proofs.Common.{◌≡◌, map, ◌+◌, ◌*◌, ◌≤◌, length}
+use Rattle.std.specs.List.{list_any}
+use Rattle.std.specs.Option.{option_copied, option_map_or}
+use denote.Param.Weighed.{most}
+use Rattle.dm_type.specs.Tables.{Table}
+use Rattle.dm_tree.specs.declared.tree.Core.{size-Core}
+use Rattle.dm_tree.specs.declared.tree.Initial.{size-Initial}
+use Rattle.dm_tree.specs.declared.tree.Local.{size-Local}
+use Rattle.dm_tree.specs.Paths.{all_in}
+use Rattle.dm_tree.specs.Views.{expressions_of_items, expressions_of_locals, view, view_of_external, view_of_local}
+use Rattle.dm_meaning.specs.Wholes.{view_of_initial}
+use Rattle.dm_effect.specs.Questions.{answer, is_asked}
+use Rattle.dm_effect.specs.Quiet.{is_one_of, quiet_functions}
+use Rattle.dm_effect.specs.Walks.{weight_of, weight_of_form, weight_of_externals}
+use Rattle.dm_effect.proofs.WalkLemmas.{depth_of}
+use Rattle.dm_effect.proofs.walk.+walk.Given as goal
+
+abbrev pub decreases-any_node : goal.decreases-any_node
+decreases-any_node l = weight_of l.question + (8 * size-Core l.tree.now + 2)
+
+abbrev pub decreases-answers : goal.decreases-answers
+decreases-answers l = weight_of l.question + 1
+
+abbrev pub decreases-any_part : goal.decreases-any_part
+decreases-any_part l = weight_of l.question + (8 * depth_of l.parts + 6)
+
+abbrev pub decreases-any_optional : goal.decreases-any_optional
+decreases-any_optional l = weight_of l.question + (8 * option_map_or size-Core (option_copied l.tree) 0 + 3)
+
+abbrev pub decreases-any_tree : goal.decreases-any_tree
+decreases-any_tree l = weight_of l.question + (8 * most size-Core l.trees.now + 3)
+
+abbrev pub decreases-any_local : goal.decreases-any_local
+decreases-any_local l = weight_of l.question + (8 * most size-Local l.locals.now + 5)
+
+abbrev pub decreases-in_initial : goal.decreases-in_initial
+decreases-in_initial l = weight_of l.question + (8 * size-Initial l.initial.now + 3)
+
+abbrev pub decreases-any_initial : goal.decreases-any_initial
+decreases-any_initial l = weight_of l.question + (8 * most size-Initial l.initials.now + 4)
+
+abbrev pub decreases-is_quiet_function : goal.decreases-is_quiet_function
+decreases-is_quiet_function l = weight_of_externals l.externals.now
+
+abbrev pub decreases-defines_quietly : goal.decreases-defines_quietly
+decreases-defines_quietly l = weight_of_externals l.before.now + weight_of_form l.external.now.form
+
+abbrev pub invariant-any_node-loop-at : goal.invariant-any_node-loop-at
+invariant-any_node-loop-at l =
+    (size-Core l.at ≤ size-Core l.fn.tree)
+    × ((types : Table) → list_any (answer types l.question) (all_in (view types l.at)) ≡ list_any (answer types l.question) (all_in (view types l.fn.tree)))
+
+abbrev pub invariant-any_tree-loop-tree : goal.invariant-any_tree-loop-tree
+invariant-any_tree-loop-tree l =
+    (most size-Core l.left ≤ most size-Core l.fn.trees)
+    × ((types : Table) → is_asked types l.question (map (view types) l.left) ≡ is_asked types l.question (map (view types) l.fn.trees))
+
+abbrev pub decreases-any_tree-loop-tree : goal.decreases-any_tree-loop-tree
+decreases-any_tree-loop-tree l = length l.left
+
+abbrev pub invariant-any_local-loop-local : goal.invariant-any_local-loop-local
+invariant-any_local-loop-local l =
+    (most size-Local l.left ≤ most size-Local l.fn.locals)
+    × ((types : Table) → is_asked types l.question (expressions_of_locals (map (view_of_local types) l.left)) ≡ is_asked types l.question (expressions_of_locals (map (view_of_local types) l.fn.locals)))
+
+abbrev pub decreases-any_local-loop-local : goal.decreases-any_local-loop-local
+decreases-any_local-loop-local l = length l.left
+
+abbrev pub invariant-any_initial-loop-initial : goal.invariant-any_initial-loop-initial
+invariant-any_initial-loop-initial l =
+    (most size-Initial l.left ≤ most size-Initial l.fn.initials)
+    × ((types : Table) → is_asked types l.question (expressions_of_items (map (view_of_initial types) l.left)) ≡ is_asked types l.question (expressions_of_items (map (view_of_initial types) l.fn.initials)))
+
+abbrev pub decreases-any_initial-loop-initial : goal.decreases-any_initial-loop-initial
+decreases-any_initial-loop-initial l = length l.left
+
+abbrev pub invariant-is_quiet_function-loop-last : goal.invariant-is_quiet_function-loop-last
+invariant-is_quiet_function-loop-last l =
+    (weight_of_externals l.left ≤ weight_of_externals l.fn.externals)
+    × ((types : Table) → is_one_of (quiet_functions (map (view_of_external types) l.left)) l.function ≡ is_one_of (quiet_functions (map (view_of_external types) l.fn.externals)) l.function)
+
+abbrev pub decreases-is_quiet_function-loop-last : goal.decreases-is_quiet_function-loop-last
+decreases-is_quiet_function-loop-last l = length l.left
