@@ -1,18 +1,20 @@
 -- What a node of the code does, by its form.
-use Rattle.std.specs.Prelude.{◌≡◌, ℕ, Bool, not, List, [], ◌∷◌, map}
-use Rattle.std.proofs.Common.{rules, ap, ◌∙◌}
+use Rattle.std.specs.Prelude.{◌≡◌, ℕ, ◌≤◌, Bool, false, not, List, [], ◌∷◌, map, length, Option, Some, None, IfSome}
+use Rattle.std.proofs.Common.{rules, refl, ap, ◌∙◌, Bor, arith}
+use denote.Param.Weighed.{most}
+use Rattle.dm_type.specs.CTypes.{CType}
 use Rattle.dm_int.specs.declared.Op.{Op}
 use Rattle.dm_type.specs.Tables.{Table, type_of}
-use Rattle.dm_tree.specs.declared.tree.Core.{Core, out-Core}
+use Rattle.dm_tree.specs.declared.tree.Core.{Core, out-Core, size-Core}
 use Rattle.dm_tree.specs.declared.tree.Core as q
 use Rattle.dm_tree.specs.declared.tree.Form.{Form}
 use Rattle.dm_tree.specs.declared.tree.Form.TheVariants as form
 use Rattle.dm_tree.specs.Trees as label
-use Rattle.dm_tree.specs.Trees.{Trees, no_trees, more_trees, trees}
+use Rattle.dm_tree.specs.Trees.{Spans, Tree, node, Trees, no_trees, more_trees, trees}
 use Rattle.dm_tree.specs.Views.{Opened, opened, opened_form, view, node_of}
 use Rattle.dm_tree.proofs.ViewLemmas.{view-core}
 use Rattle.dm_effect.specs.Entities.{addresses_here, function_first, is_named, is_this, object_first, writes_here}
-use Rattle.dm_effect.specs.Quiet.{disturbs}
+use Rattle.dm_effect.specs.Quiet.{alone_returned, disturbs, value_returned}
 
 opened-Address : (types : Table) (a : Core) → opened_form types (form.Address a) ≡ opened label.address (view types a ∷ [])
 opened-Address types a = search (rules, q.the_lemmas)
@@ -25,6 +27,9 @@ opened-Update types op works a b = search (rules, q.the_lemmas)
 
 opened-Count : (types : Table) (plus before : Bool) (a : Core) → opened_form types (form.Count plus before a) ≡ opened (label.count plus before) (view types a ∷ [])
 opened-Count types plus before a = search (rules, q.the_lemmas)
+
+opened-Block : (types : Table) (items : List Core) → opened_form types (form.Block items) ≡ opened label.block (map (view types) items)
+opened-Block types items = search (rules, q.the_lemmas)
 
 opened-Call : (types : Table) (a : Core) (arguments : List Core) → opened_form types (form.Call a arguments) ≡ opened label.call (view types a ∷ map (view types) arguments)
 opened-Call types a arguments = search (rules, q.the_lemmas)
@@ -58,3 +63,27 @@ pub disturbs-Call : (types : Table) (core a : Core) (arguments : List Core) (qui
     → disturbs quiet (view types core) ≡ not (is_named quiet (function_first (more_trees (view types a) (trees (map (view types) arguments)))))
 disturbs-Call types core a arguments quiet is =
     seen-as types core (disturbs quiet) (form.Call a arguments) (opened label.call (view types a ∷ map (view types) arguments)) is (opened-Call types a arguments)
+
+-- ---- bodies that are one return
+
+pub block-as : (types : Table) (core : Core) (items : List Core) → (out-Core core).form ≡ form.Block items
+    → alone_returned (view types core)
+    ≡ alone_returned (node label.block (type_of types (out-Core core).kind) (record { inner = (out-Core core).inner; outer = (out-Core core).outer; place = (out-Core core).place }) (trees (map (view types) items)))
+block-as types core items is = seen-as types core alone_returned (form.Block items) (opened label.block (map (view types) items)) is (opened-Block types items)
+
+pub block-deep : (core : Core) (items : List Core) → (out-Core core).form ≡ form.Block items → most size-Core items ≤ size-Core core
+block-deep core items is = search (rules, q.the_lemmas)
+
+pub no-deeper : (found : Option (Bor Core)) (m n : ℕ) → m ≤ n → IfSome found (λ value. size-Core value.now ≤ m) → IfSome found (λ value. size-Core value.now ≤ n)
+no-deeper None m n le h = tt
+no-deeper (Some value) m n le h = omega arith
+
+-- an item alone, and several
+pub only-item : (types : Table) (kind : CType) (spans : Spans) (items : List Core) (only : Core) (others : List Core) → items ≡ only ∷ others → others ≡ []
+    → alone_returned (node label.block kind spans (trees (map (view types) items))) ≡ value_returned (view types only)
+only-item types kind spans items only others is none = ap (λ all. alone_returned (node label.block kind spans (trees (map (view types) all)))) (is ∙ ap (λ rest. only ∷ rest) none)
+
+pub several-items : (types : Table) (kind : CType) (spans : Spans) (items : List Core) (only : Core) (others : List Core) → items ≡ only ∷ others → (others ≡ [] → ⊥)
+    → alone_returned (node label.block kind spans (trees (map (view types) items))) ≡ None
+several-items types kind spans items only [] is more = absurd (more refl)
+several-items types kind spans items only (second ∷ others) is more = ap (λ all. alone_returned (node label.block kind spans (trees (map (view types) all)))) is

@@ -1,5 +1,6 @@
 pub mod DeclaratorLemmas
 pub mod EffectLemmas
 pub mod PartLemmas
+pub mod QuietLemmas
 pub mod SequencingLemmas
 pub mod WalkLemmas

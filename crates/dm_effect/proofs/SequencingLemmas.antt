@@ -6,7 +6,8 @@ use Rattle.dm_tree.specs.Paths.{Path, tree_in}
 use Rattle.dm_tree.specs.Trees.{Tree, label_of, trees_of}
 use Rattle.dm_tree.specs.Views.{opened_form, view}
 use Rattle.dm_tree.proofs.ViewLemmas.{view-core}
-use Rattle.dm_effect.specs.Sequencing.{comes_first, passes, is_first}
+use Rattle.dm_effect.specs.Entities.{passes}
+use Rattle.dm_effect.specs.Sequencing.{comes_first, is_first}
 
 module _ (types : Table) (core : Core) (way : Path) (n : ℕ) (path : Path) (is : way ≡ n ∷ path) where
   here : is_first way (view types core) ≡ (comes_first (opened_form types (out-Core core).form).label n && passes (is_first path) (tree_in (trees_of (view types core)) n))

@@ -39,6 +39,20 @@ module _ {X : Type 0} (ask : List X → Bool) (one : X → Bool) (empty : ask []
       nothing [] h = refl
       nothing (x ∷ xs) h = absurd (omega arith)
 
+pub stops : (p q : Bool) → p ≡ true → (p || q) ≡ true
+stops p q h = ap (λ b. b || q) h
+
+pub skips : (p q : Bool) → p ≡ false → (p || q) ≡ q
+skips p q h = ap (λ b. b || q) h
+
+pub second-stops : (p q : Bool) → q ≡ true → (p || q) ≡ true
+second-stops true q h = refl
+second-stops false q h = h
+
+pub second-skips : (p q : Bool) → q ≡ false → (p || q) ≡ p
+second-skips true q h = refl
+second-skips false q h = h
+
 -- ---- trees in order
 
 pub nodes-append : (test : Tree → Bool) (all others : List Tree) → list_any test (all_in_trees (trees (all ++ others))) ≡ (list_any test (all_in_trees (trees all)) || list_any test (all_in_trees (trees others)))
@@ -71,3 +85,14 @@ comma-asked test types core a b is =
     (ap (λ (o : Opened). list_any test (all_in_trees (trees o.parts))) (ap (opened_form types) is ∙ opened-Comma types a b)
     ∙ (list_any-append test (all_in (view types a)) (all_in (view types b) ++ [])
     ∙ ap (λ nodes. list_any test (all_in (view types a)) || list_any test nodes) (append-nil (all_in (view types b)))))
+
+-- the parts of a node, one after another
+pub parts-asked : (test : Tree → Bool) (a b c d e f : List Tree)
+    → list_any test (all_in_trees (trees (a ++ (b ++ (c ++ (d ++ (e ++ f)))))))
+    ≡ (list_any test (all_in_trees (trees a)) || (list_any test (all_in_trees (trees b)) || (list_any test (all_in_trees (trees c)) || (list_any test (all_in_trees (trees d))
+    || (list_any test (all_in_trees (trees e)) || list_any test (all_in_trees (trees f)))))))
+parts-asked test a b c d e f =
+    nodes-append test a _ ∙ ap (λ x. list_any test (all_in_trees (trees a)) || x)
+    (nodes-append test b _ ∙ ap (λ x. list_any test (all_in_trees (trees b)) || x)
+    (nodes-append test c _ ∙ ap (λ x. list_any test (all_in_trees (trees c)) || x)
+    (nodes-append test d _ ∙ ap (λ x. list_any test (all_in_trees (trees d)) || x) (nodes-append test e f))))

@@ -40,6 +40,11 @@ is_named test (Some d) = test d
 abbrev pub is_this : ℕ → Option ℕ → Bool
 is_this d named = is_named (λ c. c == d) named
 
+-- a tree is there, and passes
+abbrev pub passes : (Tree → Bool) → Option Tree → Bool
+passes test None = false
+passes test (Some tree) = test tree
+
 -- ---- stores
 
 -- = (6.5.16.1), a compound assignment (6.5.16.2), and ++ and -- (6.5.2.4, 6.5.3.1)

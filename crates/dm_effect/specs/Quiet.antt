@@ -2,12 +2,12 @@
 --     is_quiet unit tree      a tree of a unit has no store, and calls only functions whose whole body is one `return` of such a tree and
 --         which the unit defines before the external declaration in which the tree stands
 --     quiet_functions externals      these functions behind external declarations
-use Rattle.std.specs.Prelude.{ℕ, Bool, false, ◌==◌, nat_le, not, List, [], ◌∷◌, fold, take_while, if◌then◌else◌}
+use Rattle.std.specs.Prelude.{ℕ, Bool, false, ◌==◌, nat_le, not, List, [], ◌∷◌, fold, take_while, Option, Some, None, if◌then◌else◌}
 use Rattle.std.specs.List.{list_any}
 use Rattle.dm_tree.specs.Paths.{all_in}
 use Rattle.dm_tree.specs.Trees.{call, block, return, Tree, node, no_trees, more_trees, spans_of}
 use Rattle.dm_tree.specs.Units.{External, ExternalForm, declares, defines_function, TypedUnit}
-use Rattle.dm_effect.specs.Entities.{function_first, is_named, is_store}
+use Rattle.dm_effect.specs.Entities.{function_first, is_named, is_store, passes}
 
 -- the node stores, or calls another function than those that pass
 abbrev pub disturbs : (ℕ → Bool) → Tree → Bool
@@ -18,11 +18,18 @@ disturbs quiet (node label kind spans parts) = is_store label
 abbrev pub is_quiet_with : (ℕ → Bool) → Tree → Bool
 is_quiet_with quiet tree = not (list_any (disturbs quiet) (all_in tree))
 
--- a body is one `return` of such a tree
+-- what a statement returns, and what a body returns that is one `return` alone
+abbrev pub value_returned : Tree → Option Tree
+value_returned (node return kind spans (more_trees value no_trees)) = Some value
+value_returned statement = None
+
+abbrev pub alone_returned : Tree → Option Tree
+alone_returned (node block kind spans (more_trees only no_trees)) = value_returned only
+alone_returned body = None
+
+-- a body returns such a tree alone
 abbrev pub returns_quietly : (ℕ → Bool) → Tree → Bool
-returns_quietly quiet (node block kind spans (more_trees (node return return_kind return_spans (more_trees value no_trees)) no_trees)) =
-    is_quiet_with quiet value
-returns_quietly quiet body = false
+returns_quietly quiet body = passes (is_quiet_with quiet) (alone_returned body)
 
 -- the quiet functions behind an external declaration, where these are those before it; and those behind all
 abbrev pub is_one_of : List ℕ → ℕ → Bool

@@ -6,6 +6,7 @@ use Rattle.std.specs.Prelude.{ℕ, Bool, true, false, ◌&&◌, not, ◌==◌, L
 use Rattle.std.specs.List.{filter_map, range_with_len}
 use Rattle.dm_tree.specs.Paths.{Path, tree_in, tree_at}
 use Rattle.dm_tree.specs.Trees.{Label, convert, binary, both, either, choose, comma, store, update, call, sizeof_tree, sizeof_kind, Tree, label_of, trees_of, parts_of}
+use Rattle.dm_effect.specs.Entities.{passes}
 
 -- The part with this number is evaluated before its node picks another one: of &&, ||, ?: and the comma that is the first (6.5.13p4,
 -- 6.5.14p4, 6.5.15p4, 6.5.17p2). The operand of sizeof and the trees of a type name aren't evaluated (6.5.3.4p2).
@@ -18,11 +19,6 @@ comes_first convert n = n == 0
 comes_first sizeof_tree n = false
 comes_first (sizeof_kind type) n = false
 comes_first label n = true
-
--- the tree is there, and passes
-abbrev pub passes : (Tree → Bool) → Option Tree → Bool
-passes test None = false
-passes test (Some tree) = test tree
 
 -- each part on the way is so
 abbrev pub is_first : Path → Tree → Bool

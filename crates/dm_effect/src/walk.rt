@@ -17,7 +17,7 @@ use crate::effect::{Effect, acts, addresses, effect_of, writes};
 use crate::functions::{is_quiet_by, returned};
 use crate::parts::{Parts, parts_of};
 use crate::question::Question;
-use dm_tree::{Core, CoreExternal, Form, Initial, Local};
+use dm_tree::{Core, CoreExternal, CoreExternalForm, Form, Initial, Local};
 
 /// Whether the answer is yes at some node of a tree. Goes down the left operands of commas in a loop, since a comma expression
 /// may have any number of parts.
@@ -27,12 +27,18 @@ pub(crate) fn any_node(tree: &Core, question: Question) -> bool
 {
     let mut at = tree;
     while let Form::Comma(left, right) = &at.form {
-        if answers(at, question) || any_node(right.get(), question) {
+        if answers(at, question) {
+            return true;
+        }
+        if any_node(right.get(), question) {
             return true;
         }
         at = left.get();
     }
-    answers(at, question) || any_part(parts_of(&at.form), question)
+    if answers(at, question) {
+        return true;
+    }
+    any_part(parts_of(&at.form), question)
 }
 
 /// Whether it is at some node of the parts of a node.
@@ -40,12 +46,22 @@ pub(crate) fn any_node(tree: &Core, question: Question) -> bool
 fn any_part(parts: Parts, question: Question) -> bool
     ensures { (types : Table) → result ≡ is_asked types question.entry (parts_in types parts.entry) }
 {
-    any_optional(parts.first, question)
-        || any_optional(parts.second, question)
-        || any_optional(parts.third, question)
-        || any_optional(parts.fourth, question)
-        || any_tree(parts.items, question)
-        || any_local(parts.locals, question)
+    if any_optional(parts.first, question) {
+        return true;
+    }
+    if any_optional(parts.second, question) {
+        return true;
+    }
+    if any_optional(parts.third, question) {
+        return true;
+    }
+    if any_optional(parts.fourth, question) {
+        return true;
+    }
+    if any_tree(parts.items, question) {
+        return true;
+    }
+    any_local(parts.locals, question)
 }
 
 /// Whether it is at some node of a tree that may be left out.
@@ -156,13 +172,25 @@ pub(crate) fn is_quiet_function(externals: &[CoreExternal], function: u32) -> bo
     false
 }
 
-/// Whether a declaration defines the function, and its body is one `return` of a tree that is quiet behind these others.
+/// Whether a declaration defines the function, and its body returns a tree alone that is quiet behind these others.
 #[cycle(walk)]
 fn defines_quietly(external: &CoreExternal, before: &[CoreExternal], function: u32) -> bool
     ensures { (types : Table) → result ≡ joins (is_one_of (quiet_functions (map (view_of_external types) before.now))) function (view_of_external types external.now).form }
 {
-    match returned(external, function) {
-        Some(value) => !any_node(value, Question::Disturbs(before)),
-        None => false,
+    match &external.form {
+        CoreExternalForm::Declaration(_) => false,
+        CoreExternalForm::Function {
+            function: number,
+            parameters: _,
+            body,
+        } => {
+            if *number != function {
+                return false;
+            }
+            match returned(body) {
+                Some(value) => !any_node(value, Question::Disturbs(before)),
+                None => false,
+            }
+        }
     }
 }

@@ -18,31 +18,31 @@ use Rattle.dm_effect.proofs.WalkLemmas.{depth_of}
 use Rattle.dm_effect.proofs.walk.+walk.Given as goal
 
 abbrev pub decreases-any_node : goal.decreases-any_node
-decreases-any_node l = weight_of l.question + (8 * size-Core l.tree.now + 2)
+decreases-any_node l = weight_of l.question + (8 * size-Core l.tree.now + 3)
 
 abbrev pub decreases-answers : goal.decreases-answers
-decreases-answers l = weight_of l.question + 1
+decreases-answers l = weight_of l.question + 2
 
 abbrev pub decreases-any_part : goal.decreases-any_part
-decreases-any_part l = weight_of l.question + (8 * depth_of l.parts + 6)
+decreases-any_part l = weight_of l.question + (8 * depth_of l.parts + 7)
 
 abbrev pub decreases-any_optional : goal.decreases-any_optional
-decreases-any_optional l = weight_of l.question + (8 * option_map_or size-Core (option_copied l.tree) 0 + 3)
+decreases-any_optional l = weight_of l.question + (8 * option_map_or size-Core (option_copied l.tree) 0 + 4)
 
 abbrev pub decreases-any_tree : goal.decreases-any_tree
-decreases-any_tree l = weight_of l.question + (8 * most size-Core l.trees.now + 3)
+decreases-any_tree l = weight_of l.question + (8 * most size-Core l.trees.now + 4)
 
 abbrev pub decreases-any_local : goal.decreases-any_local
-decreases-any_local l = weight_of l.question + (8 * most size-Local l.locals.now + 5)
+decreases-any_local l = weight_of l.question + (8 * most size-Local l.locals.now + 6)
 
 abbrev pub decreases-in_initial : goal.decreases-in_initial
-decreases-in_initial l = weight_of l.question + (8 * size-Initial l.initial.now + 3)
+decreases-in_initial l = weight_of l.question + (8 * size-Initial l.initial.now + 4)
 
 abbrev pub decreases-any_initial : goal.decreases-any_initial
-decreases-any_initial l = weight_of l.question + (8 * most size-Initial l.initials.now + 4)
+decreases-any_initial l = weight_of l.question + (8 * most size-Initial l.initials.now + 5)
 
 abbrev pub decreases-is_quiet_function : goal.decreases-is_quiet_function
-decreases-is_quiet_function l = weight_of_externals l.externals.now
+decreases-is_quiet_function l = weight_of_externals l.externals.now + 1
 
 abbrev pub decreases-defines_quietly : goal.decreases-defines_quietly
 decreases-defines_quietly l = weight_of_externals l.before.now + weight_of_form l.external.now.form
