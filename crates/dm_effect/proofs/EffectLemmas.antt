@@ -1,6 +1,7 @@
 -- What a node of the code does, by its form.
-use Rattle.std.specs.Prelude.{◌≡◌, ℕ, ◌≤◌, Bool, false, not, List, [], ◌∷◌, map, length, Option, Some, None, IfSome}
-use Rattle.std.proofs.Common.{rules, refl, ap, ◌∙◌, Bor, arith}
+use Rattle.std.specs.Prelude.{◌≡◌, ℕ, ◌≤◌, ◌==◌, Bool, true, false, not, List, [], ◌∷◌, map, length, Option, Some, None, IfSome}
+use Rattle.std.proofs.Common.{rules, refl, ap, sym, ◌∙◌, Bor, true≢false, arith}
+use Rattle.std.proofs.lemmas.Bool.Decides.{Decides-eqb}
 use denote.Param.Weighed.{most}
 use Rattle.dm_type.specs.CTypes.{CType}
 use Rattle.dm_int.specs.declared.Op.{Op}
@@ -31,7 +32,7 @@ opened-Count types plus before a = search (rules, q.the_lemmas)
 opened-Block : (types : Table) (items : List Core) → opened_form types (form.Block items) ≡ opened label.block (map (view types) items)
 opened-Block types items = search (rules, q.the_lemmas)
 
-opened-Call : (types : Table) (a : Core) (arguments : List Core) → opened_form types (form.Call a arguments) ≡ opened label.call (view types a ∷ map (view types) arguments)
+pub opened-Call : (types : Table) (a : Core) (arguments : List Core) → opened_form types (form.Call a arguments) ≡ opened label.call (view types a ∷ map (view types) arguments)
 opened-Call types a arguments = search (rules, q.the_lemmas)
 
 -- a node by what its form opens to
@@ -87,3 +88,10 @@ pub several-items : (types : Table) (kind : CType) (spans : Spans) (items : List
     → alone_returned (node label.block kind spans (trees (map (view types) items))) ≡ None
 several-items types kind spans items only [] is more = absurd (more refl)
 several-items types kind spans items only (second ∷ others) is more = ap (λ all. alone_returned (node label.block kind spans (trees (map (view types) all)))) is
+
+pub nothing-left : {A : Type 0} (all : List A) → (length all == 0) ≡ true → all ≡ []
+nothing-left [] h = refl
+nothing-left (first ∷ all) h = absurd (omega (arith, (Decides-eqb (length (first ∷ all)) 0).0 h))
+
+pub some-left : {A : Type 0} (all : List A) → (length all == 0) ≡ false → all ≡ [] → ⊥
+some-left all h is = true≢false (sym (ap (λ them. length them == 0) is) ∙ h)

@@ -1,10 +1,13 @@
 pub mod Effects
 pub mod Entities
+pub mod Examples
 pub mod Forms
+pub mod Operands
 pub mod Parts
 pub mod Questions
 pub mod Quiet
 pub mod Safe
 pub mod Sequencing
 pub mod Stable
+pub mod Tables
 pub mod Walks

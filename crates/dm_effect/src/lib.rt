@@ -4,10 +4,19 @@
 
 mod declarators;
 mod effect;
+mod examples;
 mod functions;
 mod parts;
 mod question;
+mod quieting;
 mod sequencing;
+mod unsequenced;
 mod walk;
 
+pub use examples::{
+    automatic_objects_are_stable, calls_of_earlier_functions_are_quiet, operands_come_first,
+    set_integers_are_safe, unsequenced_operands_are_beside,
+};
+pub use quieting::{QuietFunctions, quiet};
 pub use sequencing::{Path, first};
+pub use unsequenced::beside;

@@ -1,5 +1,5 @@
 -- The answer at a node, and at some node of what is left.
-use Rattle.std.proofs.Common.{◌≡◌, ℕ, Bool, true, false, ◌||◌, not, List, [], ◌∷◌, map, Option, Bor, ap, refl, sym, ◌∙◌, rules, arith}
+use Rattle.std.proofs.Common.{◌≡◌, ℕ, Bool, true, false, ◌&&◌, ◌||◌, ◌==◌, not, List, [], ◌∷◌, map, Option, Bor, ap, refl, sym, ◌∙◌, rules, arith}
 use Rattle.std.specs.List.{list_any}
 use Rattle.std.specs.Option.{option_copied, option_map}
 use Rattle.std.proofs.lemmas.List.Folds.{list_any-append}
@@ -8,17 +8,20 @@ use Rattle.dm_type.specs.Tables.{Table}
 use Rattle.dm_tree.specs.declared.tree.Core.{Core, out-Core, size-Core}
 use Rattle.dm_tree.specs.declared.tree.Core as q
 use Rattle.dm_tree.specs.declared.unit.CoreExternal.{CoreExternal}
+use Rattle.dm_tree.specs.declared.unit.CoreExternalForm.{CoreExternalForm}
 use Rattle.dm_tree.specs.declared.tree.Initial.{Initial, size-Initial}
 use Rattle.dm_tree.specs.declared.tree.Local.{Local, size-Local}
 use Rattle.dm_tree.specs.Paths.{all_in, all_in_trees}
 use Rattle.dm_tree.specs.Trees.{trees}
-use Rattle.dm_tree.specs.Views.{if_there, expressions_of_items, expressions_of_locals, opened_form, view, view_of_external, view_of_local}
+use Rattle.dm_tree.specs.Views.{if_there, expressions_of_items, expressions_of_locals, opened_form, view, view_of_external, view_of_form, view_of_local}
 use Rattle.dm_meaning.specs.Wholes.{view_of_initial}
 use Rattle.dm_effect.specs.declared.parts.Parts.{Parts}
 use Rattle.dm_effect.specs.declared.question.Question.{Question}
+use Rattle.dm_effect.specs.Entities.{passes}
 use Rattle.dm_effect.specs.Parts.{parts_in}
 use Rattle.dm_effect.specs.Questions.{answer, is_asked, is_quiet_since}
-use Rattle.dm_effect.specs.Quiet.{is_one_of, quiet_functions}
+use Rattle.dm_effect.specs.Quiet.{alone_returned, is_one_of, is_quiet_with, quiet_functions}
+use Rattle.dm_effect.specs.Walks.{joins}
 use Rattle.dm_effect.proofs.DeclaratorLemmas.{value-expressions, parts-expressions}
 use Rattle.dm_effect.proofs.PartLemmas.{local-with, local-without}
 use Rattle.dm_effect.proofs.QuietLemmas.{weights-last, quiet-last}
@@ -308,14 +311,28 @@ any_part-returns t c types =
 abbrev quiet_behind : Table → List CoreExternal → ℕ → Bool
 quiet_behind types externals d = is_one_of (quiet_functions (map (view_of_external types) externals)) d
 
+abbrev joined_by : Table → List CoreExternal → ℕ → CoreExternalForm → Bool
+joined_by types before d form = joins (quiet_behind types before) d (view_of_form types form)
+
 pub defines_quietly-returns-in-Declaration : goal.defines_quietly-returns-in-Declaration
-defines_quietly-returns-in-Declaration t c types = ?
+defines_quietly-returns-in-Declaration t c types = sym (ap (joined_by types c.args.before.now c.args.function) c.in-Declaration.is)
 
 pub defines_quietly-returns-in-Some : goal.defines_quietly-returns-in-Some
-defines_quietly-returns-in-Some t c types = ?
+defines_quietly-returns-in-Some t c types =
+    let quiet : ℕ → Bool = quiet_behind types c.args.before.now in
+    let this : (c.in-Function.number == c.args.function) ≡ true = search rules in
+    ap not (c.any_node.ensures types)
+    ∙ sym (ap (joined_by types c.args.before.now c.args.function) c.in-Function.is
+    ∙ (ap (λ b. b && passes (is_quiet_with quiet) (alone_returned (view types c.in-Function.body))) this
+    ∙ ap (passes (is_quiet_with quiet)) (c.in-Some.ensures.same types)))
 
 pub defines_quietly-returns-in-None : goal.defines_quietly-returns-in-None
-defines_quietly-returns-in-None t c types = ?
+defines_quietly-returns-in-None t c types =
+    let quiet : ℕ → Bool = quiet_behind types c.args.before.now in
+    let this : (c.in-Function.number == c.args.function) ≡ true = search rules in
+    sym (ap (joined_by types c.args.before.now c.args.function) c.in-Function.is
+    ∙ (ap (λ b. b && passes (is_quiet_with quiet) (alone_returned (view types c.in-Function.body))) this
+    ∙ ap (passes (is_quiet_with quiet)) (c.in-None.ensures.same types)))
 
 pub is_quiet_function-defines_quietly-requires : goal.is_quiet_function-defines_quietly-requires
 is_quiet_function-defines_quietly-requires t c =

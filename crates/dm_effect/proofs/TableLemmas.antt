@@ -1,0 +1,225 @@
+-- A table of quiet functions, external declaration by external declaration.
+use Rattle.std.proofs.Common.{◌≡◌, ℕ, zero, suc, ◌+◌, ◌<◌, ◌≤◌, Bool, true, false, cond, ◌&&◌, ◌||◌, ◌==◌, nat_lt, nat_le, if◌then◌else◌, List, [], ◌∷◌, ◌++◌, map, length, get_or, take, drop, take_while, slice_get, slice_set, Option, Some, None, append_assoc, length-append, true≢false, rules, refl, ap, sym, subst, ◌∙◌, arith}
+use mathlib.Core.Path.{fun_ext}
+use Rattle.std.proofs.Math.Seq.{take-append_seam}
+use Rattle.std.proofs.lemmas.Bool.{ltb-true, ltb-false, lt-ltb}
+use Rattle.std.proofs.lemmas.Bool.Decides.{Decides-eqb}
+use Rattle.std.proofs.lemmas.List.{take_all}
+use Rattle.std.proofs.lemmas.List.Sums.{take_while-cons}
+use Rattle.dm_type.specs.Tables.{Table, no_type}
+use Rattle.dm_tree.specs.declared.tree.Core.{Core, out-Core}
+use Rattle.dm_tree.specs.declared.unit.CoreExternal.{CoreExternal}
+use Rattle.dm_tree.specs.declared.unit.CoreUnit.{CoreUnit}
+use Rattle.dm_tree.specs.Trees.{Tree, spans_of}
+use Rattle.dm_tree.specs.Views.{view, view_of_external}
+use Rattle.dm_tree.proofs.ViewLemmas.{view-core}
+use Rattle.dm_effect.specs.Questions.{is_since, is_quiet_since}
+use Rattle.dm_effect.specs.Quiet.{before, ends_before, is_one_of, quiet_functions}
+use Rattle.dm_effect.specs.Tables.{IsTable, IsBehind, Enters}
+use Rattle.dm_effect.specs.Walks.{joins}
+use Rattle.dm_effect.proofs.QuietLemmas.{quiet-last}
+
+-- ---- the external declarations before a tree
+
+taken-by : {A : Type 0} (first : A) (all found : List A) (b : Bool) → take (length found) all ≡ found → take (length (cond b (first ∷ found) [])) (first ∷ all) ≡ cond b (first ∷ found) []
+taken-by first all found true h = ap (λ rest. first ∷ rest) h
+taken-by first all found false h = refl
+
+taken-while : {A : Type 0} (test : A → Bool) (all : List A) → take (length (take_while test all)) all ≡ take_while test all
+taken-while test [] = refl
+taken-while test (first ∷ all) =
+    ap (λ them. take (length them) (first ∷ all)) (take_while-cons test first all)
+    ∙ (taken-by first all (take_while test all) (test first) (taken-while test all) ∙ sym (take_while-cons test first all))
+
+mapped-by : {A B : Type 0} (f : A → B) (first : A) (found : List A) (seen : List B) (b : Bool) → seen ≡ map f found → cond b (f first ∷ seen) [] ≡ map f (cond b (first ∷ found) [])
+mapped-by f first found seen true h = ap (λ rest. f first ∷ rest) h
+mapped-by f first found seen false h = refl
+
+while-map : {A B : Type 0} (f : A → B) (test : B → Bool) (all : List A) → take_while test (map f all) ≡ map f (take_while (λ x. test (f x)) all)
+while-map f test [] = refl
+while-map f test (first ∷ all) =
+    take_while-cons test (f first) (map f all)
+    ∙ (mapped-by f first (take_while (λ x. test (f x)) all) (take_while test (map f all)) (test (f first)) (while-map f test all)
+    ∙ sym (ap (map f) (take_while-cons (λ x. test (f x)) first all)))
+
+within-by : {A : Type 0} (first : A) (all found : List A) (b : Bool) → length found ≤ length all → length (cond b (first ∷ found) []) ≤ length (first ∷ all)
+within-by first all found true h = omega (arith, h)
+within-by first all found false h = omega arith
+
+pub while-within : {A : Type 0} (test : A → Bool) (all : List A) → length (take_while test all) ≤ length all
+while-within test [] = omega arith
+while-within test (first ∷ all) =
+    subst (λ them. length them ≤ length (first ∷ all)) (sym (take_while-cons test first all)) (within-by first all (take_while test all) (test first) (while-within test all))
+
+pub before-front : (types : Table) (tree : Core) (externals front : List CoreExternal) (count : ℕ) → front ≡ take count externals
+    → count ≡ length (take_while (λ (one : CoreExternal). nat_le one.span.after (out-Core tree).inner.first) externals)
+    → map (view_of_external types) front ≡ before (view types tree) (map (view_of_external types) externals)
+before-front types tree externals front count is counted =
+    ap (map (view_of_external types)) (is ∙ (ap (λ n. take n externals) counted ∙ taken-while (λ (one : CoreExternal). nat_le one.span.after (out-Core tree).inner.first) externals))
+    ∙ sym (ap (λ (whole : Tree). take_while (ends_before (spans_of whole).inner.first) (map (view_of_external types) externals)) (view-core types tree)
+    ∙ while-map (view_of_external types) (ends_before (out-Core tree).inner.first) externals)
+
+-- ---- the table
+
+grows : (m n : ℕ) (found : Option (Option ℕ)) → m ≤ n → is_since m found ≡ true → is_since n found ≡ true
+grows m n None le h = absurd (true≢false (sym h))
+grows m n (Some None) le h = absurd (true≢false (sym h))
+grows m n (Some (Some at)) le h = lt-ltb at n (omega (arith, le, ltb-true at m h))
+
+pub since-grows : (since : List (Option ℕ)) (m n d : ℕ) → m ≤ n → is_quiet_since since m d ≡ true → is_quiet_since since n d ≡ true
+since-grows since m n d le h = grows m n (slice_get since d) le h
+
+pub pushed-none : (since : List (Option ℕ)) (count d : ℕ) → is_quiet_since (since ++ None ∷ []) count d ≡ is_quiet_since since count d
+pushed-none [] count zero = refl
+pushed-none [] count (suc d) = refl
+pushed-none (first ∷ since) count zero = refl
+pushed-none (first ∷ since) count (suc d) = pushed-none since count d
+
+pub set-here : (since : List (Option ℕ)) (number at count d : ℕ) → number < length since
+    → is_quiet_since (slice_set since number (Some at)) count d ≡ (if number == d then nat_lt at count else is_quiet_since since count d)
+set-here [] number at count d h = absurd (omega arith)
+set-here (first ∷ since) zero at count zero h = refl
+set-here (first ∷ since) zero at count (suc d) h = search rules
+set-here (first ∷ since) (suc number) at count zero h = search rules
+set-here (first ∷ since) (suc number) at count (suc d) h = set-here since number at count d (omega arith) ∙ search rules
+
+-- nothing enters
+pub enters-nothing : (since : List (Option ℕ)) (at : ℕ) (one : CoreExternal) → ((types : Table) (d : ℕ) → joins (is_quiet_since since at) d (view_of_external types one).form ≡ false) → Enters since at one since
+enters-nothing since at one none = record {
+  same = λ types count d. sym (ap (λ b. is_quiet_since since count d || (nat_lt at count && b)) (none types d) ∙ neither (is_quiet_since since count d) (nat_lt at count));
+}
+  where
+    neither : (p q : Bool) → (p || (q && false)) ≡ p
+    neither true true = refl
+    neither true false = refl
+    neither false true = refl
+    neither false false = refl
+
+-- what enters is there already
+pub enters-again : (since : List (Option ℕ)) (at function : ℕ) (one : CoreExternal) → ((types : Table) (d : ℕ) → joins (is_quiet_since since at) d (view_of_external types one).form ≡ (function == d))
+    → is_quiet_since since at function ≡ true → Enters since at one since
+enters-again since at function one makes there = record {
+  same = λ types count d. sym (ap (λ b. is_quiet_since since count d || (nat_lt at count && b)) (makes types d) ∙ again count d (function == d) (nat_lt at count) refl refl);
+}
+  where
+    alone_or : (b : Bool) → (b || false) ≡ b
+    alone_or true = refl
+    alone_or false = refl
+
+    again : (count d : ℕ) (this later : Bool) → (function == d) ≡ this → nat_lt at count ≡ later → (is_quiet_since since count d || (later && this)) ≡ is_quiet_since since count d
+    again count d true true is lt =
+        let same = (Decides-eqb function d).0 is in
+        let found = since-grows since at count d (omega (arith, ltb-true at count lt)) (sym (ap (is_quiet_since since at) same) ∙ there) in
+        ap (λ b. b || true) found ∙ sym found
+    again count d false true is lt = alone_or (is_quiet_since since count d)
+    again count d true false is lt = alone_or (is_quiet_since since count d)
+    again count d false false is lt = alone_or (is_quiet_since since count d)
+
+-- it enters
+pub enters-new : (old new : List (Option ℕ)) (at function : ℕ) (one : CoreExternal) → ((types : Table) (d : ℕ) → joins (is_quiet_since old at) d (view_of_external types one).form ≡ (function == d))
+    → is_quiet_since old at function ≡ false → ((count d : ℕ) → is_quiet_since new count d ≡ (if function == d then nat_lt at count else is_quiet_since old count d)) → Enters old at one new
+enters-new old new at function one makes absent placed = record {
+  same = λ types count d. placed count d ∙ sym (ap (λ b. is_quiet_since old count d || (nat_lt at count && b)) (makes types d) ∙ here count d (function == d) (nat_lt at count) refl refl);
+}
+  where
+    none_or : (b : Bool) → (b || false) ≡ b
+    none_or true = refl
+    none_or false = refl
+
+    late : (count d : ℕ) (there : Bool) → is_quiet_since old count d ≡ there → function ≡ d → nat_lt at count ≡ false → there ≡ false
+    late count d false is same lt = refl
+    late count d true is same lt =
+        absurd (true≢false (sym (since-grows old count at d (ltb-false at count lt) is) ∙ (sym (ap (is_quiet_since old at) same) ∙ absent)))
+
+    or_true : (b : Bool) → (b || true) ≡ true
+    or_true true = refl
+    or_true false = refl
+
+    here : (count d : ℕ) (this later : Bool) → (function == d) ≡ this → nat_lt at count ≡ later → (is_quiet_since old count d || (later && this)) ≡ (if this then later else is_quiet_since old count d)
+    here count d true true is lt = or_true (is_quiet_since old count d)
+    here count d true false is lt = none_or (is_quiet_since old count d) ∙ late count d (is_quiet_since old count d) refl ((Decides-eqb function d).0 is) lt
+    here count d false true is lt = none_or (is_quiet_since old count d)
+    here count d false false is lt = none_or (is_quiet_since old count d)
+
+-- ---- one external declaration after another
+
+pub nothing-behind : (externals : List CoreExternal) → IsBehind externals 0 []
+nothing-behind externals = record {
+  same = λ types count d le. ap (λ n. is_one_of (quiet_functions (map (view_of_external types) (take n externals))) d) (none count le);
+  settled = λ count d le. refl;
+}
+  where
+    none : (count : ℕ) → count ≤ 0 → 0 ≡ count
+    none count le = omega arith
+
+abbrev joins_here : Table → List (Option ℕ) → ℕ → CoreExternal → ℕ → Bool
+joins_here types old done one d = joins (is_quiet_since old done) d (view_of_external types one).form
+
+abbrev behind : Table → List CoreExternal → ℕ → ℕ → Bool
+behind types externals count d = is_one_of (quiet_functions (map (view_of_external types) (take count externals))) d
+
+pub one-behind : (externals front rest : List CoreExternal) (one : CoreExternal) (done : ℕ) (old new : List (Option ℕ)) → externals ≡ front ++ one ∷ rest → length front ≡ done
+    → IsBehind externals done old → Enters old done one new → IsBehind externals (done + 1) new
+one-behind externals front rest one done old new whole long before enters = record {
+  same = λ types count d le. by types count d (nat_lt done count) refl le;
+  settled = λ count d le.
+      let types : Table = no_type in
+      enters.same types count d
+      ∙ (ap (λ b. b || (nat_lt done count && joins_here types old done one d)) (before.settled count d (omega (arith, le)))
+      ∙ (ap (λ b. is_quiet_since old done d || (b && joins_here types old done one d)) (lt-ltb done count (omega (arith, le)))
+      ∙ sym (enters.same types (done + 1) d
+      ∙ (ap (λ b. b || (nat_lt done (done + 1) && joins_here types old done one d)) (before.settled (done + 1) d (omega arith))
+      ∙ ap (λ b. is_quiet_since old done d || (b && joins_here types old done one d)) (lt-ltb done (done + 1) (omega arith))))));
+}
+  where
+    front-taken : take done externals ≡ front
+    front-taken = ap (λ n. take n externals) (sym long) ∙ (ap (take (length front)) whole ∙ take-append_seam front (one ∷ rest))
+
+    next-taken : take (done + 1) externals ≡ front ++ one ∷ []
+    next-taken =
+        ap (take (done + 1)) (whole ∙ sym (append_assoc front (one ∷ []) rest))
+        ∙ (ap (λ n. take n ((front ++ one ∷ []) ++ rest)) (sym (length-append front (one ∷ []) ∙ ap (λ n. n + 1) long)) ∙ take-append_seam (front ++ one ∷ []) rest)
+
+    or_none : (b : Bool) → (b || false) ≡ b
+    or_none true = refl
+    or_none false = refl
+
+    or_swap : (p q : Bool) → (p || q) ≡ (q || p)
+    or_swap true true = refl
+    or_swap true false = refl
+    or_swap false true = refl
+    or_swap false false = refl
+
+    by : (types : Table) (count d : ℕ) (later : Bool) → nat_lt done count ≡ later → count ≤ done + 1 → is_quiet_since new count d ≡ behind types externals count d
+    by types count d false is le =
+        enters.same types count d
+        ∙ (ap (λ b. is_quiet_since old count d || (b && joins_here types old done one d)) is ∙ (or_none (is_quiet_since old count d) ∙ before.same types count d (ltb-false done count is)))
+    by types count d true is le =
+        let exact : count ≡ done + 1 = omega (arith, ltb-true done count is, le) in
+        let same : is_quiet_since old done ≡ (λ f. behind types externals done f) = fun_ext (λ f. before.same types done f (omega arith)) in
+        enters.same types count d
+        ∙ (ap (λ b. is_quiet_since old count d || (b && joins_here types old done one d)) is
+        ∙ (ap (λ b. b || joins_here types old done one d) (before.settled count d (omega (arith, exact)) ∙ before.same types done d (omega arith))
+        ∙ (ap (λ (quiet : ℕ → Bool). behind types externals done d || joins quiet d (view_of_external types one).form) same
+        ∙ (or_swap (behind types externals done d) (joins (behind types externals done) d (view_of_external types one).form)
+        ∙ sym (ap (λ n. behind types externals n d) exact
+        ∙ (ap (λ them. is_one_of (quiet_functions (map (view_of_external types) them)) d) next-taken
+        ∙ (quiet-last types (front ++ one ∷ []) front one d refl
+        ∙ ap (λ them. joins (is_one_of (quiet_functions (map (view_of_external types) them))) d (view_of_external types one).form || is_one_of (quiet_functions (map (view_of_external types) them)) d) (sym front-taken))))))))
+
+pub all-behind : (one : CoreUnit) (done : ℕ) (since : List (Option ℕ)) → length one.externals ≡ done → IsBehind one.externals done since → IsTable one since
+all-behind one done since long behind = record { same = λ types count d. by types count d (nat_lt done count) refl }
+  where
+    by : (types : Table) (count d : ℕ) (later : Bool) → nat_lt done count ≡ later → is_quiet_since since count d ≡ is_one_of (quiet_functions (map (view_of_external types) (take count one.externals))) d
+    by types count d false is = behind.same types count d (ltb-false done count is)
+    by types count d true is =
+        let over = ltb-true done count is in
+        behind.settled count d (omega (arith, over))
+        ∙ (behind.same types done d (omega arith)
+        ∙ ap (λ them. is_one_of (quiet_functions (map (view_of_external types) them)) d) (take_all done one.externals (omega (arith, long)) ∙ sym (take_all count one.externals (omega (arith, long, over)))))
+
+-- a list round one of its items
+pub split-at : {A : Type 0} (all : List A) (n : ℕ) (one : A) → n < length all → one ≡ get_or all n one → all ≡ take n all ++ one ∷ drop (suc n) all
+split-at [] n one h is = absurd (omega arith)
+split-at (first ∷ all) zero one h is = ap (λ x. x ∷ all) (sym is)
+split-at (first ∷ all) (suc n) one h is = ap (λ rest. first ∷ rest) (split-at all n one (omega arith) is)
