@@ -115,14 +115,16 @@ fn made_quiet(external: &CoreExternal, since: &[Option<usize>], at: usize) -> Op
             function,
             parameters: _,
             body,
-        } => {
-            let value = returned(body)?;
-            if any_node(value, Question::DisturbsSince(since, at)) {
-                None
-            } else {
-                Some(*function)
+        } => match returned(body) {
+            Some(value) => {
+                if any_node(value, Question::DisturbsSince(since, at)) {
+                    None
+                } else {
+                    Some(*function)
+                }
             }
-        }
+            None => None,
+        },
     }
 }
 

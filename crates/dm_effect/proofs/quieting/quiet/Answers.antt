@@ -12,5 +12,5 @@ returns c types =
     let tree = view types c.args.tree.now in
     ap not (c.any_node.ensures types)
     ∙ ap (λ (externals : List External). is_quiet_with (is_one_of (quiet_functions externals)) tree)
-    (before-front types c.args.tree.now c.items.result.now c.split_at.result.0.now c.count_before.result c.split_at.ensures.front c.count_before.ensures.count
-    ∙ ap (λ (externals : List CoreExternal). before tree (map (view_of_external types) externals)) c.items.ensures)
+    (before-front types c.args.tree.now c.items-externals.result.now c.split_at.result.0.now c.count_before-count.result c.split_at.ensures.front c.count_before-count.ensures.count
+    ∙ ap (λ (externals : List CoreExternal). before tree (map (view_of_external types) externals)) c.items-externals.ensures)
