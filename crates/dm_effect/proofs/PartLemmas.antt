@@ -1,5 +1,5 @@
 -- Where a part with a number stands: among the trees of a list, or behind them.
-use Rattle.std.proofs.Common.{◌≡◌, ℕ, ◌-◌, zero, suc, List, [], ◌∷◌, ◌++◌, map, length, Option, Some, None, slice_get, append_assoc, sym, ap, refl, ◌∙◌, arith}
+use Rattle.std.proofs.Common.{◌≡◌, ℕ, ◌-◌, zero, suc, List, [], ◌∷◌, ◌++◌, map, length, Option, Some, None, slice_get, append_assoc, ap, refl, ◌∙◌, arith}
 use Rattle.dm_type.specs.Tables.{Table}
 use Rattle.dm_tree.specs.declared.tree.Core.{Core}
 use Rattle.dm_tree.specs.declared.tree.Form.{Form}

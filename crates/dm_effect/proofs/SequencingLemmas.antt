@@ -1,5 +1,5 @@
 -- Whether a way leads to what comes first, step by step.
-use Rattle.std.proofs.Common.{◌≡◌, ℕ, Bool, true, false, ◌&&◌, List, [], ◌∷◌, Option, Some, None, option_map, length, sym, ap, refl, ◌∙◌, arith}
+use Rattle.std.proofs.Common.{◌≡◌, ℕ, true, false, ◌&&◌, [], ◌∷◌, Some, None, length, ap, refl, ◌∙◌, arith}
 use Rattle.dm_type.specs.Tables.{Table}
 use Rattle.dm_tree.specs.declared.tree.Core.{Core, out-Core}
 use Rattle.dm_tree.specs.Paths.{Path, tree_in}

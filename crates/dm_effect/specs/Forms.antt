@@ -1,6 +1,6 @@
 -- Trees that are built from some leaves by some nodes.
 --     is_built rule tree      a tree is, by a rule for nodes
-use Rattle.std.specs.Prelude.{Bool, true, false, ◌&&◌, List, [], ◌∷◌}
+use Rattle.std.specs.Prelude.{Bool, false, ◌&&◌, List, [], ◌∷◌}
 use Rattle.std.specs.List.{list_all}
 use Rattle.dm_type.specs.CTypes.{CType}
 use Rattle.dm_tree.specs.Trees.{Label, Tree, Trees, node, no_trees, more_trees}

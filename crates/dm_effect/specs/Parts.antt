@@ -2,7 +2,7 @@
 --     parts_in types parts      them, in order
 --     AreBelow depth parts      none is deeper
 --     found_in types found rest      what a search for a part comes to, with the parts that are still to be searched
-use Rattle.std.specs.Prelude.{ℕ, ◌≤◌, List, [], ◌++◌, map, Option, Some, None, option_map}
+use Rattle.std.specs.Prelude.{ℕ, ◌≤◌, List, ◌++◌, map, Option, Some, option_map}
 use Rattle.std.specs.Option.{option_copied, option_map_or}
 use denote.Param.Weighed.{most}
 use Rattle.dm_type.specs.Tables.{Table}

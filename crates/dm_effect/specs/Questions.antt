@@ -1,7 +1,7 @@
 -- What is asked of the nodes of a tree.
 --     answer types question tree      the answer at a node
 --     is_asked types question trees      the answer at some node of some trees
-use Rattle.std.specs.Prelude.{◌≡◌, ℕ, Bool, false, nat_lt, List, map, Option, Some, None, slice_get}
+use Rattle.std.specs.Prelude.{ℕ, Bool, false, nat_lt, List, map, Option, Some, slice_get}
 use Rattle.std.specs.List.{list_any}
 use Rattle.dm_type.specs.Tables.{Table}
 use Rattle.dm_tree.specs.Paths.{all_in_trees}

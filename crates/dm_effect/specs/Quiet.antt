@@ -2,7 +2,7 @@
 --     is_quiet unit tree      a tree of a unit has no store, and calls only functions whose whole body is one `return` of such a tree and
 --         which the unit defines before the external declaration in which the tree stands
 --     quiet_functions externals      these functions behind external declarations
-use Rattle.std.specs.Prelude.{ℕ, Bool, false, ◌==◌, nat_le, not, List, [], ◌∷◌, fold, take_while, Option, Some, None, if◌then◌else◌}
+use Rattle.std.specs.Prelude.{ℕ, Bool, ◌==◌, nat_le, not, List, [], ◌∷◌, fold, take_while, Option, Some, None, if◌then◌else◌}
 use Rattle.std.specs.List.{list_any}
 use Rattle.dm_tree.specs.Paths.{all_in}
 use Rattle.dm_tree.specs.Trees.{call, block, return, Tree, node, no_trees, more_trees, spans_of}

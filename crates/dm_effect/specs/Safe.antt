@@ -1,7 +1,7 @@
 -- Arguments whose evaluation has no undefined behaviour.
 --     is_safe types unit argument      an argument that stands in the unit is an integer constant expression with a value (6.6), or made of
 --         reads of integers that are set, by operators that can't go wrong
-use Rattle.std.specs.Prelude.{ℕ, Bool, true, false, ◌&&◌, ◌||◌, not, ◌==◌, nat_le, nat_lt, List, slice_get, Option, Some, None, is_some, if◌then◌else◌}
+use Rattle.std.specs.Prelude.{ℕ, Bool, true, false, ◌&&◌, ◌||◌, not, ◌==◌, nat_le, nat_lt, slice_get, Option, Some, None, is_some, if◌then◌else◌}
 use Rattle.std.specs.List.{list_any}
 use Rattle.dm_int.specs.declared.Kind.{Kind}
 use Rattle.dm_int.specs.declared.Op.{Op}

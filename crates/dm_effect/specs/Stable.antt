@@ -1,7 +1,7 @@
 -- Arguments whose value stays the same while the expression round them is evaluated.
 --     is_stable unit full path argument      an argument of what stands at a place of a full expression is
 --     is_steady unit trees argument      it reads only objects that nothing in these trees can write
-use Rattle.std.specs.Prelude.{ℕ, Bool, true, false, ◌&&◌, ◌||◌, not, List, ◌∷◌, slice_get, Option, Some, None, is_some, if◌then◌else◌}
+use Rattle.std.specs.Prelude.{ℕ, Bool, true, false, ◌&&◌, ◌||◌, not, List, slice_get, Option, Some, None, is_some, if◌then◌else◌}
 use Rattle.std.specs.List.{list_any, list_all}
 use Rattle.dm_type.specs.CTypes.{CType}
 use Rattle.dm_tree.specs.declared.unit.Sort.{Sort}

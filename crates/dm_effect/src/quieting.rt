@@ -90,11 +90,7 @@ impl<'a> QuietFunctions<'a> {
 }
 
 /// One more external declaration, which has this number.
-fn enter(
-    since: &mut Vec<Option<usize>>,
-    external: &CoreExternal,
-    at: usize,
-) -> Result<(), Memory>
+fn enter(since: &mut Vec<Option<usize>>, external: &CoreExternal, at: usize) -> Result<(), Memory>
     ensures { OnOk result (Enters since.old.items at external.now since.new.items) }
 {
     if let Some(function) = made_quiet(external, since.as_slice(), at) {

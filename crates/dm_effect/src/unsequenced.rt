@@ -1,7 +1,6 @@
 //! The operands that are unsequenced to a tree (6.5p3).
 
 ghost use Rattle.std.specs.Prelude.{◌≡◌, ◌∷◌, [], ◌++◌, ℕ, IfOk, OnOk, map, reverse};
-
 ghost use Rattle.dm_type.specs.Tables.{Table};
 ghost use Rattle.dm_tree.specs.Paths.{Path as Way};
 ghost use Rattle.dm_tree.specs.Views.{view};
@@ -70,11 +69,7 @@ fn push_others(
 fn previous(number: usize) -> Option<usize>
     ensures { result ≡ operands.previous number }
 {
-    if number == 0 {
-        None
-    } else {
-        Some(number - 1)
-    }
+    if number == 0 { None } else { Some(number - 1) }
 }
 
 /// A way with one more step.

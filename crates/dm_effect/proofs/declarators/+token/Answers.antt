@@ -1,12 +1,11 @@
 -- The token is in the first initialiser that is left, or in one of the others.
-use Rattle.std.proofs.Common.{◌≡◌, ℕ, Bool, true, false, ◌||◌, List, [], ◌∷◌, map, ap, refl, sym, ◌∙◌, rules, arith}
+use Rattle.std.proofs.Common.{◌≡◌, ℕ, Bool, true, false, ◌||◌, List, ◌∷◌, map, ap, refl, sym, ◌∙◌, rules, arith}
 use Rattle.std.specs.List.{list_any}
 use Rattle.std.proofs.lemmas.List.Folds.{list_any-append}
 use denote.Param.Weighed.{most}
 use Rattle.dm_type.specs.Tables.{Table}
 use Rattle.dm_tree.specs.declared.tree.Core.{Core}
 use Rattle.dm_tree.specs.declared.tree.Initial.{Initial, size-Initial}
-use Rattle.dm_tree.specs.Trees.{Tree}
 use Rattle.dm_tree.specs.Views.{expressions_of_items, view}
 use Rattle.dm_meaning.specs.Wholes.{view_of_initial}
 use Rattle.dm_effect.specs.Safe.{holds}
@@ -51,8 +50,8 @@ in_initials-loop-initial-preserved t c =
     let below = c.loop-initial.invariant.0 in (
       omega (arith, deep, below),
       λ types.
-      any-no (asked c.args.token types) (asked_one c.args.token types) refl (more c.args.token types) c.args.initials.now c.loop-initial.left.now (c.loop-initial.invariant.1 types) c.in-Some.initial.now
-      c.in-Some.rest.now c.in-Some.ensures.cases.0 (sym (c.in_initial.ensures types) ∙ c.if-in_initial.false),
+          any-no (asked c.args.token types) (asked_one c.args.token types) refl (more c.args.token types) c.args.initials.now c.loop-initial.left.now (c.loop-initial.invariant.1 types) c.in-Some.initial.now
+          c.in-Some.rest.now c.in-Some.ensures.cases.0 (sym (c.in_initial.ensures types) ∙ c.if-in_initial.false),
     )
 
 pub in_initials-returns : goal.in_initials-returns

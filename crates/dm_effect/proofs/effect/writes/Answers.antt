@@ -16,7 +16,7 @@ pub returns-in-Store : goal.returns-in-Store
 returns-in-Store c types =
     let target = c.in-Store.target in
     elim c.in-Store.is [
-      inl w ↦
+      | inl w ↦
           writes-Store types c.args.node.now target w.0 c.args.object w.1
           ∙ (ap (λ (core : Core). is_this c.args.object (object_first (more_trees (view types core) (more_trees (view types w.0) no_trees)))) (sym c.get-in-Store.ensures)
           ∙ c.is_object-in-Store.ensures types (more_trees (view types w.0) no_trees))

@@ -19,9 +19,9 @@ in_initials-loop-initial-preserved t c =
     let below = c.loop-initial.invariant.0 in (
       omega (arith, deep, below),
       λ types rest.
-      c.loop-initial.invariant.1 types rest
-      ∙ (initials-first types c.loop-initial.others.now c.in-Some.initial.now c.in-Some.rest.now rest c.loop-initial.left c.in-Some.ensures.cases.0
-      ∙ c.in-Left.ensures types (expressions_of_items (map (view_of_initial types) c.in-Some.rest.now) ++ rest)),
+          c.loop-initial.invariant.1 types rest
+          ∙ (initials-first types c.loop-initial.others.now c.in-Some.initial.now c.in-Some.rest.now rest c.loop-initial.left c.in-Some.ensures.cases.0
+          ∙ c.in-Left.ensures types (expressions_of_items (map (view_of_initial types) c.in-Some.rest.now) ++ rest)),
     )
 
 pub in_initials-returns : goal.in_initials-returns

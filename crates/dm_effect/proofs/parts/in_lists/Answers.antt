@@ -1,8 +1,8 @@
 -- The part stands in the list, or in the declarators.
-use Rattle.std.proofs.Common.{map, [], ◌++◌, append-nil, ap, sym, ◌∙◌}
+use Rattle.std.proofs.Common.{map, [], append-nil, ap, sym, ◌∙◌}
 use Rattle.dm_tree.specs.Paths.{tree_in}
 use Rattle.dm_tree.specs.Trees.{trees}
-use Rattle.dm_tree.specs.Views.{expressions_of_locals, view, view_of_local}
+use Rattle.dm_tree.specs.Views.{expressions_of_locals, view_of_local}
 use Rattle.dm_effect.proofs.parts.in_lists.Goals as goal
 
 pub returns-in-Found : goal.returns-in-Found

@@ -26,13 +26,13 @@ returns-in-None c types =
     let n : ℕ = c.in-Some.number.now in
     let found : List Path = c.loop-number.found.items in
     let is : c.split_at.result.0.now ≡ front =
-      c.split_at.ensures.front
-      ∙ (ap (λ (count : ℕ). take (count - length left) c.items.result.now) c.len.ensures
-      ∙ (ap (λ (all : Path). take (length at - length left) all) c.items.ensures ∙ front-is front left at c.loop-number.invariant.1)) in
+    c.split_at.ensures.front
+    ∙ (ap (λ (count : ℕ). take (count - length left) c.items.result.now) c.len.ensures
+    ∙ (ap (λ (all : Path). take (length at - length left) all) c.items.ensures ∙ front-is front left at c.loop-number.invariant.1)) in
     let now : c.push_others.new.found.items ≡ found ++ reverse (onto front (others_of n (view types c.loop-number.tree.now))) =
-      c.in_ok-push_others.ensures
-      ∙ (ap (λ (way : Path). found ++ reverse (onto way (others_by n c.last_operand.result))) is
-      ∙ ap (λ (ways : List Path). found ++ reverse (onto front ways)) (sym (c.last_operand.ensures types n))) in
+    c.in_ok-push_others.ensures
+    ∙ (ap (λ (way : Path). found ++ reverse (onto way (others_by n c.last_operand.result))) is
+    ∙ ap (λ (ways : List Path). found ++ reverse (onto front ways)) (sym (c.last_operand.ensures types n))) in
     c.reversed.ensures
     ∙ (ap reverse now
     ∙ (level-last front left c.in-Some.rest.now n (view types c.loop-number.tree.now) found c.in-Some.ensures.cases.0 (sym (c.in-None.ensures types)) ∙ c.loop-number.invariant.2 types))
@@ -45,16 +45,16 @@ loop-number-preserved c =
     let n : ℕ = c.in-Some.number.now in
     let found : List Path = c.loop-number.found.items in
     let is : c.split_at.result.0.now ≡ front =
-      c.split_at.ensures.front
-      ∙ (ap (λ (count : ℕ). take (count - length left) c.items.result.now) c.len.ensures
-      ∙ (ap (λ (all : Path). take (length at - length left) all) c.items.ensures ∙ front-is front left at c.loop-number.invariant.1)) in (
+    c.split_at.ensures.front
+    ∙ (ap (λ (count : ℕ). take (count - length left) c.items.result.now) c.len.ensures
+    ∙ (ap (λ (all : Path). take (length at - length left) all) c.items.ensures ∙ front-is front left at c.loop-number.invariant.1)) in (
       front ++ n ∷ [],
       way-on front left c.in-Some.rest.now at n c.loop-number.invariant.1 c.in-Some.ensures.cases.0,
       λ types.
           let now : c.push_others.new.found.items ≡ found ++ reverse (onto front (others_of n (view types c.loop-number.tree.now))) =
-            c.in_ok-push_others.ensures
-            ∙ (ap (λ (way : Path). found ++ reverse (onto way (others_by n c.last_operand.result))) is
-            ∙ ap (λ (ways : List Path). found ++ reverse (onto front ways)) (sym (c.last_operand.ensures types n))) in
+          c.in_ok-push_others.ensures
+          ∙ (ap (λ (way : Path). found ++ reverse (onto way (others_by n c.last_operand.result))) is
+          ∙ ap (λ (ways : List Path). found ++ reverse (onto front ways)) (sym (c.last_operand.ensures types n))) in
           ap (λ (ways : List Path). onto (front ++ n ∷ []) (beside c.in-Some.rest.now (view types c.in-Some-part.next.now)) ++ reverse ways) now
           ∙ (level-below front left c.in-Some.rest.now n (view types c.loop-number.tree.now) (view types c.in-Some-part.next.now) found c.in-Some.ensures.cases.0 (sym (c.in-Some-part.ensures types))
           ∙ c.loop-number.invariant.2 types),

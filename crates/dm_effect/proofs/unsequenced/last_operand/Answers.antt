@@ -1,5 +1,5 @@
 -- A call has its function and its arguments.
-use Rattle.std.proofs.Common.{List, length, Some, ap, sym, ◌∙◌}
+use Rattle.std.proofs.Common.{Some, ap, sym, ◌∙◌}
 use Rattle.dm_effect.specs.Operands.{others_by}
 use Rattle.dm_effect.proofs.BesideLemmas.{call-others}
 use Rattle.dm_effect.proofs.unsequenced.last_operand.Goals as goal

@@ -1,5 +1,5 @@
 -- What was found, with what is left to be found, is all.
-use Rattle.std.proofs.Common.{◌≡◌, suc, ◌++◌, List, length}
+use Rattle.std.proofs.Common.{◌≡◌, suc, ◌++◌}
 use Rattle.std.specs.Option.{option_map_or}
 use Rattle.std.specs.Prelude.{reverse}
 use Rattle.dm_effect.specs.Operands.{others_by}

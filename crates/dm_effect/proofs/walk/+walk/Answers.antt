@@ -100,8 +100,8 @@ any_tree-loop-tree-preserved t c =
     let below = c.loop-tree.invariant.0 in (
       omega (arith, deep, below),
       λ types.
-      any-no (in_trees types c.args.question) (in_tree types c.args.question) refl (trees-more types c.args.question) c.args.trees.now c.loop-tree.left.now (c.loop-tree.invariant.1 types) c.in-Some.tree.now c.in-Some.rest.now
-      c.in-Some.ensures.cases.0 (sym (c.any_node.ensures types) ∙ c.if-any_node.false),
+          any-no (in_trees types c.args.question) (in_tree types c.args.question) refl (trees-more types c.args.question) c.args.trees.now c.loop-tree.left.now (c.loop-tree.invariant.1 types) c.in-Some.tree.now c.in-Some.rest.now
+          c.in-Some.ensures.cases.0 (sym (c.any_node.ensures types) ∙ c.if-any_node.false),
     )
 
 pub any_tree-returns : goal.any_tree-returns
@@ -136,8 +136,8 @@ any_initial-loop-initial-preserved t c =
     let below = c.loop-initial.invariant.0 in (
       omega (arith, deep, below),
       λ types.
-      any-no (in_initials types c.args.question) (in_one_initial types c.args.question) refl (initials-more types c.args.question) c.args.initials.now c.loop-initial.left.now (c.loop-initial.invariant.1 types)
-      c.in-Some.initial.now c.in-Some.rest.now c.in-Some.ensures.cases.0 (sym (c.in_initial.ensures types) ∙ c.if-in_initial.false),
+          any-no (in_initials types c.args.question) (in_one_initial types c.args.question) refl (initials-more types c.args.question) c.args.initials.now c.loop-initial.left.now (c.loop-initial.invariant.1 types)
+          c.in-Some.initial.now c.in-Some.rest.now c.in-Some.ensures.cases.0 (sym (c.in_initial.ensures types) ∙ c.if-in_initial.false),
     )
 
 pub any_initial-returns : goal.any_initial-returns
@@ -180,9 +180,9 @@ any_local-loop-local-preserved-else-in_initial t c =
     let below = c.loop-local.invariant.0 in (
       omega (arith, deep, below),
       λ types.
-      any-no (in_locals types c.args.question) (in_one_local types c.args.question) refl (locals-more types c.args.question) c.args.locals.now c.loop-local.left.now (c.loop-local.invariant.1 types) c.in-Some.local.now
-      c.in-Some.rest.now c.in-Some.ensures.cases.0
-      (ap (is_asked types c.args.question) (local-with types c.in-Some.local.now c.in-Some-initial.initial c.in-Some-initial.is) ∙ (sym (c.in_initial.ensures types) ∙ c.if-in_initial.false)),
+          any-no (in_locals types c.args.question) (in_one_local types c.args.question) refl (locals-more types c.args.question) c.args.locals.now c.loop-local.left.now (c.loop-local.invariant.1 types) c.in-Some.local.now
+          c.in-Some.rest.now c.in-Some.ensures.cases.0
+          (ap (is_asked types c.args.question) (local-with types c.in-Some.local.now c.in-Some-initial.initial c.in-Some-initial.is) ∙ (sym (c.in_initial.ensures types) ∙ c.if-in_initial.false)),
     )
 
 pub any_local-loop-local-preserved : goal.any_local-loop-local-preserved
@@ -191,8 +191,8 @@ any_local-loop-local-preserved t c =
     let below = c.loop-local.invariant.0 in (
       omega (arith, deep, below),
       λ types.
-      any-no (in_locals types c.args.question) (in_one_local types c.args.question) refl (locals-more types c.args.question) c.args.locals.now c.loop-local.left.now (c.loop-local.invariant.1 types) c.in-Some.local.now
-      c.in-Some.rest.now c.in-Some.ensures.cases.0 (ap (is_asked types c.args.question) (local-without types c.in-Some.local.now (search rules))),
+          any-no (in_locals types c.args.question) (in_one_local types c.args.question) refl (locals-more types c.args.question) c.args.locals.now c.loop-local.left.now (c.loop-local.invariant.1 types) c.in-Some.local.now
+          c.in-Some.rest.now c.in-Some.ensures.cases.0 (ap (is_asked types c.args.question) (local-without types c.in-Some.local.now (search rules))),
     )
 
 pub any_local-returns : goal.any_local-returns
@@ -353,7 +353,7 @@ is_quiet_function-loop-last-preserved t c =
     let below = c.loop-last.invariant.0 in (
       omega (arith, split, below),
       λ types.
-      sym (quiet-last types c.loop-last.left.now c.in-Some.before.now c.in-Some.last.now c.args.function c.in-Some.ensures.cases.0
-      ∙ skips _ (quiet_behind types c.in-Some.before.now c.args.function) (sym (c.defines_quietly.ensures types) ∙ c.if-defines_quietly.false))
-      ∙ c.loop-last.invariant.1 types,
+          sym (quiet-last types c.loop-last.left.now c.in-Some.before.now c.in-Some.last.now c.args.function c.in-Some.ensures.cases.0
+          ∙ skips _ (quiet_behind types c.in-Some.before.now c.args.function) (sym (c.defines_quietly.ensures types) ∙ c.if-defines_quietly.false))
+          ∙ c.loop-last.invariant.1 types,
     )

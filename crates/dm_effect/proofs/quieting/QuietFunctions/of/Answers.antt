@@ -11,5 +11,5 @@ loop-done-preserved c =
     let below : done < length externals = omega arith in (
       omega (arith, below),
       one-behind externals (take done externals) (drop (suc done) externals) c.index-externals-done.result done c.loop-done.since.items c.enter.new.since.items
-      (split-at externals done c.index-externals-done.result below c.index-externals-done.is) (length-take-le done externals (omega (arith, below))) c.loop-done.invariant.1 c.in_ok-enter.ensures,
+          (split-at externals done c.index-externals-done.result below c.index-externals-done.is) (length-take-le done externals (omega (arith, below))) c.loop-done.invariant.1 c.in_ok-enter.ensures,
     )
