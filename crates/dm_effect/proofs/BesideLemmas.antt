@@ -65,10 +65,6 @@ none-more found front n operand same =
     ap (λ ways. found ++ ways) (sym (reversed-last front n operand
     ∙ ap (λ b. reverse (onto front (steps (cond (not b) (operand ∷ []) []))) ++ reverse (onto front (others_by n (previous operand)))) same))
 
-pub previous-of : (number : ℕ) → (number ≡ 0 → ⊥) → Some (number - 1) ≡ previous number
-previous-of zero some = absurd (some refl)
-previous-of (suc n) some = let e : suc n - 1 ≡ n = omega arith in ap Some e
-
 -- ---- the operands of a call
 
 listed-length : (types : Table) (all : List Core) → length (listed (trees (map (view types) all))) ≡ length all

@@ -1,21 +1,18 @@
 -- A table of quiet functions, external declaration by external declaration.
-use Rattle.std.proofs.Common.{◌≡◌, ℕ, zero, suc, ◌+◌, ◌<◌, ◌≤◌, Bool, true, false, cond, ◌&&◌, ◌||◌, ◌==◌, nat_lt, nat_le, if◌then◌else◌, List, [], ◌∷◌, ◌++◌, map, length, get_or, take, drop, take_while, slice_get, slice_set, Option, Some, None, append_assoc, length-append, true≢false, rules, refl, ap, sym, subst, ◌∙◌, arith}
+use Rattle.std.proofs.Common.{◌≡◌, ℕ, zero, suc, ◌+◌, ◌<◌, ◌≤◌, Bool, true, false, cond, ◌&&◌, ◌||◌, nat_lt, nat_le, List, [], ◌∷◌, ◌++◌, map, length, get_or, take, drop, take_while, Option, append_assoc, length-append, refl, ap, sym, subst, ◌∙◌, arith}
 use mathlib.Core.Path.{fun_ext}
 use Rattle.std.proofs.Math.Seq.{take-append_seam}
 use Rattle.std.proofs.lemmas.Bool.{ltb-true, ltb-false, lt-ltb}
-use Rattle.std.proofs.lemmas.Bool.Decides.{Decides-eqb}
-use Rattle.std.proofs.lemmas.List.{take_all}
 use Rattle.std.proofs.lemmas.List.Sums.{take_while-cons}
 use Rattle.dm_type.specs.Tables.{Table, no_type}
 use Rattle.dm_tree.specs.declared.tree.Core.{Core, out-Core}
 use Rattle.dm_tree.specs.declared.unit.CoreExternal.{CoreExternal}
-use Rattle.dm_tree.specs.declared.unit.CoreUnit.{CoreUnit}
 use Rattle.dm_tree.specs.Trees.{Tree, spans_of}
 use Rattle.dm_tree.specs.Views.{view, view_of_external}
 use Rattle.dm_tree.proofs.ViewLemmas.{view-core}
-use Rattle.dm_effect.specs.Questions.{is_since, is_quiet_since}
+use Rattle.dm_effect.specs.Questions.{is_quiet_since}
 use Rattle.dm_effect.specs.Quiet.{before, ends_before, is_one_of, quiet_functions}
-use Rattle.dm_effect.specs.Tables.{IsTable, IsBehind, Enters}
+use Rattle.dm_effect.specs.Tables.{IsBehind, Enters}
 use Rattle.dm_effect.specs.Walks.{joins}
 use Rattle.dm_effect.proofs.QuietLemmas.{quiet-last}
 
@@ -59,98 +56,7 @@ before-front types tree externals front count is counted =
     ∙ sym (ap (λ (whole : Tree). take_while (ends_before (spans_of whole).inner.first) (map (view_of_external types) externals)) (view-core types tree)
     ∙ while-map (view_of_external types) (ends_before (out-Core tree).inner.first) externals)
 
--- ---- the table
-
-grows : (m n : ℕ) (found : Option (Option ℕ)) → m ≤ n → is_since m found ≡ true → is_since n found ≡ true
-grows m n None le h = absurd (true≢false (sym h))
-grows m n (Some None) le h = absurd (true≢false (sym h))
-grows m n (Some (Some at)) le h = lt-ltb at n (omega (arith, le, ltb-true at m h))
-
-pub since-grows : (since : List (Option ℕ)) (m n d : ℕ) → m ≤ n → is_quiet_since since m d ≡ true → is_quiet_since since n d ≡ true
-since-grows since m n d le h = grows m n (slice_get since d) le h
-
-pub pushed-none : (since : List (Option ℕ)) (count d : ℕ) → is_quiet_since (since ++ None ∷ []) count d ≡ is_quiet_since since count d
-pushed-none [] count zero = refl
-pushed-none [] count (suc d) = refl
-pushed-none (first ∷ since) count zero = refl
-pushed-none (first ∷ since) count (suc d) = pushed-none since count d
-
-pub set-here : (since : List (Option ℕ)) (number at count d : ℕ) → number < length since
-    → is_quiet_since (slice_set since number (Some at)) count d ≡ (if number == d then nat_lt at count else is_quiet_since since count d)
-set-here [] number at count d h = absurd (omega arith)
-set-here (first ∷ since) zero at count zero h = refl
-set-here (first ∷ since) zero at count (suc d) h = search rules
-set-here (first ∷ since) (suc number) at count zero h = search rules
-set-here (first ∷ since) (suc number) at count (suc d) h = set-here since number at count d (omega arith) ∙ search rules
-
--- nothing enters
-pub enters-nothing : (since : List (Option ℕ)) (at : ℕ) (one : CoreExternal) → ((types : Table) (d : ℕ) → joins (is_quiet_since since at) d (view_of_external types one).form ≡ false) → Enters since at one since
-enters-nothing since at one none = record {
-  same = λ types count d. sym (ap (λ b. is_quiet_since since count d || (nat_lt at count && b)) (none types d) ∙ neither (is_quiet_since since count d) (nat_lt at count));
-}
-  where
-    neither : (p q : Bool) → (p || (q && false)) ≡ p
-    neither true true = refl
-    neither true false = refl
-    neither false true = refl
-    neither false false = refl
-
--- what enters is there already
-pub enters-again : (since : List (Option ℕ)) (at function : ℕ) (one : CoreExternal) → ((types : Table) (d : ℕ) → joins (is_quiet_since since at) d (view_of_external types one).form ≡ (function == d))
-    → is_quiet_since since at function ≡ true → Enters since at one since
-enters-again since at function one makes there = record {
-  same = λ types count d. sym (ap (λ b. is_quiet_since since count d || (nat_lt at count && b)) (makes types d) ∙ again count d (function == d) (nat_lt at count) refl refl);
-}
-  where
-    alone_or : (b : Bool) → (b || false) ≡ b
-    alone_or true = refl
-    alone_or false = refl
-
-    again : (count d : ℕ) (this later : Bool) → (function == d) ≡ this → nat_lt at count ≡ later → (is_quiet_since since count d || (later && this)) ≡ is_quiet_since since count d
-    again count d true true is lt =
-        let same = (Decides-eqb function d).0 is in
-        let found = since-grows since at count d (omega (arith, ltb-true at count lt)) (sym (ap (is_quiet_since since at) same) ∙ there) in
-        ap (λ b. b || true) found ∙ sym found
-    again count d false true is lt = alone_or (is_quiet_since since count d)
-    again count d true false is lt = alone_or (is_quiet_since since count d)
-    again count d false false is lt = alone_or (is_quiet_since since count d)
-
--- it enters
-pub enters-new : (old new : List (Option ℕ)) (at function : ℕ) (one : CoreExternal) → ((types : Table) (d : ℕ) → joins (is_quiet_since old at) d (view_of_external types one).form ≡ (function == d))
-    → is_quiet_since old at function ≡ false → ((count d : ℕ) → is_quiet_since new count d ≡ (if function == d then nat_lt at count else is_quiet_since old count d)) → Enters old at one new
-enters-new old new at function one makes absent placed = record {
-  same = λ types count d. placed count d ∙ sym (ap (λ b. is_quiet_since old count d || (nat_lt at count && b)) (makes types d) ∙ here count d (function == d) (nat_lt at count) refl refl);
-}
-  where
-    none_or : (b : Bool) → (b || false) ≡ b
-    none_or true = refl
-    none_or false = refl
-
-    late : (count d : ℕ) (there : Bool) → is_quiet_since old count d ≡ there → function ≡ d → nat_lt at count ≡ false → there ≡ false
-    late count d false is same lt = refl
-    late count d true is same lt =
-        absurd (true≢false (sym (since-grows old count at d (ltb-false at count lt) is) ∙ (sym (ap (is_quiet_since old at) same) ∙ absent)))
-
-    or_true : (b : Bool) → (b || true) ≡ true
-    or_true true = refl
-    or_true false = refl
-
-    here : (count d : ℕ) (this later : Bool) → (function == d) ≡ this → nat_lt at count ≡ later → (is_quiet_since old count d || (later && this)) ≡ (if this then later else is_quiet_since old count d)
-    here count d true true is lt = or_true (is_quiet_since old count d)
-    here count d true false is lt = none_or (is_quiet_since old count d) ∙ late count d (is_quiet_since old count d) refl ((Decides-eqb function d).0 is) lt
-    here count d false true is lt = none_or (is_quiet_since old count d)
-    here count d false false is lt = none_or (is_quiet_since old count d)
-
 -- ---- one external declaration after another
-
-pub nothing-behind : (externals : List CoreExternal) → IsBehind externals 0 []
-nothing-behind externals = record {
-  same = λ types count d le. ap (λ n. is_one_of (quiet_functions (map (view_of_external types) (take n externals))) d) (none count le);
-  settled = λ count d le. refl;
-}
-  where
-    none : (count : ℕ) → count ≤ 0 → 0 ≡ count
-    none count le = omega arith
 
 abbrev joins_here : Table → List (Option ℕ) → ℕ → CoreExternal → ℕ → Bool
 joins_here types old done one d = joins (is_quiet_since old done) d (view_of_external types one).form
@@ -206,17 +112,6 @@ one-behind externals front rest one done old new whole long before enters = reco
         ∙ (ap (λ them. is_one_of (quiet_functions (map (view_of_external types) them)) d) next-taken
         ∙ (quiet-last types (front ++ one ∷ []) front one d refl
         ∙ ap (λ them. joins (is_one_of (quiet_functions (map (view_of_external types) them))) d (view_of_external types one).form || is_one_of (quiet_functions (map (view_of_external types) them)) d) (sym front-taken))))))))
-
-pub all-behind : (one : CoreUnit) (done : ℕ) (since : List (Option ℕ)) → length one.externals ≡ done → IsBehind one.externals done since → IsTable one since
-all-behind one done since long behind = record { same = λ types count d. by types count d (nat_lt done count) refl }
-  where
-    by : (types : Table) (count d : ℕ) (later : Bool) → nat_lt done count ≡ later → is_quiet_since since count d ≡ is_one_of (quiet_functions (map (view_of_external types) (take count one.externals))) d
-    by types count d false is = behind.same types count d (ltb-false done count is)
-    by types count d true is =
-        let over = ltb-true done count is in
-        behind.settled count d (omega (arith, over))
-        ∙ (behind.same types done d (omega arith)
-        ∙ ap (λ them. is_one_of (quiet_functions (map (view_of_external types) them)) d) (take_all done one.externals (omega (arith, long)) ∙ sym (take_all count one.externals (omega (arith, long, over)))))
 
 -- a list round one of its items
 pub split-at : {A : Type 0} (all : List A) (n : ℕ) (one : A) → n < length all → one ≡ get_or all n one → all ≡ take n all ++ one ∷ drop (suc n) all

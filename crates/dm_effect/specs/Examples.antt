@@ -23,9 +23,6 @@ at n label kind parts =
 abbrev int : CType
 int = integer Int
 
-abbrev unsigned : CType
-unsigned = integer UInt
-
 abbrev pub constant : ℕ → ℕ → Tree
 constant n z = at n (number (pos z)) int []
 
