@@ -20,7 +20,8 @@ use std::marker::Model;
 
 /// Whether a tree of the unit has no store, and calls only functions whose whole body is one `return` of such a tree and which
 /// the unit defines before the external declaration in which the tree stands. The bodies are gone into again at each call,
-/// one inside another, so a chain of functions can take time that doubles with each: [`QuietFunctions`] is for whole units.
+/// one inside another, so a chain of functions can take time that doubles with each, and a depth of the stack that grows with the
+/// chain: [`QuietFunctions`], which has neither, is for whole units.
 pub fn quiet(unit: &CoreUnit, tree: &Core) -> bool
     ensures { (types : Table) → result ≡ is_quiet (view_of_unit types unit.now) (view types tree.now) }
 {
