@@ -1,0 +1,95 @@
+-- The premises of the laws, for the example.
+use Rattle.std.specs.Prelude.{nat_eq, ◌≡◌, refl, zero, suc, ◌==◌, Bool, true, false, All, [], ◌∷◌, Some, None, pos, if◌then◌else◌}
+use Rattle.std.specs.List.{IsDistinct}
+use Rattle.std.proofs.Common.{arith, subst}
+use Rattle.std.proofs.lemmas.Bool.{false≢true}
+use Rattle.std.proofs.lemmas.Int.{ints}
+use Rattle.dm_int.specs.declared.Kind.TheVariants.{Int}
+use Rattle.dm_type.specs.CTypes.{integer, void}
+use Rattle.dm_type.specs.Tables.{Table, no_type}
+use Rattle.dm_tree.specs.Scenes.{HasConst, itself}
+use Rattle.dm_tree.specs.Typing.{IsEntry, ExternalFits, IsWellTypedUnit, file_scene}
+use Rattle.dm_tree.specs.Units.{External}
+use Rattle.dm_meaning.specs.Values.{integer_value}
+use Rattle.dm_meaning.specs.Memory.{Block}
+use Rattle.dm_meaning.specs.Programs.{layout}
+use Rattle.dm_meaning.specs.Running.{every}
+use Rattle.dm_meaning.proofs.OptionLemmas.{none_is_some, some_is_some}
+use Rattle.dm_sound.specs.TypedValues.{HasType, IsGiven, AreTyped}
+use Rattle.dm_sound.specs.TypedTrees.{IsSoundTable, IsTyped}
+use Rattle.dm_sound.specs.TypedSteps.{AreOperands}
+use Rattle.dm_sound.specs.TypedRuns.{HoleComesFrom, IsProperForm, IsProperUnit, IsTypedProgram, IsTypedWorld}
+use Rattle.dm_sound.specs.Examples.{int, entry, external, unit, program, counted, name, world_with, operands, negated, negation, two, one_of_two}
+use Rattle.dm_sound.proofs.UnitLemmas.{unit_typed}
+
+-- ---- the unit
+
+pub table_sound : IsSoundTable no_type
+table_sound = record {
+  complete = λ at members e n one f. absurd (none_is_some members e);
+  layered = ((λ n. n), (λ at members n one inner others e f g h. absurd (none_is_some members e)), λ at members e. absurd (none_is_some members e));
+  sizes = λ at content one e f. absurd (none_is_some content e);
+}
+
+nothing : {A : Type 0} (P : A → Type 0) → All P []
+nothing P k d inside = absurd (omega arith)
+
+single : {A : Type 0} (P : A → Type 0) (x : A) → P x → All P (x ∷ [])
+single P x h zero d inside = h
+single P x h (suc k) d inside = absurd (omega arith)
+
+external_fits : ExternalFits (file_scene no_type unit.declared) external
+external_fits = (nothing _, nothing _, (nothing _, ((((λ h. (refl, refl)), refl), refl), refl)))
+
+none_twice : IsDistinct nat_eq []
+unfolding IsDistinct
+none_twice = tt
+
+pub unit_fits : IsWellTypedUnit no_type unit
+unit_fits = record {
+  entries = single IsEntry entry (refl, λ h. refl);
+  externals = single (ExternalFits (file_scene no_type unit.declared)) external external_fits;
+  once = none_twice;
+}
+
+pub unit_proper : IsProperUnit unit
+unit_proper = single (λ (one : External). IsProperForm one.form) external (nothing _)
+
+pub program_typed : IsTypedProgram program
+program_typed = unit_typed no_type unit table_sound unit_fits unit_proper
+
+-- ---- the expressions
+
+no_const : (table : Table) → HasConst table (integer Int) → ⊥
+no_const table (itself type is) = false≢true is
+
+pub counted_typed : IsTyped program void counted
+counted_typed = record {
+  breaks = false;
+  continues = false;
+  labels = None;
+  typed = (((refl, refl, refl, no_const no_type), refl, (refl, tt)), (((refl, refl), tt), tt));
+  proper = (tt, ((tt, tt), tt));
+}
+
+five_in : (b : Bool) (block : Block) → (if b then Some (record { kind = int; contents = integer_value Int (pos 5); alive = true; writable = true }) else None) ≡ Some block → HasType (layout program) block.kind block.contents
+five_in true block e = subst (λ (x : Block). HasType (layout program) x.kind x.contents) (some_is_some _ block e) (refl, (omega (arith, ints), omega (arith, ints)))
+five_in false block e = absurd (none_is_some block e)
+
+pub five_typed : AreTyped (layout program) (world_with 5).memory
+five_typed n block e = five_in (7 == n) block e
+
+pub world_typed : IsTypedWorld program (world_with 5)
+world_typed = record { memory = five_typed; input = nothing _ }
+
+pub operands_fit : AreOperands (layout program) every name operands
+operands_fit = ((refl, refl), tt)
+
+pub negation_comes : HoleComesFrom (layout program) negated int negation
+negation_comes = (refl, (refl, (refl, (refl, refl), tt)))
+
+pub five_given : IsGiven (layout program) int (integer_value Int (pos 5))
+five_given = record { typed = (refl, (omega (arith, ints), omega (arith, ints))); set = λ h. refl; whole = refl }
+
+pub one_has : HasType (layout program) two one_of_two
+one_has = (refl, ((refl, (omega (arith, ints), omega (arith, ints))), (refl, tt)))

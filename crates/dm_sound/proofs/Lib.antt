@@ -1,0 +1,15 @@
+pub mod ValueLemmas
+pub mod AccessLemmas
+pub mod GivenLemmas
+pub mod TableLemmas
+pub mod OperateLemmas
+pub mod NodeLemmas
+pub mod PlainLemmas
+pub mod ComeLemmas
+pub mod CallLemmas
+pub mod RunLemmas
+pub mod ExampleLemmas
+pub mod UnitLemmas
+pub mod FirstLemmas
+pub mod FailLemmas
+pub mod ListedLemmas

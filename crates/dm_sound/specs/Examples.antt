@@ -1,0 +1,83 @@
+-- A small program that meets the premises of the laws: `int c;`, the expression `c++` where `c` has the value 5, and the negative of a call.
+use Rattle.std.specs.Prelude.{ℕ, true, false, List, [], ◌∷◌, Some, None, pos, codes}
+use Rattle.dm_token.specs.declared.place.Place.{Place}
+use Rattle.dm_token.specs.declared.place.Span.{Span}
+use Rattle.dm_int.specs.declared.Kind.TheVariants.{Int}
+use Rattle.dm_type.specs.CTypes.{CType, integer, array, function as function_type, no_types}
+use Rattle.dm_type.specs.Tables.{no_type}
+use Rattle.dm_tree.specs.declared.tree.Sign.TheVariants.{Minus}
+use Rattle.dm_tree.specs.declared.unit.Linkage.TheVariants.{External as Outer}
+use Rattle.dm_tree.specs.declared.unit.Sort.TheVariants.{Object}
+use Rattle.dm_tree.specs.Trees.{Label, object, function, count, unary, call, Spans, Tree, Trees, node, no_trees, more_trees}
+use Rattle.dm_tree.specs.Units.{Declaration, External, declares, TypedUnit}
+use Rattle.dm_meaning.specs.Values.{At, numbered, Value, integer_value, parts, unset, no_values, more_values}
+use Rattle.dm_meaning.specs.Programs.{Program}
+use Rattle.dm_meaning.specs.Operations.{designates, Operand, World, Scene, whole}
+use Rattle.dm_meaning.specs.Running.{evaluates, no_runs, Hole, here, within, in_first}
+use Rattle.dm_meaning.specs.Units.{program_of}
+
+abbrev somewhere : Place
+somewhere = record { file = 0; byte = 0; line = 1; column = 1 }
+
+abbrev no_span : Span
+no_span = record { first = 0; after = 0 }
+
+abbrev spans : Spans
+spans = record { inner = no_span; outer = no_span; place = somewhere }
+
+abbrev pub int : CType
+int = integer Int
+
+-- int c;
+abbrev pub entry : Declaration
+entry = record { name = codes "c"; sort = Object true; kind = int; linkage = Outer; place = somewhere }
+
+abbrev pub external : External
+external = record { span = no_span; constants = []; form = declares (record { declared = 0; defines = true; initialiser = None } ∷ []) [] }
+
+abbrev pub unit : TypedUnit
+unit = record { declared = entry ∷ []; externals = external ∷ [] }
+
+abbrev pub program : Program
+program = program_of no_type unit
+
+-- c++
+abbrev pub counting : Label
+counting = count true false
+
+abbrev pub name : Trees
+name = more_trees (node (object 0) int spans no_trees) no_trees
+
+abbrev pub counted : Tree
+counted = node counting int spans name
+
+-- c has the number 7
+abbrev pub scene : Scene
+scene = record { program = program; objects = (0, 7) ∷ [] }
+
+abbrev pub world_with : ℕ → World
+world_with n = record {
+  memory = (7, record { kind = int; contents = integer_value Int (pos n); alive = true; writable = true }) ∷ [];
+  input = [];
+  output = [];
+}
+
+abbrev pub place : At
+place = whole (numbered 7)
+
+abbrev pub operands : List Operand
+operands = record { kind = int; result = designates place } ∷ []
+
+-- the negative of a call, and the same with the call left out
+abbrev pub negated : Tree
+negated = node (unary Minus) int spans (more_trees (node call int spans (more_trees (node (function 1) (function_type int no_types) spans no_trees) no_trees)) no_trees)
+
+abbrev pub negation : Hole
+negation = within (evaluates (unary Minus)) int somewhere (in_first here no_runs)
+
+-- an array of two ints, of which the first is 1 and the second isn't set
+abbrev pub two : CType
+two = array int (Some 2)
+
+abbrev pub one_of_two : Value
+one_of_two = parts (more_values (integer_value Int (pos 1)) (more_values unset no_values))

@@ -1,0 +1,39 @@
+-- Why a step of a typed expression may have the cause `type`: by what memory holds, and never by the tree.
+--     results_in run      the results in a tree under evaluation
+--     IsExcused layout memory given      why that is so beside these results
+use Rattle.std.specs.Prelude.{◌≡◌, ◌⊎◌, List, [], ◌∷◌, ◌++◌, Err}
+use Rattle.dm_meaning.specs.declared.cause.Cause.TheVariants.{OtherType}
+use Rattle.dm_meaning.specs.Among.{IsAmong}
+use Rattle.dm_meaning.specs.Values.{At, to, pointer_value}
+use Rattle.dm_meaning.specs.Objects.{Layout}
+use Rattle.dm_meaning.specs.Memory.{Memory, look}
+use Rattle.dm_meaning.specs.Primitives.{most_in, text_at}
+use Rattle.dm_meaning.specs.Operations.{Result, of_value}
+use Rattle.dm_meaning.specs.Running.{Run, done, to_do, Runs, no_runs, more_runs}
+use Rattle.dm_meaning.specs.Expressions.{Move, goes, calls, fails, exits}
+use Rattle.dm_sound.specs.TypedSteps.{IsMistyped, IsTooFar}
+
+abbrev mutual
+  pub results_in : Run → List Result
+  results_in (done kind result locks) = result ∷ []
+  results_in (to_do doing kind place parts) = results_in_all parts
+
+  pub results_in_all : Runs → List Result
+  results_in_all no_runs = []
+  results_in_all (more_runs first rest) = results_in first ++ results_in_all rest
+
+-- one of these results is a pointer to a text in which something is no character (7.21.7.9)
+pub record IsNoText (layout : Layout) (memory : Memory) (given : List Result) : Type 0 where
+  pub at : At
+  pub there : IsAmong (of_value (pointer_value (to at))) given
+  pub text : text_at layout memory (most_in layout (look memory at.name)) at ≡ Err OtherType
+
+abbrev pub IsExcused : Layout → Memory → List Result → Type 0
+IsExcused layout memory given = IsMistyped layout memory given ⊎ (IsTooFar layout memory given ⊎ IsNoText layout memory given)
+
+-- where the step is undefined with the cause `type`, that is so by what memory holds
+abbrev pub IsExcusedMove : {T H : Type 0} → Layout → Memory → List Result → Move T H → Type 0
+IsExcusedMove layout memory given (goes world tree) = Unit {0}
+IsExcusedMove layout memory given (calls f arguments kind hole) = Unit {0}
+IsExcusedMove layout memory given (fails cause place) = cause ≡ OtherType → IsExcused layout memory given
+IsExcusedMove layout memory given (exits status) = Unit {0}

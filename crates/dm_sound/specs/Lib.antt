@@ -1,0 +1,6 @@
+pub mod TypedValues
+pub mod TypedTrees
+pub mod TypedSteps
+pub mod TypedRuns
+pub mod Examples
+pub mod Excuses

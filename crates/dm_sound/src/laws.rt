@@ -1,0 +1,100 @@
+ghost use Rattle.std.specs.Prelude.{◌≡◌, ℕ, IsTrue, List, [], Some};
+ghost use Rattle.dm_int.specs.declared.Kind.{Kind};
+ghost use Rattle.dm_type.specs.CTypes.{CType, array};
+ghost use Rattle.dm_type.specs.Tables.{Table};
+ghost use Rattle.dm_tree.specs.Constants.{integer_kind};
+ghost use Rattle.dm_tree.specs.Trees.{Label, Spans, Tree, Trees, node};
+ghost use Rattle.dm_tree.specs.Typing.{IsWellTypedUnit};
+ghost use Rattle.dm_tree.specs.Units.{TypedUnit};
+ghost use Rattle.dm_meaning.specs.Among.{IsAmong};
+ghost use Rattle.dm_meaning.specs.Expressions.{Move, moves};
+ghost use Rattle.dm_meaning.specs.Memory.{Memory, killed};
+ghost use Rattle.dm_meaning.specs.Objects.{Layout, all_unset, all_zero};
+ghost use Rattle.dm_meaning.specs.Operations.{Operand, Scene, World, of_value, operate};
+ghost use Rattle.dm_meaning.specs.Programs.{Definition, Program, layout};
+ghost use Rattle.dm_meaning.specs.Running.{Hole, Run, begun, done, filled_in, open_of};
+ghost use Rattle.dm_meaning.specs.Statements.{array_of, characters_at, value_listed};
+ghost use Rattle.dm_meaning.specs.Steps.{opened_memory};
+ghost use Rattle.dm_meaning.specs.Units.{program_of};
+ghost use Rattle.dm_meaning.specs.Values.{At, Value, literal_of};
+ghost use Rattle.dm_meaning.specs.Wholes.{is_expression};
+ghost use Rattle.dm_sound.specs.Excuses.{IsExcusedMove, results_in};
+ghost use Rattle.dm_sound.specs.TypedRuns.{ArgumentsFit, ComesFrom, HoleComesFrom, IsProperUnit, IsTypedProgram, IsTypedWorld, MoveFits};
+ghost use Rattle.dm_sound.specs.TypedSteps.{IsTypedScope, AreOperands, DidFits, is_operated};
+ghost use Rattle.dm_sound.specs.TypedTrees.{IsSoundTable, IsTyped};
+ghost use Rattle.dm_sound.specs.TypedValues.{AreTyped, HasType, IsGiven, has_parts, own_type};
+
+/// The step of a typed node on results of its operands gives a result of the node's type, which for a number is in its kind's range, and
+/// leaves each object in memory a value of its type, unless the step is undefined. Where the cause is `type`, an operand designates an
+/// object of another type, or the difference of two pointers is too great for its type.
+pub fn operators_give_their_types()
+    ensures { (scene : Scene) (world : World) (locks : List At) (result : CType) (label : Label) (kind : CType) (spans : Spans) (parts : Trees)
+        (operands : List Operand) → IsTypedScope scene.program → IsTyped scene.program result (node label kind spans parts)
+        → AreTyped (layout scene.program) world.memory → IsTrue (is_operated label)
+        → AreOperands (layout scene.program) (open_of label) parts operands
+        → DidFits scene world (node label kind spans parts) operands (operate scene world locks label kind operands) }
+{}
+
+/// Each step of an expression under evaluation keeps its type and each object's: what is left comes from the same tree, and a call has
+/// an argument of its type for each parameter.
+pub fn expressions_keep_their_types()
+    ensures { (scene : Scene) (world : World) (locks : List At) (result : CType) (tree : Tree) (run : Run) (move : Move Run Hole)
+        → IsTypedProgram scene.program → IsTypedWorld scene.program world → IsTyped scene.program result tree
+        → ComesFrom (layout scene.program) tree run → IsAmong move (moves scene world locks run) → MoveFits scene.program tree move }
+{}
+
+/// Where a step of a typed expression is undefined with the cause `type`, that is so because a place that is designated in it holds an
+/// object of another type, because two pointers are too far apart, or because `puts` is given what is no text; and never because of the
+/// tree: each operand, argument and value that its nodes need is there, and of their types.
+pub fn typed_expressions_are_never_ill()
+    ensures { (scene : Scene) (world : World) (locks : List At) (result : CType) (tree : Tree) (run : Run) (move : Move Run Hole)
+        → IsTypedProgram scene.program → IsTypedWorld scene.program world → IsTyped scene.program result tree
+        → IsTrue (is_expression tree) → ComesFrom (layout scene.program) tree run → IsAmong move (moves scene world locks run)
+        → IsExcusedMove (layout scene.program) world.memory (results_in run) move }
+{}
+
+/// An expression of which nothing is evaluated comes from its tree.
+pub fn evaluations_begin()
+    ensures { (scene : Scene) (tree : Tree) → ComesFrom (layout scene.program) tree (begun tree) }
+{}
+
+/// With a value of the call's type in place of a call, an expression comes from the same tree.
+pub fn calls_give_their_types()
+    ensures { (scene : Scene) (tree : Tree) (called : CType) (hole : Hole) (value : Value) → HoleComesFrom (layout scene.program) tree called hole
+        → IsGiven (layout scene.program) called value → ComesFrom (layout scene.program) tree (filled_in hole (done called (of_value value) [])) }
+{}
+
+/// The program of a well-typed unit is typed, where a table gave its types.
+pub fn units_give_typed_programs()
+    ensures { (types : Table) (one : TypedUnit) → IsSoundTable types → IsWellTypedUnit types one → IsProperUnit one
+        → IsTypedProgram (program_of types one) }
+{}
+
+/// An object whose scalars aren't set holds a value of its type, and so does one whose scalars are 0 or null pointers.
+pub fn first_values_have_their_types()
+    ensures { (program : Program) → IsSoundTable program.table → (type : CType)
+        → HasType (layout program) type (all_unset (layout program) type) × HasType (layout program) type (all_zero (layout program) type) }
+{}
+
+/// When a function is called with an argument of its type for each parameter, the objects of its parameters and of its body hold values of
+/// their types, and each object that was there does as before.
+pub fn calls_keep_objects_typed()
+    ensures { (program : Program) → IsSoundTable program.table → (names : ℕ → ℕ) (definition : Definition) (arguments : List Value) (memory : Memory)
+        → ArgumentsFit program definition.parameters arguments → AreTyped (layout program) memory
+        → AreTyped (layout program) (opened_memory program names definition arguments memory) }
+{}
+
+/// Objects whose lifetime ends hold what they held.
+pub fn ends_keep_objects_typed()
+    ensures { (program : Program) (numbers : List ℕ) (memory : Memory) → AreTyped (layout program) memory
+        → AreTyped (layout program) (killed numbers memory) }
+{}
+
+/// When a list in braces begins, what an array or a struct holds is of its type, and so is what a string literal gives an array of
+/// characters.
+pub fn initialisers_keep_types()
+    ensures listed { (program : Program) → IsSoundTable program.table → (type : CType) → IsTrue (has_parts (own_type type)) → (n : ℕ) (value : Value)
+        → HasType (layout program) type value → HasType (layout program) type (value_listed (layout program) type n value) }
+    ensures literal { (laid : Layout) (element : CType) (kind : Kind) → integer_kind element ≡ Some kind → (count : ℕ) (bytes : List ℕ) (unit : ℕ)
+        → HasType laid (array element (Some count)) (array_of (array element (Some count)) (characters_at (literal_of bytes unit))) }
+{}

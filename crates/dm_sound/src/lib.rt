@@ -1,0 +1,12 @@
+//! The abstract machine is sound for typed programs: what its objects hold, and what its expressions give, is of their types.
+#![tactic(auto)]
+
+mod examples;
+mod laws;
+
+pub use examples::{typed_argument, typed_counting, typed_list, typed_negation, typed_unit};
+pub use laws::{
+    calls_give_their_types, calls_keep_objects_typed, ends_keep_objects_typed, evaluations_begin,
+    expressions_keep_their_types, first_values_have_their_types, initialisers_keep_types,
+    operators_give_their_types, typed_expressions_are_never_ill, units_give_typed_programs,
+};
