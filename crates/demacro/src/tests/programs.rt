@@ -261,7 +261,7 @@ fn objects_used_wrongly_are_undefined(rt: HostRuntime) -> Result<(), Fail> {
         ),
         // external text
         (
-            "int puts(const char *s);\nextern char t[4];\nchar *p = t;\nint main(void) { return puts(p); }\n",
+            "int puts(const char *s);\nextern const char t[4];\nconst char *p = t;\nint main(void) { return puts(p); }\n",
             "[undefined external a.c:4:25]\n",
         ),
     ] {
