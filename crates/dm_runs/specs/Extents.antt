@@ -1,0 +1,18 @@
+-- The extents of lists of positions, from which their spans are read off.
+use Rattle.std.specs.Prelude.{ℕ, suc, ◌+◌, Bool, true, ◌&&◌, ◌==◌, List, [], ◌∷◌, fold, Option, Some, None, if◌then◌else◌}
+use Rattle.dm_token.specs.declared.place.Span.{Span}
+use Rattle.dm_runs.specs.Spans.{empty_at}
+use Rattle.dm_runs.specs.declared.extents.Extent.{Extent}
+
+-- with one more position behind them
+abbrev pub extended : Option Extent → ℕ → Option Extent
+extended None position = Some (record { first = position; after = position + 1; is_whole = true })
+extended (Some extent) position =
+    Some (record { first = extent.first; after = position + 1; is_whole = extent.is_whole && (extent.after == position) })
+
+abbrev pub extent_of : List ℕ → Option Extent
+extent_of positions = fold extended None positions
+
+abbrev pub span_from : ℕ → Option Extent → Span
+span_from elsewhere None = empty_at elsewhere
+span_from elsewhere (Some extent) = record { first = extent.first; after = if extent.is_whole then extent.after else extent.first }

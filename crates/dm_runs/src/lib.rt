@@ -1,0 +1,16 @@
+//! The runs of macros: what their expansions (ISO/IEC 9899:2011, 6.10.3) leave among the tokens of translation phase 7.
+#![tactic(auto)]
+
+mod beginnings;
+mod classes;
+mod extents;
+mod named;
+mod parts;
+mod run;
+mod runs;
+mod stand;
+#[cfg(test)]
+mod tests;
+
+pub use run::{Occurrence, Run};
+pub use runs::Runs;
