@@ -1,3 +1,4 @@
 pub mod ItemLemmas
 pub mod LinkLemmas
 pub mod TreeLemmas
+pub mod BeginningLemmas
