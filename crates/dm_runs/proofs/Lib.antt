@@ -2,3 +2,5 @@ pub mod ItemLemmas
 pub mod LinkLemmas
 pub mod TreeLemmas
 pub mod BeginningLemmas
+pub mod GrowthLemmas
+pub mod ExtentLemmas

@@ -1,5 +1,5 @@
 -- The extents of lists of positions, from which their spans are read off.
-use Rattle.std.specs.Prelude.{ℕ, suc, ◌+◌, Bool, true, ◌&&◌, ◌==◌, List, [], ◌∷◌, fold, Option, Some, None, if◌then◌else◌}
+use Rattle.std.specs.Prelude.{ℕ, suc, ◌+◌, Bool, true, ◌&&◌, ◌==◌, List, [], ◌∷◌, fold, slice_set, slice_index_or, Option, Some, None, if◌then◌else◌}
 use Rattle.dm_token.specs.declared.place.Span.{Span}
 use Rattle.dm_runs.specs.Spans.{empty_at}
 use Rattle.dm_runs.specs.declared.extents.Extent.{Extent}
@@ -16,3 +16,6 @@ extent_of positions = fold extended None positions
 abbrev pub span_from : ℕ → Option Extent → Span
 span_from elsewhere None = empty_at elsewhere
 span_from elsewhere (Some extent) = record { first = extent.first; after = if extent.is_whole then extent.after else extent.first }
+
+abbrev pub extended_at : ℕ → List (Option Extent) → ℕ → List (Option Extent)
+extended_at position extents number = slice_set extents number (extended (slice_index_or extents number None) position)

@@ -1,13 +1,13 @@
 //! The tokens of phase 7 below each beginning of trails.
 
-ghost use Rattle.std.specs.Prelude.{◌≡◌, ◌<◌, ◌+◌, ◌^◌, map, fold, length, IfOk, OnOk};
+ghost use Rattle.std.specs.Prelude.{◌≡◌, ◌<◌, ◌+◌, ◌^◌, map, fold, length, slice_index, EachIndex, IfOk, OnOk};
 ghost use Rattle.std.specs.List.{flat_map};
 ghost use Rattle.dm_token.specs.declared.token.CToken.{CToken as Seen};
 ghost use Rattle.dm_token.specs.declared.place.Span.{Span as SeenSpan};
 ghost use Rattle.dm_runs.specs.Beginnings.{beginnings_of, once_more};
 ghost use Rattle.dm_runs.specs.Spans.{tokens_under};
 ghost use Rattle.dm_runs.specs.Trees.{AreLinked, AreNumbers};
-ghost use Rattle.dm_runs.specs.Extents.{extent_of, extended, span_from};
+ghost use Rattle.dm_runs.specs.Extents.{extent_of, extended, extended_at, span_from};
 
 use crate::beginnings::Beginnings;
 use dm_token::{CToken, Memory, Span};
@@ -61,7 +61,11 @@ pub(crate) fn span(elsewhere: u32, extent: Option<Extent>) -> Span
 }
 
 // Extends those with these numbers.
-fn extend_all(extents: &mut [Option<Extent>], numbers: &[usize], position: u32) {
+fn extend_all(extents: &mut [Option<Extent>], numbers: &[usize], position: u32)
+    requires small { position + 1 < 2 ^ 32 }
+    requires within { EachIndex numbers.now (λ k. slice_index numbers.now k < length extents.old) }
+    ensures { extents.new ≡ fold (extended_at position) extents.old numbers.now }
+{
     for number in numbers {
         extents[*number] = extend(extents[*number], position);
     }
