@@ -1,11 +1,12 @@
 -- One more token extends the extents of the beginnings of its trail.
 use Rattle.std.proofs.Common.{◌≡◌, ◌≢◌, ℕ, zero, suc, ◌+◌, ◌-◌, ◌<◌, ◌≤◌, Bool, true, false, cond, ◌&&◌, ◌⊎◌, inl, inr, List, [], ◌∷◌, ◌++◌, length, map, take, Option, Some, None, slice_get, get_or, set, replicate, nat_lt, refl, sym, ap, ◌∙◌, subst, arith, fold, append_assoc, add-one, add-zero, zero-add}
-use Rattle.std.specs.List.{list_any}
+use Rattle.std.specs.List.{list_any, flat_map}
 use Rattle.std.specs.Option.{option_map}
 use Rattle.std.proofs.lemmas.Bool.{lt-ltb, le-ltb, ltb-true, ltb-false, false≢true}
 use Rattle.std.proofs.lemmas.Option.{slice_get_within, slice_get-map, get_or_from_slice_get}
 use Rattle.std.proofs.lemmas.List.{append-nil, length-take, length-map, length-append, take_more, take_all, map-append}
-use Rattle.std.proofs.lemmas.List.Sums.{fold_push}
+use Rattle.std.proofs.lemmas.List.Sums.{fold_push, fold-append}
+use Rattle.std.proofs.lemmas.Grind.{flat_map-append}
 use Rattle.std.proofs.lemmas.Simd.{splat_is_map}
 use Rattle.std.proofs.Math.Seq.{take-length}
 use Rattle.dm_token.specs.declared.expansion.Mark.{Mark}
@@ -16,8 +17,9 @@ use Rattle.dm_runs.specs.Beginnings.{begins, beginnings_of, once_more}
 use Rattle.dm_runs.specs.Extents.{extended, extended_at, extent_of}
 use Rattle.dm_runs.specs.Spans.{positions, tokens_under}
 use Rattle.dm_runs.specs.Trees.{AreNumbers}
-use Rattle.dm_runs.proofs.ItemLemmas.{some-same}
-use Rattle.dm_runs.proofs.GrowthLemmas.{Grown, Covers, begins-length, begins-take, take-begins}
+use Rattle.dm_runs.proofs.ItemLemmas.{some-same, any-at}
+use Rattle.dm_runs.proofs.BeginningLemmas.{map-push}
+use Rattle.dm_runs.proofs.GrowthLemmas.{Grown, grown, Covers, covers-step, begins-length, begins-take, take-begins}
 
 -- f and g agree on the items of a list
 pub map-same : {A B : Type 0} (f g : A → B) (xs : List A) → ((k : ℕ) (x : A) → slice_get xs k ≡ Some x → f x ≡ g x) → map f xs ≡ map g xs
@@ -81,7 +83,8 @@ module _ (found : List (List Mark)) (apart : (i j : ℕ) (trail : List Mark) →
       ∙ ap (λ b. cond b (extended (f (take i t)) n) (f (take i t))) yes
 
   extended-up-to : (i : ℕ) → i ≤ length numbers → fold (extended_at n) (map f found) (take i numbers) ≡ map (so_far f t n i) found
-  extended-up-to zero le = map-same f (so_far f t n 0) found (λ k p is. ap (λ b. cond b (extended (f p) n) (f p)) (sym (and-false (begins p t))))
+  extended-up-to zero le = map-same f (so_far f t n 0) found (λ k p is.
+      sym (ap (λ b. cond (begins p t && b) (extended (f p) n) (f p)) (le-ltb (length p) 0 (omega arith)) ∙ ap (λ b. cond b (extended (f p) n) (f p)) (and-false (begins p t))))
   extended-up-to (suc i) le =
       let k = get_or numbers i 0 in
       let inside : i < length numbers = omega (arith, le) in
@@ -168,3 +171,31 @@ filled found ps whole f g v grown old new =
     ∙ ap (λ xs. xs ++ map g news) (map-same f g found old)
     ∙ sym (map-append g found news)
     ∙ ap (map g) (sym grown.is)
+
+-- what is put behind found beginnings
+pub flat-fold : {A : Type 0} (f : A → List (List Mark)) (before : List (List Mark)) (xs : List A) (x : A)
+    → fold once_more (fold once_more before (flat_map f xs)) (f x) ≡ fold once_more before (flat_map f (xs ++ x ∷ []))
+flat-fold f before xs x =
+    sym (ap (fold once_more before) (flat_map-append f xs (x ∷ []) ∙ ap (λ ys. flat_map f xs ++ ys) (append-nil (f x))) ∙ fold-append once_more before (flat_map f xs) (f x))
+
+pub root-is-there : (found : List (List Mark)) → slice_get found 0 ≡ Some [] → list_any (equal []) found ≡ true
+root-is-there found root = any-at (equal []) found 0 [] root refl
+
+pub extents-step : (found whole : List (List Mark)) (tokens : List CToken) (token : CToken) (numbers : List ℕ)
+    → ((i j : ℕ) (trail : List Mark) → slice_get whole i ≡ Some trail → slice_get whole j ≡ Some trail → i ≡ j)
+    → whole ≡ fold once_more found (beginnings_of token.trail) → Covers found (trails_of tokens) → AreNumbers whole token.trail numbers
+    → fold (extended_at (length tokens)) (take (length whole) (map (extent_in tokens) found) ++ replicate (length whole - length (map (extent_in tokens) found)) None) numbers
+        ≡ map (extent_in (tokens ++ token ∷ [])) whole
+extents-step found whole tokens token numbers apart is covers are =
+    ap (λ es. fold (extended_at (length tokens)) es numbers)
+      (filled found (beginnings_of token.trail) whole (extent_in tokens) (extent_in tokens) None (subst (Grown found (beginnings_of token.trail)) (sym is) (grown found (beginnings_of token.trail)))
+        (λ k p at. refl) (λ p absent from. extent-absent found tokens covers p absent))
+    ∙ extended-all whole apart (extent_in tokens) token.trail (length tokens) numbers are
+    ∙ map-same _ _ whole (λ k p at. extent-push tokens token p)
+
+pub covers-more : (found whole : List (List Mark)) (tokens : List CToken) (token : CToken) → slice_get found 0 ≡ Some [] → whole ≡ fold once_more found (beginnings_of token.trail)
+    → Covers found (trails_of tokens) → Covers whole (trails_of (tokens ++ token ∷ []))
+covers-more found whole tokens token root is covers =
+    subst (λ w. Covers w (trails_of (tokens ++ token ∷ []))) (sym is)
+    (subst (Covers (fold once_more found (beginnings_of token.trail))) (sym (map-push (λ (one : CToken). one.trail) tokens token))
+    (covers-step found (trails_of tokens) token.trail (root-is-there found root) covers))
