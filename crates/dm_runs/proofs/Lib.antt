@@ -4,3 +4,5 @@ pub mod TreeLemmas
 pub mod BeginningLemmas
 pub mod GrowthLemmas
 pub mod ExtentLemmas
+pub mod PartLemmas
+pub mod NamedLemmas

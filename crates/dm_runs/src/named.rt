@@ -1,10 +1,10 @@
 //! The tokens of a replacement list that name parameters.
 
-ghost use Rattle.std.specs.Prelude.{◌≡◌, ℕ, ◌++◌, List as Sequence, length, bytes_eq, IfOk, OnOk, slice_index_or};
+ghost use Rattle.std.specs.Prelude.{◌≡◌, ◌==◌, count_by, bytes_eq, IfOk};
 ghost use Rattle.std.specs.List.{position_from};
 ghost use Rattle.dm_macro.specs.Bodies as bodies;
 ghost use Rattle.dm_macro.specs.Signs as sign;
-ghost use Rattle.dm_runs.specs.Names.{named_at, named_in, named_behind};
+ghost use Rattle.dm_runs.specs.Names.{named_in};
 
 use dm_token::{Definition, Memory, PpKind, PpToken, Text};
 use std::alloc::Global;
@@ -29,8 +29,22 @@ fn names_of(definition: &Definition) -> &[Text]
     }
 }
 
+fn is_identifier(token: &PpToken) -> bool
+    ensures { result ≡ sign.is_identifier token.now }
+{
+    matches!(token.kind, PpKind::Identifier)
+}
+
+const VARIABLE_ARGUMENTS: &[u8; 11] = b"__VA_ARGS__";
+
+fn is_variable_arguments(token: &PpToken) -> bool
+    ensures { result ≡ sign.is_word sign.variable_arguments token.now }
+{
+    is_identifier(token) && token.spelling.bytes() == VARIABLE_ARGUMENTS.as_slice()
+}
+
 // The position of a name among others.
-fn position_of(names: &[Text], name: &Text) -> Option<usize>
+fn place_of(names: &[Text], name: &Text) -> Option<usize>
     ensures { result ≡ position_from (bytes_eq name.now) 0 names.now }
 {
     for (position, other) in names.iter().enumerate() {
@@ -42,54 +56,29 @@ fn position_of(names: &[Text], name: &Text) -> Option<usize>
 }
 
 // The position of the parameter that a token names; `__VA_ARGS__` is the last one.
-#[tactic(auto, unfolding(dm_macro::specs::Bodies::parameter_of, dm_macro::specs::Bodies::parameters_of))]
-fn parameter_of(definition: &Definition, token: &PpToken) -> Option<usize>
-    ensures { result ≡ bodies.parameter_of (bodies.parameters_of definition.now) token.now }
+fn parameter_of(names: &[Text], variadic: bool, token: &PpToken) -> Option<usize>
+    ensures { result ≡ bodies.parameter_of (bodies.names_with names.now variadic) token.now }
 {
-    if !matches!(token.kind, PpKind::Identifier) {
+    if !is_identifier(token) {
         return None;
     }
-    let names = names_of(definition);
-    if let Some(position) = position_of(names, &token.spelling) {
+    if let Some(position) = place_of(names, &token.spelling) {
         return Some(position);
     }
-    if definition.variadic && token.spelling.bytes() == b"__VA_ARGS__".as_slice() {
+    if variadic && is_variable_arguments(token) {
         return Some(names.len());
     }
     None
 }
 
 // How often these name a parameter.
-fn count_of(named: &[Named], parameter: u32) -> u32 {
-    for one in named.iter().rev() {
-        if one.parameter == parameter {
-            return one.occurrence + 1;
-        }
-    }
-    0
-}
-
-/// The tokens of a replacement list that name parameters.
-pub(crate) fn named_in(alloc: Global, definition: &Definition) -> Result<Vec<Named>, Memory>
-    ensures { IfOk result (λ named. named.items ≡ named_in definition.now) }
+fn count_of(named: &[Named], parameter: u32) -> usize
+    ensures { result ≡ count_by (λ one. one.parameter == parameter) named.now }
 {
-    let body = definition.body.items();
-    if body.len() > u32::MAX as usize {
-        return Err(Memory);
-    }
-    let mut named = Vec::new(alloc);
-    for (at, token) in body.iter().enumerate() {
-        if let Some(parameter) = parameter_of(definition, token) {
-            let parameter = small(parameter)?;
-            let occurrence = count_of(&named, parameter);
-            named.push(Named {
-                at,
-                parameter,
-                occurrence,
-            })?;
-        }
-    }
-    Ok(named)
+    named
+        .iter()
+        .filter(|one| one.parameter == parameter)
+        .count()
 }
 
 // A number of 32 bits. A greater one counts as want of memory.
@@ -100,4 +89,25 @@ fn small(number: usize) -> Result<u32, Memory>
         return Err(Memory);
     }
     Ok(number as u32)
+}
+
+/// The tokens of a replacement list that name parameters.
+#[tactic(auto, unfolding(dm_macro::specs::Bodies::parameters_of))]
+pub(crate) fn named_in(alloc: Global, definition: &Definition) -> Result<Vec<Named>, Memory>
+    ensures { IfOk result (λ named. named.items ≡ named_in definition.now) }
+{
+    let names = names_of(definition);
+    let mut named = Vec::new(alloc);
+    for (at, token) in definition.body.items().iter().enumerate() {
+        if let Some(parameter) = parameter_of(names, definition.variadic, token) {
+            let parameter = small(parameter)?;
+            let occurrence = small(count_of(&named, parameter))?;
+            named.push(Named {
+                at,
+                parameter,
+                occurrence,
+            })?;
+        }
+    }
+    Ok(named)
 }

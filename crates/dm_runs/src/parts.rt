@@ -1,6 +1,6 @@
 //! The tokens of phase 7 that preprocessing tokens are parts of.
 
-ghost use Rattle.std.specs.Prelude.{◌≡◌, ◌<◌, ◌+◌, ◌^◌, [], ◌∷◌, map, length, IfOk, OnOk};
+ghost use Rattle.std.specs.Prelude.{◌≡◌, ◌<◌, ◌+◌, ◌^◌, ◌&&◌, cond, [], ◌∷◌, map, length, IfOk, OnOk};
 ghost use Rattle.dm_token.specs.declared.token.Token.{Token as Seen};
 ghost use Rattle.dm_runs.specs.Beginnings.{met};
 ghost use Rattle.dm_runs.specs.Runs.{first_part};
@@ -15,6 +15,18 @@ fn is_literal(kind: PpKind) -> bool
     ensures { result ≡ stands_for_literal kind }
 {
     matches!(kind, PpKind::Literal)
+}
+
+// How many begin with one more token.
+fn with_one_more(begun: u32, is_behind_literal: bool, is_literal: bool) -> u32
+    requires { begun + 1 < 2 ^ 32 }
+    ensures { result ≡ begun + cond (is_behind_literal && is_literal) 0 1 }
+{
+    if is_behind_literal && is_literal {
+        begun
+    } else {
+        begun + 1
+    }
 }
 
 /// For each beginning of the trails of some tokens the token of phase 7 that its first token is part of.
@@ -32,9 +44,7 @@ pub(crate) fn first_parts(alloc: Global, beginnings: &mut Beginnings, tokens: &[
     let mut is_behind_literal = false;
     for token in tokens {
         let is_literal = is_literal(token.pp.kind);
-        if !(is_behind_literal && is_literal) {
-            begun += 1;
-        }
+        begun = with_one_more(begun, is_behind_literal, is_literal);
         is_behind_literal = is_literal;
         beginnings.walk(alloc, &token.trail)?;
         parts.resize(beginnings.trails.len(), begun - 1)?;
