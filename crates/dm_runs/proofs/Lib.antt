@@ -6,3 +6,5 @@ pub mod GrowthLemmas
 pub mod ExtentLemmas
 pub mod PartLemmas
 pub mod NamedLemmas
+pub mod SpanLemmas
+pub mod StandLemmas

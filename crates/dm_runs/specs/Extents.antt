@@ -1,6 +1,9 @@
 -- The extents of lists of positions, from which their spans are read off.
-use Rattle.std.specs.Prelude.{ℕ, suc, ◌+◌, Bool, true, ◌&&◌, ◌==◌, List, [], ◌∷◌, fold, slice_set, slice_index_or, Option, Some, None, if◌then◌else◌}
+use Rattle.std.specs.Prelude.{◌≡◌, ◌≤◌, ◌<◌, ℕ, ◌+◌, Bool, true, ◌&&◌, ◌==◌, List, [], ◌∷◌, fold, slice_set, slice_get, slice_index_or, Option, Some, None, if◌then◌else◌}
 use Rattle.dm_token.specs.declared.place.Span.{Span}
+use Rattle.dm_token.specs.declared.expansion.Mark.{Mark}
+use Rattle.dm_token.specs.declared.token.CToken.{CToken}
+use Rattle.dm_runs.specs.Beginnings.{begins}
 use Rattle.dm_runs.specs.Spans.{empty_at}
 use Rattle.dm_runs.specs.declared.extents.Extent.{Extent}
 
@@ -19,3 +22,8 @@ span_from elsewhere (Some extent) = record { first = extent.first; after = if ex
 
 abbrev pub extended_at : ℕ → List (Option Extent) → ℕ → List (Option Extent)
 extended_at position extents number = slice_set extents number (extended (slice_index_or extents number None) position)
+
+-- the tokens whose trails begin so are those of the span
+pub record IsSpanUnder (prefix : List Mark) (tokens : List CToken) (span : Span) : Type 0 where
+  pub only : (k : ℕ) (token : CToken) → slice_get tokens k ≡ Some token → begins prefix token.trail ≡ true → (span.first ≤ k) × (k < span.after)
+  pub all : (k : ℕ) (token : CToken) → slice_get tokens k ≡ Some token → span.first ≤ k → k < span.after → begins prefix token.trail ≡ true

@@ -1,5 +1,4 @@
 pub mod Beginnings
-pub mod Classes
 pub mod Extents
 pub mod Names
 pub mod Runs

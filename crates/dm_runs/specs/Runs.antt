@@ -1,8 +1,7 @@
 -- The runs of a macro: what its expansions leave among the tokens of phase 7, found by the trails of tokens (6.10.3).
 --     runs_of pp tokens file hash      those of the definition at a byte of a file, and in each the runs of its parameters' occurrences
-use Rattle.std.specs.Prelude.{ℕ, suc, ◌+◌, Bool, true, false, ◌&&◌, ◌==◌, nat_lt, List, [], ◌∷◌, ◌++◌, length, drop, map, filter, find, Option, Some, None, option_and_then, option_map, unwrap_or, slice_get, if◌then◌else◌}
-use Rattle.std.specs.List.{position_from}
-use Rattle.std.specs.Option.{option_map_or}
+use Rattle.std.specs.Prelude.{ℕ, suc, ◌+◌, Bool, true, false, ◌&&◌, ◌==◌, nat_lt, List, [], ◌∷◌, ◌++◌, length, map, find, Option, Some, None, option_and_then, option_map, unwrap_or, slice_get, if◌then◌else◌}
+use Rattle.std.specs.List.{position_from, flat_map}
 use Rattle.dm_token.specs.declared.place.Place.{Place}
 use Rattle.dm_token.specs.declared.place.Span.{Span}
 use Rattle.dm_token.specs.declared.expansion.Mark.{Mark}
@@ -31,17 +30,14 @@ is_file Header = false
 is_file Manifest = false
 
 -- the definition at this byte of a file
-abbrev pub is_at : ℕ → ℕ → Read → Bool
-is_at file hash read = is_file read.definition.origin && (read.definition.place.file == file) && (read.definition.hash == hash)
+abbrev pub is_at : ℕ → ℕ → Definition → Bool
+is_at file hash definition = is_file definition.origin && ((definition.place.file == file) && (definition.hash == hash))
 
--- A unit may read one definition several times.
-abbrev pub is_expansion : List Read → ℕ → ℕ → Mark → Bool
-is_expansion read file hash (expansion number instance) = option_map_or (is_at file hash) (slice_get read number) false
-is_expansion read file hash (argument parameter occurrence) = false
-
--- the innermost mark is an expansion of it
-abbrev pub is_prefix_of_run : List Read → ℕ → ℕ → List Mark → Bool
-is_prefix_of_run read file hash trail = option_map_or (is_expansion read file hash) (last_mark trail) false
+-- The definition whose expansion a mark is. A unit may read one directive several times, and each time is a definition.
+abbrev pub expanded : List Read → Option Mark → Option Definition
+expanded read None = None
+expanded read (Some (expansion number instance)) = option_map (λ (one : Read). one.definition) (slice_get read number)
+expanded read (Some (argument parameter occurrence)) = None
 
 abbrev pub instance_of : Option Mark → ℕ
 instance_of None = 0
@@ -65,12 +61,12 @@ part_named named parameter occurrence =
 abbrev pub name_of : List Expansion → ℕ → Option Place
 name_of expansions instance = option_map (λ (one : Expansion). one.name) (find (λ (one : Expansion). one.instance == instance) expansions)
 
--- the part of the replacement list that a token comes of, by the rest of its trail: itself, an argument, or another expansion's name
-abbrev pub part_by : List Expansion → Definition → Place → List Mark → Option ℕ
-part_by expansions definition place [] = part_at definition place
-part_by expansions definition place (argument parameter occurrence ∷ marks) = part_named (named_in definition) parameter occurrence
-part_by expansions definition place (expansion number instance ∷ marks) =
-    option_and_then (part_at definition) (name_of expansions instance)
+-- the part of the replacement list that a token comes of, by the mark behind those of the run: itself, an argument, or another
+-- expansion's name
+abbrev pub part_by : List Expansion → Definition → Place → Option Mark → Option ℕ
+part_by expansions definition place None = part_at definition place
+part_by expansions definition place (Some (argument parameter occurrence)) = part_named (named_in definition) parameter occurrence
+part_by expansions definition place (Some (expansion number instance)) = option_and_then (part_at definition) (name_of expansions instance)
 
 abbrev pub is_behind : ℕ → Option ℕ → Bool
 is_behind at None = false
@@ -79,7 +75,7 @@ is_behind at (Some part) = nat_lt at part
 -- a token of the run that comes of a part behind this one
 abbrev pub is_later : List Expansion → Definition → List Mark → ℕ → CToken → Bool
 is_later expansions definition prefix at token =
-    begins prefix token.trail && is_behind at (part_by expansions definition token.place (drop (length prefix) token.trail))
+    begins prefix token.trail && is_behind at (part_by expansions definition token.place (slice_get token.trail (length prefix)))
 
 -- before the first such token of the run, or behind the run
 abbrev pub would_stand : List Expansion → List CToken → Definition → List Mark → ℕ → ℕ → ℕ
@@ -117,13 +113,14 @@ abbrev pub run_of : UnitTokens → List CToken → Definition → List Mark → 
 run_of pp tokens definition prefix =
     run_with pp.expansions tokens definition prefix (span_of (first_part pp.tokens prefix) (tokens_under prefix tokens))
 
--- those of the definition as it is read first, for some beginnings of trails
-abbrev pub runs_by : UnitTokens → List CToken → ℕ → ℕ → List (List Mark) → Option Read → List Run
-runs_by pp tokens file hash trails None = []
-runs_by pp tokens file hash trails (Some read) = map (run_of pp tokens read.definition) (filter (is_prefix_of_run pp.read file hash) trails)
+-- the run with this prefix, if its innermost mark is an expansion of the definition
+abbrev pub run_if : UnitTokens → List CToken → ℕ → ℕ → List Mark → Option Definition → List Run
+run_if pp tokens file hash prefix None = []
+run_if pp tokens file hash prefix (Some definition) = if is_at file hash definition then run_of pp tokens definition prefix ∷ [] else []
 
+-- those of the definition for some beginnings of trails
 abbrev pub runs_among : UnitTokens → List CToken → ℕ → ℕ → List (List Mark) → List Run
-runs_among pp tokens file hash trails = runs_by pp tokens file hash trails (find (is_at file hash) pp.read)
+runs_among pp tokens file hash trails = flat_map (λ trail. run_if pp tokens file hash trail (expanded pp.read (last_mark trail))) trails
 
 abbrev pub runs_of : UnitTokens → List CToken → ℕ → ℕ → List Run
 runs_of pp tokens file hash = runs_among pp tokens file hash (met (map (λ (token : Token). token.trail) pp.tokens))

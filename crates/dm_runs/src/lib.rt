@@ -2,7 +2,6 @@
 #![tactic(auto)]
 
 mod beginnings;
-mod classes;
 mod extents;
 mod named;
 mod parts;
