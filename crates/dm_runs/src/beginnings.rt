@@ -112,10 +112,4 @@ impl Beginnings {
         }
         Ok(numbers)
     }
-
-    /// The number of the trail that is one mark longer than the one with a number, if it was met.
-    pub(crate) fn below(&self, above: usize, mark: Mark) -> Option<usize> {
-        let index = self.links.get_index_of(&link_to(above, mark))?;
-        Some(index + 1)
-    }
 }

@@ -6,10 +6,6 @@ mod extents;
 mod named;
 mod parts;
 mod run;
-mod runs;
 mod stand;
-#[cfg(test)]
-mod tests;
 
 pub use run::{Occurrence, Run};
-pub use runs::Runs;
