@@ -62,7 +62,6 @@ nat_lt-other m i apart =
 
 module _ (found : List (List Mark)) (apart : (i j : ℕ) (trail : List Mark) → slice_get found i ≡ Some trail → slice_get found j ≡ Some trail → i ≡ j)
     (f : List Mark → Option Extent) (t : List Mark) (n : ℕ) (numbers : List ℕ) (are : AreNumbers found t numbers) where
-
   same-other : (i : ℕ) (k : ℕ) → slice_get found k ≡ Some (take i t) → (j : ℕ) (p : List Mark) → slice_get found j ≡ Some p → (j ≡ k → ⊥) → so_far f t n i p ≡ so_far f t n (i + 1) p
   same-other i k known j p is other =
       elim (begins p t) as (λ b. begins p t ≡ b → cond (b && nat_lt (length p) i) (extended (f p) n) (f p) ≡ cond (b && nat_lt (length p) (i + 1)) (extended (f p) n) (f p)) [
@@ -91,7 +90,7 @@ module _ (found : List (List Mark)) (apart : (i j : ℕ) (trail : List Mark) →
       let low : i ≤ length t = omega (arith, inside, are.counted) in
       let known = are.known i inside in
       let old : get_or (map (so_far f t n i) found) k None ≡ f (take i t) =
-          get_or_from_slice_get (map (so_far f t n i) found) k (f (take i t)) None (slice_get-map (so_far f t n i) found k ∙ ap (option_map (so_far f t n i)) known ∙ ap Some (here-before i low)) in
+      get_or_from_slice_get (map (so_far f t n i) found) k (f (take i t)) None (slice_get-map (so_far f t n i) found k ∙ ap (option_map (so_far f t n i)) known ∙ ap Some (here-before i low)) in
       ap (fold (extended_at n) (map f found)) (ap (λ m. take m numbers) (sym (add-one i)) ∙ take_more numbers i 0 inside)
       ∙ fold_push (extended_at n) (map f found) (take i numbers) k
       ∙ ap (λ es. extended_at n es k) (extended-up-to i (omega (arith, le)))
@@ -103,10 +102,10 @@ module _ (found : List (List Mark)) (apart : (i j : ℕ) (trail : List Mark) →
   extended-all =
       ap (fold (extended_at n) (map f found)) (sym (take-length numbers)) ∙ extended-up-to (length numbers) (omega arith)
       ∙ map-same (so_far f t n (length numbers)) (λ p. cond (begins p t) (extended (f p) n) (f p)) found
-        (λ k p is. elim (begins p t) as (λ b. begins p t ≡ b → cond (b && nat_lt (length p) (length numbers)) (extended (f p) n) (f p) ≡ cond b (extended (f p) n) (f p)) [
-          | true ↦ λ e. ap (λ b. cond b (extended (f p) n) (f p)) (lt-ltb (length p) (length numbers) (omega (arith, begins-length p t e, are.counted)))
-          | false ↦ λ e. refl
-        ] refl)
+      (λ k p is. elim (begins p t) as (λ b. begins p t ≡ b → cond (b && nat_lt (length p) (length numbers)) (extended (f p) n) (f p) ≡ cond b (extended (f p) n) (f p)) [
+        | true ↦ λ e. ap (λ b. cond b (extended (f p) n) (f p)) (lt-ltb (length p) (length numbers) (omega (arith, begins-length p t e, are.counted)))
+        | false ↦ λ e. refl
+      ] refl)
 
 -- ---- positions
 
@@ -118,9 +117,9 @@ positions-push : {A : Type 0} (test : A → Bool) (n : ℕ) (xs : List A) (x : A
 positions-push test n [] x = ap (λ m. cond (test x) (m ∷ []) []) (sym (add-zero n))
 positions-push test n (y ∷ xs) x =
     let more : positions test (suc n) (xs ++ x ∷ []) ≡ cond (test x) (positions test (suc n) xs ++ (n + suc (length xs)) ∷ []) (positions test (suc n) xs) =
-        positions-push test (suc n) xs x ∙ ap (λ m. cond (test x) (positions test (suc n) xs ++ m ∷ []) (positions test (suc n) xs)) (omega arith) in
+    positions-push test (suc n) xs x ∙ ap (λ m. cond (test x) (positions test (suc n) xs ++ m ∷ []) (positions test (suc n) xs)) (omega arith) in
     elim (test y) as (λ b. cond b (n ∷ positions test (suc n) (xs ++ x ∷ [])) (positions test (suc n) (xs ++ x ∷ []))
-        ≡ cond (test x) (cond b (n ∷ positions test (suc n) xs) (positions test (suc n) xs) ++ (n + suc (length xs)) ∷ []) (cond b (n ∷ positions test (suc n) xs) (positions test (suc n) xs))) [
+    ≡ cond (test x) (cond b (n ∷ positions test (suc n) xs) (positions test (suc n) xs) ++ (n + suc (length xs)) ∷ []) (cond b (n ∷ positions test (suc n) xs) (positions test (suc n) xs))) [
       | true ↦ ap (λ ps. n ∷ ps) more ∙ cons-cond (test x) n (positions test (suc n) xs ++ (n + suc (length xs)) ∷ []) (positions test (suc n) xs)
       | false ↦ more
     ]
@@ -150,10 +149,10 @@ trails_of tokens = map (λ (token : CToken). token.trail) tokens
 pub extent-absent : (found : List (List Mark)) (tokens : List CToken) → Covers found (trails_of tokens) → (p : List Mark) → list_any (equal p) found ≡ false → extent_in tokens p ≡ None
 extent-absent found tokens covers p absent =
     ap extent_of (positions-none (λ (one : CToken). begins p one.trail) 0 tokens (λ k token is.
-      elim (begins p token.trail) as (λ b. begins p token.trail ≡ b → b ≡ false) [
-        | true ↦ λ e. absurd (false≢true (sym absent ∙ covers p k token.trail (slice_get-map (λ (one : CToken). one.trail) tokens k ∙ ap (option_map (λ (one : CToken). one.trail)) is) e))
-        | false ↦ λ e. refl
-      ] refl))
+    elim (begins p token.trail) as (λ b. begins p token.trail ≡ b → b ≡ false) [
+      | true ↦ λ e. absurd (false≢true (sym absent ∙ covers p k token.trail (slice_get-map (λ (one : CToken). one.trail) tokens k ∙ ap (option_map (λ (one : CToken). one.trail)) is) e))
+      | false ↦ λ e. refl
+    ] refl))
 
 -- ---- a longer list
 
@@ -185,11 +184,11 @@ pub extents-step : (found whole : List (List Mark)) (tokens : List CToken) (toke
     → ((i j : ℕ) (trail : List Mark) → slice_get whole i ≡ Some trail → slice_get whole j ≡ Some trail → i ≡ j)
     → whole ≡ fold once_more found (beginnings_of token.trail) → Covers found (trails_of tokens) → AreNumbers whole token.trail numbers
     → fold (extended_at (length tokens)) (take (length whole) (map (extent_in tokens) found) ++ replicate (length whole - length (map (extent_in tokens) found)) None) numbers
-        ≡ map (extent_in (tokens ++ token ∷ [])) whole
+    ≡ map (extent_in (tokens ++ token ∷ [])) whole
 extents-step found whole tokens token numbers apart is covers are =
     ap (λ es. fold (extended_at (length tokens)) es numbers)
-      (filled found (beginnings_of token.trail) whole (extent_in tokens) (extent_in tokens) None (subst (Grown found (beginnings_of token.trail)) (sym is) (grown found (beginnings_of token.trail)))
-        (λ k p at. refl) (λ p absent from. extent-absent found tokens covers p absent))
+    (filled found (beginnings_of token.trail) whole (extent_in tokens) (extent_in tokens) None (subst (Grown found (beginnings_of token.trail)) (sym is) (grown found (beginnings_of token.trail)))
+    (λ k p at. refl) (λ p absent from. extent-absent found tokens covers p absent))
     ∙ extended-all whole apart (extent_in tokens) token.trail (length tokens) numbers are
     ∙ map-same _ _ whole (λ k p at. extent-push tokens token p)
 

@@ -118,7 +118,7 @@ covers-step found seen t root covers p k s is h =
     elim (slice_get-push seen t k s is) [
       | inl old ↦ kept found (beginnings_of t) p (covers p k s old h)
       | inr new ↦ elim (in-beginnings p t (ap (begins p) (sym new.1) ∙ h)) [
-          | inl none ↦ kept found (beginnings_of t) p (ap (λ r. list_any (equal r) found) none ∙ root)
-          | inr one ↦ added found (beginnings_of t) p one
-        ]
+        | inl none ↦ kept found (beginnings_of t) p (ap (λ r. list_any (equal r) found) none ∙ root)
+        | inr one ↦ added found (beginnings_of t) p one
+      ]
     ]

@@ -112,20 +112,20 @@ at-end tokens token p none is =
 absent-position : (found : List (List Mark)) (tokens : List Token) (p : List Mark) → Covers found (trails_in tokens) → list_any (equal p) found ≡ false → position_from (test_for p) 0 tokens ≡ None
 absent-position found tokens p covers absent =
     position-none (test_for p) 0 tokens (λ k token is.
-      elim (begins p token.trail) as (λ b. begins p token.trail ≡ b → b ≡ false) [
-        | true ↦ λ e. absurd (false≢true (sym absent ∙ covers p k token.trail (slice_get-map (λ (one : Token). one.trail) tokens k ∙ ap (option_map (λ (one : Token). one.trail)) is) e))
-        | false ↦ λ e. refl
-      ] refl)
+    elim (begins p token.trail) as (λ b. begins p token.trail ≡ b → b ≡ false) [
+      | true ↦ λ e. absurd (false≢true (sym absent ∙ covers p k token.trail (slice_get-map (λ (one : Token). one.trail) tokens k ∙ ap (option_map (λ (one : Token). one.trail)) is) e))
+      | false ↦ λ e. refl
+    ] refl)
 
 pub parts-step : (found whole : List (List Mark)) (tokens : List Token) (token : Token) → whole ≡ fold once_more found (beginnings_of token.trail) → Covers found (trails_in tokens) → Stand found tokens
     → take (length whole) (map (first_part tokens) found) ++ replicate (length whole - length (map (first_part tokens) found)) (begun_among false (tokens ++ token ∷ []) - 1) ≡ map (first_part (tokens ++ token ∷ [])) whole
 parts-step found whole tokens token is covers stand =
     filled found (beginnings_of token.trail) whole (first_part tokens) (first_part (tokens ++ token ∷ [])) (begun_among false (tokens ++ token ∷ []) - 1)
-      (subst (Grown found (beginnings_of token.trail)) (sym is) (grown found (beginnings_of token.trail)))
-      (λ k p at. first-kept tokens token p (stand k p at))
-      (λ p absent from.
-        ap (λ o. part_among (tokens ++ token ∷ []) (unwrap_or o 0)) (at-end tokens token p (absent-position found tokens p covers absent) (beginning-begins p token.trail from))
-        ∙ part-last tokens token)
+    (subst (Grown found (beginnings_of token.trail)) (sym is) (grown found (beginnings_of token.trail)))
+    (λ k p at. first-kept tokens token p (stand k p at))
+    (λ p absent from.
+    ap (λ o. part_among (tokens ++ token ∷ []) (unwrap_or o 0)) (at-end tokens token p (absent-position found tokens p covers absent) (beginning-begins p token.trail from))
+    ∙ part-last tokens token)
 
 slice_get-split : {A : Type 0} (xs ys : List A) (k : ℕ) (x : A) → slice_get (xs ++ ys) k ≡ Some x → (slice_get xs k ≡ Some x) ⊎ ((j : ℕ) × (slice_get ys j ≡ Some x))
 slice_get-split [] ys k x e = inr (k, e)
@@ -138,9 +138,9 @@ stand-step found whole tokens token is covers stand k p at =
     let g = grown found (beginnings_of token.trail) in
     elim (slice_get-split found g.news k p (ap (λ w. slice_get w k) (sym (is ∙ g.is)) ∙ at)) [
       | inl old ↦ elim (stand k p old) [
-          | inl none ↦ inl none
-          | inr n ↦ inr (n.0, position-front (test_for p) 0 n.0 tokens (token ∷ []) n.1)
-        ]
+        | inl none ↦ inl none
+        | inr n ↦ inr (n.0, position-front (test_for p) 0 n.0 tokens (token ∷ []) n.1)
+      ]
       | inr new ↦ inr (length tokens, at-end tokens token p (absent-position found tokens p covers (g.fresh new.0 p new.1)) (beginning-begins p token.trail (g.from new.0 p new.1)))
     ]
 

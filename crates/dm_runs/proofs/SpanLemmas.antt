@@ -23,9 +23,9 @@ eq-flip a b =
     elim (a == b) as (λ c. (a == b) ≡ c → c ≡ (b == a)) [
       | true ↦ λ e. sym (eq-eqb b a (sym (eqb-true a b e)))
       | false ↦ λ e. elim (b == a) as (λ d. (b == a) ≡ d → false ≡ d) [
-          | true ↦ λ f. sym e ∙ eq-eqb a b (sym (eqb-true b a f))
-          | false ↦ λ f. refl
-        ] refl
+        | true ↦ λ f. sym e ∙ eq-eqb a b (sym (eqb-true b a f))
+        | false ↦ λ f. refl
+      ] refl
     ] refl
 
 run-on : (first n : ℕ) (whole : Bool) (ns : List ℕ)
@@ -34,7 +34,7 @@ run-on first n whole [] = ap (λ b. Some (record { first = first; after = n + 1;
 run-on first n whole (m ∷ ms) =
     run-on first m (whole && (n + 1 == m)) ms
     ∙ ap (λ b. Some (record { first = first; after = after_last (m + 1) ms; is_whole = b }))
-      (and_assoc whole (n + 1 == m) (follow_on m ms) ∙ ap (λ b. whole && (b && follow_on m ms)) (eq-flip (n + 1) m ∙ ap (λ k. m == k) (add-one n)))
+    (and_assoc whole (n + 1 == m) (follow_on m ms) ∙ ap (λ b. whole && (b && follow_on m ms)) (eq-flip (n + 1) m ∙ ap (λ k. m == k) (add-one n)))
 
 in-a-row : (n : ℕ) (ns : List ℕ) → follow_on n ns ≡ true → after_last (n + 1) ns ≡ suc n + length ns
 in-a-row n [] e = omega arith
@@ -156,7 +156,7 @@ filled-row : (elsewhere : ℕ) (prefix : List Mark) (tokens : List CToken) (m : 
     → ((span_of elsewhere (m ∷ ms)).first ≡ (span_of elsewhere (m ∷ ms)).after → ⊥) → Filled prefix tokens (span_of elsewhere (m ∷ ms))
 filled-row elsewhere prefix tokens m ms e =
     elim (follow_on m ms) as (λ b. follow_on m ms ≡ b → ((cond b (span_at m (suc m + length ms)) (span_at m m)).first ≡ (cond b (span_at m (suc m + length ms)) (span_at m m)).after → ⊥)
-        → Filled prefix tokens (cond b (span_at m (suc m + length ms)) (span_at m m))) [
+    → Filled prefix tokens (cond b (span_at m (suc m + length ms)) (span_at m m))) [
       | true ↦ λ follow some.
           let row = row-of (under prefix) 0 tokens m ms e follow in
           record {

@@ -13,9 +13,6 @@ use Rattle.dm_runs.proofs.ItemLemmas.{some-same, slice_get-left, slice_get-last,
 use Rattle.dm_runs.proofs.LinkLemmas.{same, same-itself, same-link}
 
 module _ (links : List Link) (trails : List (List Mark)) (linked : AreLinked links trails) (above : ℕ) (outer : List Mark) (mark : Mark) (known : slice_get trails above ≡ Some outer) where
-
-
-
   -- of a link that is there the trail is there
   pub met-link : (k : ℕ) → slice_get links k ≡ Some (link_of above mark) → slice_get trails (k + 1) ≡ Some (outer ++ mark ∷ [])
   met-link k is =
@@ -64,18 +61,24 @@ module _ (links : List Link) (trails : List (List Mark)) (linked : AreLinked lin
     root = slice_get-left trails _ 0 [] linked.root;
     linked = λ k link is. elim (slice_get-push links (link_of above mark) k link is) [
       | inl h ↦ let it = linked.linked k link h in record { above = it.above; outer = it.outer; mark = it.mark; is = it.is; known = slice_get-left trails _ it.above it.outer it.known; longer = slice_get-left trails _ (k + 1) _ it.longer }
-      | inr h ↦ record { above = above; outer = outer; mark = mark; is = h.1; known = slice_get-left trails _ above outer known;
-          longer = ap (slice_get (trails ++ (outer ++ mark ∷ []) ∷ [])) (ap (λ n. n + 1) h.0 ∙ sym linked.counted) ∙ slice_get-last trails (outer ++ mark ∷ []) }
+      | inr h ↦ record {
+        above = above;
+        outer = outer;
+        mark = mark;
+        is = h.1;
+        known = slice_get-left trails _ above outer known;
+        longer = ap (slice_get (trails ++ (outer ++ mark ∷ []) ∷ [])) (ap (λ n. n + 1) h.0 ∙ sym linked.counted) ∙ slice_get-last trails (outer ++ mark ∷ []);
+      }
     ];
     apart = λ i j trail a b. elim (slice_get-push trails (outer ++ mark ∷ []) i trail a) [
       | inl h ↦ elim (slice_get-push trails (outer ++ mark ∷ []) j trail b) [
-          | inl g ↦ linked.apart i j trail h g
-          | inr g ↦ absurd (false≢true (sym absent ∙ any-at (equal (outer ++ mark ∷ [])) trails i trail h (same-equal _ _ (sym g.1))))
-        ]
+        | inl g ↦ linked.apart i j trail h g
+        | inr g ↦ absurd (false≢true (sym absent ∙ any-at (equal (outer ++ mark ∷ [])) trails i trail h (same-equal _ _ (sym g.1))))
+      ]
       | inr h ↦ elim (slice_get-push trails (outer ++ mark ∷ []) j trail b) [
-          | inl g ↦ absurd (false≢true (sym absent ∙ any-at (equal (outer ++ mark ∷ [])) trails j trail g (same-equal _ _ (sym h.1))))
-          | inr g ↦ h.0 ∙ sym g.0
-        ]
+        | inl g ↦ absurd (false≢true (sym absent ∙ any-at (equal (outer ++ mark ∷ [])) trails j trail g (same-equal _ _ (sym h.1))))
+        | inr g ↦ h.0 ∙ sym g.0
+      ]
     ];
   }
 

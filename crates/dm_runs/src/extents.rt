@@ -72,7 +72,11 @@ fn extend_all(extents: &mut [Option<Extent>], numbers: &[usize], position: u32)
 }
 
 /// For each beginning of trails, those of the tokens among them, the extent of the tokens whose trails begin so.
-pub(crate) fn extents(alloc: Global, beginnings: &mut Beginnings, tokens: &[CToken]) -> Result<Vec<Option<Extent>>, Memory>
+pub(crate) fn extents(
+    alloc: Global,
+    beginnings: &mut Beginnings,
+    tokens: &[CToken],
+) -> Result<Vec<Option<Extent>>, Memory>
     requires linked { AreLinked beginnings.old.links.keys beginnings.old.trails.items }
     requires counted { length tokens.now < 2 ^ 32 }
     ensures linked { OnOk result (AreLinked beginnings.new.links.keys beginnings.new.trails.items) }

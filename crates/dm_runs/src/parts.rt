@@ -30,7 +30,11 @@ fn with_one_more(begun: u32, is_behind_literal: bool, is_literal: bool) -> u32
 }
 
 /// For each beginning of the trails of some tokens the token of phase 7 that its first token is part of.
-pub(crate) fn first_parts(alloc: Global, beginnings: &mut Beginnings, tokens: &[Token]) -> Result<Vec<u32>, Memory>
+pub(crate) fn first_parts(
+    alloc: Global,
+    beginnings: &mut Beginnings,
+    tokens: &[Token],
+) -> Result<Vec<u32>, Memory>
     requires linked { AreLinked beginnings.old.links.keys beginnings.old.trails.items }
     requires start { beginnings.old.trails.items ≡ [] ∷ [] }
     requires counted { length tokens.now < 2 ^ 32 }

@@ -45,9 +45,8 @@ fn position_of(body: &[PpToken], place: Place) -> Option<usize>
 fn part_named(named: &[Named], parameter: u32, occurrence: u32) -> Option<usize>
     ensures { result ≡ runs.part_named named.now parameter occurrence }
 {
-    let found = named
-        .iter()
-        .find(|one| one.parameter == parameter && one.occurrence == occurrence)?;
+    let found = named.iter().find(|one| one.parameter == parameter
+        && one.occurrence == occurrence)?;
     Some(found.at)
 }
 
@@ -88,14 +87,18 @@ impl<'a> Stand<'a> {
         let body = self.definition.body.items();
         match mark {
             None => position_of(body, place),
-            Some(Mark::Argument {
-                parameter,
-                occurrence,
-            }) => part_named(self.named, parameter, occurrence),
-            Some(Mark::Expansion {
-                definition: _,
-                instance,
-            }) => match name_of(self.expansions, instance) {
+            Some(
+                Mark::Argument {
+                    parameter,
+                    occurrence,
+                },
+            ) => part_named(self.named, parameter, occurrence),
+            Some(
+                Mark::Expansion {
+                    definition: _,
+                    instance,
+                },
+            ) => match name_of(self.expansions, instance) {
                 None => None,
                 Some(name) => position_of(body, name),
             },

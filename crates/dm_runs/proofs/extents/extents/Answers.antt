@@ -39,15 +39,15 @@ loop-position-preserved c =
     let size : n ≡ length whole = omega (arith, c.len-in-loop-position.ensures, c.walk.new.self.trails.ok.0) in
     let before : vec_len old ≡ length (map seen found) = omega (arith, old.ok.0, ap length inv.extents) in
     let resized : c.deref_mut.result.now ≡ take (length whole) (map seen found) ++ replicate (length whole - length (map seen found)) None =
-        c.deref_mut.ensures.value ∙ c.in_ok-resize-2.ensures.items ∙ ap (λ m. take m old.items ++ replicate (m - vec_len old) None) size
-        ∙ ap (λ (es : List (Option Extent)). take (length whole) es ++ replicate (length whole - vec_len old) None) inv.extents
-        ∙ ap (λ m. take (length whole) (map seen found) ++ replicate (length whole - m) None) before in
+    c.deref_mut.ensures.value ∙ c.in_ok-resize-2.ensures.items ∙ ap (λ m. take m old.items ++ replicate (m - vec_len old) None) size
+    ∙ ap (λ (es : List (Option Extent)). take (length whole) es ++ replicate (length whole - vec_len old) None) inv.extents
+    ∙ ap (λ m. take (length whole) (map seen found) ++ replicate (length whole - m) None) before in
     let after : c.extend_all.new.extents ≡ map (extent_in (take (p + 1) all)) whole =
-        c.extend_all.ensures ∙ ap (λ es. fold (extended_at p) es c.deref.result.now) resized
-        ∙ ap (fold (extended_at p) (take (length whole) (map seen found) ++ replicate (length whole - length (map seen found)) None)) c.deref.ensures.value
-        ∙ ap (λ m. fold (extended_at m) (take (length whole) (map seen found) ++ replicate (length whole - length (map seen found)) None) numbers) (sym count)
-        ∙ extents-step found whole tokens token numbers walked.linked.apart walked.trails inv.covers walked.numbers
-        ∙ ap (λ (ts : List CToken). map (extent_in ts) whole) more in
+    c.extend_all.ensures ∙ ap (λ es. fold (extended_at p) es c.deref.result.now) resized
+    ∙ ap (fold (extended_at p) (take (length whole) (map seen found) ++ replicate (length whole - length (map seen found)) None)) c.deref.ensures.value
+    ∙ ap (λ m. fold (extended_at m) (take (length whole) (map seen found) ++ replicate (length whole - length (map seen found)) None) numbers) (sym count)
+    ∙ extents-step found whole tokens token numbers walked.linked.apart walked.trails inv.covers walked.numbers
+    ∙ ap (λ (ts : List CToken). map (extent_in ts) whole) more in
     record {
       linked = walked.linked;
       trails = walked.trails ∙ ap (λ ts. fold once_more ts (beginnings_of token.trail)) inv.trails

@@ -24,7 +24,7 @@ loop-at-preserved c =
       | in-Some+in_ok-parameter+in_ok-occurrence+in_ok-push w ↦
           ap (λ v. v.items) w.named-is ∙ w.in_ok-push.ensures.items
           ∙ named-next names tokens token c.loop-at.named.items i w.in_ok-parameter.parameter w.in_ok-occurrence.occurrence w.in-Some.parameter
-            place w.in_ok-parameter.ensures (w.in_ok-occurrence.ensures ∙ w.count_of.ensures ∙ ap (count_by (is_of w.in_ok-parameter.parameter)) w.deref.ensures.value) w.in-Some.ensures c.loop-at.invariant
+          place w.in_ok-parameter.ensures (w.in_ok-occurrence.ensures ∙ w.count_of.ensures ∙ ap (count_by (is_of w.in_ok-parameter.parameter)) w.deref.ensures.value) w.in-Some.ensures c.loop-at.invariant
           ∙ ap (named_behind names []) more
       | in_default w ↦
           ap (λ v. v.items) w.named-is ∙ named-skip names tokens token c.loop-at.named.items w.in_default.ensures c.loop-at.invariant ∙ ap (named_behind names []) more

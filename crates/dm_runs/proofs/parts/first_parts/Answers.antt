@@ -26,10 +26,10 @@ overflow_sub-begun c =
     let token : Token = c.token-item.result in
     let inv = c.loop-token.invariant in
     let one : c.with_one_more-begun.result ≡ begun_among false (tokens ++ token ∷ []) =
-        c.with_one_more-begun.ensures ∙ ap (λ n. n + cond (c.loop-token.is_behind_literal && c.is_literal-is_literal.result) 0 1) inv.begun
-        ∙ ap (λ b. begun_among false tokens + cond (b && c.is_literal-is_literal.result) 0 1) inv.behind
-        ∙ ap (λ b. begun_among false tokens + cond (behind false tokens && b) 0 1) c.is_literal-is_literal.ensures
-        ∙ sym (begun-push false tokens token) in
+    c.with_one_more-begun.ensures ∙ ap (λ n. n + cond (c.loop-token.is_behind_literal && c.is_literal-is_literal.result) 0 1) inv.begun
+    ∙ ap (λ b. begun_among false tokens + cond (b && c.is_literal-is_literal.result) 0 1) inv.behind
+    ∙ ap (λ b. begun_among false tokens + cond (behind false tokens && b) 0 1) c.is_literal-is_literal.ensures
+    ∙ sym (begun-push false tokens token) in
     omega (arith, one, begun-some (tokens ++ token ∷ []) (omega (arith, length-append tokens (token ∷ []))))
 
 pub loop-token-preserved : goal.loop-token-preserved
@@ -44,10 +44,10 @@ loop-token-preserved c =
     let walked = c.in_ok-walk.ensures in
     let more : tokens ++ token ∷ [] ≡ take (i + 1) all = ap (λ (t : Token). tokens ++ t ∷ []) c.token-item.is ∙ sym (take_more all i token c.loop-token-test.true) in
     let one : c.with_one_more-begun.result ≡ begun_among false (tokens ++ token ∷ []) =
-        c.with_one_more-begun.ensures ∙ ap (λ n. n + cond (c.loop-token.is_behind_literal && c.is_literal-is_literal.result) 0 1) inv.begun
-        ∙ ap (λ b. begun_among false tokens + cond (b && c.is_literal-is_literal.result) 0 1) inv.behind
-        ∙ ap (λ b. begun_among false tokens + cond (behind false tokens && b) 0 1) c.is_literal-is_literal.ensures
-        ∙ sym (begun-push false tokens token) in
+    c.with_one_more-begun.ensures ∙ ap (λ n. n + cond (c.loop-token.is_behind_literal && c.is_literal-is_literal.result) 0 1) inv.begun
+    ∙ ap (λ b. begun_among false tokens + cond (b && c.is_literal-is_literal.result) 0 1) inv.behind
+    ∙ ap (λ b. begun_among false tokens + cond (behind false tokens && b) 0 1) c.is_literal-is_literal.ensures
+    ∙ sym (begun-push false tokens token) in
     let n = c.len.result in
     let old = c.loop-token.parts in
     let parts : List Mark → ℕ = first_part tokens in

@@ -49,7 +49,7 @@ returns c =
     let tokens : List CToken = c.args.tokens.now in
     let later : CToken → Bool = is_later self.expansions.now self.definition.now prefix c.args.at in
     sym (ap (λ found. unwrap_or found c.args.run.after) (position-none later 0 tokens (λ k token is.
-      elim (begins prefix token.trail) as (λ b. begins prefix token.trail ≡ b → later token ≡ false) [
-        | true ↦ λ e. c.loop-position.invariant k token (omega (arith, (c.requires.under.only k token is e).1, c.loop-position-test.false)) is
-        | false ↦ λ e. ap (λ b. b && is_behind c.args.at (part_by self.expansions.now self.definition.now token.place (slice_get token.trail (length prefix)))) e
-      ] refl)))
+    elim (begins prefix token.trail) as (λ b. begins prefix token.trail ≡ b → later token ≡ false) [
+      | true ↦ λ e. c.loop-position.invariant k token (omega (arith, (c.requires.under.only k token is e).1, c.loop-position-test.false)) is
+      | false ↦ λ e. ap (λ b. b && is_behind c.args.at (part_by self.expansions.now self.definition.now token.place (slice_get token.trail (length prefix)))) e
+    ] refl)))
