@@ -1,0 +1,12 @@
+pub mod ItemLemmas
+pub mod LinkLemmas
+pub mod TreeLemmas
+pub mod BeginningLemmas
+pub mod GrowthLemmas
+pub mod ExtentLemmas
+pub mod PartLemmas
+pub mod NamedLemmas
+pub mod SpanLemmas
+pub mod StandLemmas
+pub mod ListingLemmas
+pub mod RunLemmas

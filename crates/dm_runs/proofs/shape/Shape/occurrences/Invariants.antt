@@ -1,0 +1,8 @@
+-- The occurrences up to here.
+use Rattle.std.proofs.Common.{◌≡◌, take, map}
+use Rattle.dm_runs.specs.Runs.{occurrence_in}
+use Rattle.dm_runs.proofs.shape.Shape.occurrences.Given as goal
+
+abbrev pub invariant-loop-named : goal.invariant-loop-named
+invariant-loop-named l =
+    l.found.items ≡ map (occurrence_in l.stand.expansions.now l.self.tokens.now l.stand.definition.now l.prefix l.run) (take l.named-index l.named-items)

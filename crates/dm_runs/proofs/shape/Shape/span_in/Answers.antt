@@ -1,0 +1,24 @@
+use Rattle.std.proofs.Common.{[], ◌∷◌, ◌++◌, sym, ap, ◌∙◌}
+use Rattle.std.specs.Bool.{◌==◌}
+use Rattle.std.proofs.lemmas.Bool.{cond-false}
+use Rattle.dm_token.specs.declared.expansion.Mark.TheVariants.{Argument as argument}
+use Rattle.dm_runs.specs.Extents.{span_from}
+use Rattle.dm_runs.specs.Runs.{would_stand}
+use Rattle.dm_runs.specs.Spans.{span_of, tokens_under}
+use Rattle.dm_runs.proofs.SpanLemmas.{span-is, filled-run, some-tokens}
+use Rattle.dm_runs.proofs.shape.Shape.span_in.Goals as goal
+
+pub would_stand-elsewhere-requires-clause-inside : goal.would_stand-elsewhere-requires-clause-inside
+would_stand-elsewhere-requires-clause-inside c = (filled-run c.args.prefix.now c.args.self.now.tokens.now c.args.run c.requires.run c.if-run.false).within
+
+pub would_stand-elsewhere-requires-clause-under : goal.would_stand-elsewhere-requires-clause-under
+would_stand-elsewhere-requires-clause-under c = (filled-run c.args.prefix.now c.args.self.now.tokens.now c.args.run c.requires.run c.if-run.false).under
+
+pub returns : goal.returns
+returns c =
+    let run = c.args.run in
+    let own = tokens_under (c.args.prefix.now ++ argument c.args.named.now.parameter c.args.named.now.occurrence ∷ []) c.args.self.now.tokens.now in
+    let elsewhere = would_stand c.args.stand.now.expansions.now c.args.self.now.tokens.now c.args.stand.now.definition.now c.args.prefix.now run.after c.args.named.now.at in
+    c.span.ensures ∙ ap (span_from c.would_stand-elsewhere.result) c.below.ensures ∙ span-is c.would_stand-elsewhere.result own
+    ∙ ap (λ n. span_of n own) c.would_stand-elsewhere.ensures
+    ∙ sym (cond-false (run.first == run.after) run (span_of elsewhere own) (some-tokens run c.if-run.false))

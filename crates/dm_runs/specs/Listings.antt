@@ -1,0 +1,20 @@
+-- Lists of runs by the directives of the definitions.
+use Rattle.std.specs.Prelude.{ℕ, Bool, List, [], slice_index_or}
+use Rattle.std.specs.List.{position_or_len}
+use Rattle.dm_runs.specs.declared.run.Run.{Run}
+use Rattle.dm_runs.specs.declared.runs.Directive.{Directive}
+use Rattle.dm_runs.specs.contracts.runs.DirectivePartialEq.TheImpl as directive_eq
+
+abbrev pub same : Directive → Directive → Bool
+same = (directive_eq.ghosts).eq
+
+abbrev pub directive : ℕ → ℕ → Directive
+directive file hash = record { file = file; hash = hash }
+
+-- the list of a directive, where it has one
+abbrev pub listed : List Directive → List (List Run) → ℕ → ℕ → List Run
+listed directives lists file hash = slice_index_or lists (position_or_len (same (directive file hash)) directives) []
+
+-- the runs of the definition whose `#` is this byte of a file
+abbrev pub runs_at : List Directive × List (List Run) → ℕ → ℕ → List Run
+runs_at index file hash = listed index.0 index.1 file hash

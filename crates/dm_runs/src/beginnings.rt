@@ -1,0 +1,127 @@
+//! The beginnings of trails by number.
+
+ghost use Rattle.std.specs.Prelude.{◌≡◌, [], ◌∷◌, ◌++◌, Some, List as Sequence, map, fold, IfOk, OnOk, slice_get};
+ghost use Rattle.dm_token.specs.declared.expansion.Mark.{Mark as SeenMark};
+ghost use Rattle.dm_runs.specs.Beginnings.{beginnings_of, once_more};
+ghost use Rattle.dm_runs.specs.Trees.{AreLinked, AreNumbers, IsBelow, IsLonger, link_of};
+
+use dm_token::{Mark, Memory, Trail};
+use indexmap::IndexSet;
+use std::alloc::Global;
+
+/// A trail as the number of the one without its innermost mark, and that mark.
+#[derive(Clone, Copy, Debug, PartialEq, Eq, Hash)]
+pub(crate) struct Link {
+    above: usize,
+    is_argument: bool,
+    first: u32,
+    second: u32,
+}
+
+fn link_to(above: usize, mark: Mark) -> Link
+    ensures { result ≡ link_of above mark }
+{
+    match mark {
+        Mark::Expansion {
+            definition,
+            instance,
+        } => Link {
+            above,
+            is_argument: false,
+            first: definition,
+            second: instance,
+        },
+        Mark::Argument {
+            parameter,
+            occurrence,
+        } => Link {
+            above,
+            is_argument: true,
+            first: parameter,
+            second: occurrence,
+        },
+    }
+}
+
+/// The beginnings of a trail, the shortest first.
+fn lineage<'a>(alloc: Global, trail: &'a Trail) -> Result<Vec<&'a Trail>, Memory>
+    ensures { IfOk result (λ found. map (λ one. one.now) found.items ≡ beginnings_of trail.now) }
+{
+    let mut found = Vec::new(alloc);
+    let mut rest = trail;
+    while let Some(outer) = rest.parent() {
+        found.push(rest)?;
+        rest = outer;
+    }
+    found.reverse();
+    Ok(found)
+}
+
+/// The beginnings of the trails that were met, in the order in which each was first met. Their numbers are their
+/// positions: the trail without marks has 0.
+#[derive(Drop)]
+pub(crate) struct Beginnings {
+    pub(crate) links: IndexSet<Link>,
+    pub(crate) trails: Vec<Trail>,
+}
+
+impl Beginnings {
+    pub(crate) fn new(alloc: Global) -> Result<Beginnings, Memory>
+        ensures linked { IfOk result (λ found. AreLinked found.links.keys found.trails.items) }
+        ensures trails { IfOk result (λ found. found.trails.items ≡ [] ∷ []) }
+    {
+        let mut trails = Vec::new(alloc);
+        trails.push(Trail::empty(alloc))?;
+        Ok(Beginnings {
+            links: IndexSet::new(alloc),
+            trails,
+        })
+    }
+
+    /// The number of a trail that is one mark longer than the one with a number.
+    fn add(&mut self, above: usize, trail: &Trail) -> Result<usize, Memory>
+        requires linked { AreLinked self.old.links.keys self.old.trails.items }
+        requires longer { IsLonger self.old.trails.items above trail.now }
+        ensures linked { OnOk result (AreLinked self.new.links.keys self.new.trails.items) }
+        ensures trails { OnOk result (self.new.trails.items ≡ once_more self.old.trails.items trail.now) }
+        ensures number { IfOk result (λ number. slice_get self.new.trails.items number ≡ Some trail.now) }
+    {
+        let Some(mark) = trail.last() else {
+            unreachable!();
+        };
+        let (index, is_new) = self.links.insert_full(link_to(above, mark))?;
+        if is_new {
+            self.trails.push(trail.copy()?)?;
+        }
+        Ok(index + 1)
+    }
+
+    /// The numbers of the first marks of a trail, of none on. What wasn't met before is added.
+    pub(crate) fn walk(&mut self, alloc: Global, trail: &Trail) -> Result<Vec<usize>, Memory>
+        requires linked { AreLinked self.old.links.keys self.old.trails.items }
+        ensures linked { OnOk result (AreLinked self.new.links.keys self.new.trails.items) }
+        ensures trails { OnOk result (self.new.trails.items ≡ fold once_more self.old.trails.items (beginnings_of trail.now)) }
+        ensures numbers { IfOk result (λ numbers. AreNumbers self.new.trails.items trail.now numbers.items) }
+    {
+        let lineage = lineage(alloc, trail)?;
+        let mut numbers = Vec::new(alloc);
+        let mut above = 0;
+        numbers.push(above)?;
+        for beginning in &lineage {
+            above = self.add(above, beginning)?;
+            numbers.push(above)?;
+        }
+        Ok(numbers)
+    }
+
+    /// The number of the trail that is one mark longer than the one with a number, if it was met.
+    pub(crate) fn below(&self, above: usize, mark: Mark) -> Option<usize>
+        requires linked { AreLinked self.now.links.keys self.now.trails.items }
+        ensures { (outer : Sequence SeenMark) → slice_get self.now.trails.items above ≡ Some outer → IsBelow self.now.trails.items (outer ++ mark ∷ []) result }
+    {
+        match self.links.get_index_of(&link_to(above, mark)) {
+            None => None,
+            Some(index) => Some(index + 1),
+        }
+    }
+}
