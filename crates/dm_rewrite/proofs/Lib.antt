@@ -11,4 +11,11 @@ mod ShrinkEffectLemmas
 mod ClosedStateLemmas
 mod FrameChangeLemmas
 mod StepEffectLemmas
+mod NamedConstantLemmas
+mod NamedStatementLemmas
+mod NamedSizeLemmas
+mod NamedStateLemmas
+mod NamedRefineLemmas
+mod NamedStartLemmas
+mod NamedExample
 mod CountExample

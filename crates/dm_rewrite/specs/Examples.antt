@@ -1,17 +1,22 @@
 -- Trees under evaluation in small programs: the examples of `src/examples.rt`.
-use Rattle.std.specs.Prelude.{ℕ, true, false, [], ◌∷◌, pos}
+use Rattle.std.specs.Prelude.{ℕ, true, false, [], ◌∷◌, ◌++◌, Some, pos, codes}
 use Rattle.dm_int.specs.declared.Kind.TheVariants.{Int}
 use Rattle.dm_int.specs.declared.Op.TheVariants.{Add}
-use Rattle.dm_type.specs.CTypes.{CType, void, integer, pointer}
-use Rattle.dm_tree.specs.Trees.{object, read, address, binary, both, count, block, Spans, node, trees}
+use Rattle.dm_type.specs.CTypes.{CType, void, integer, pointer, const}
+use Rattle.dm_tree.specs.Trees.{object, read, address, binary, both, count, block, return, one_expression, Spans, Tree, node, trees}
+use Rattle.dm_tree.specs.declared.unit.Linkage.TheVariants.{Internal}
+use Rattle.dm_tree.specs.declared.unit.Sort.TheVariants.{Object}
+use Rattle.dm_tree.specs.Units.{Declaration}
 use Rattle.dm_meaning.specs.Values.{At, numbered, integer_value}
 use Rattle.dm_meaning.specs.Memory.{Block}
-use Rattle.dm_meaning.specs.Programs.{Definition}
+use Rattle.dm_meaning.specs.Programs.{Definition, Static}
+use Rattle.dm_meaning.specs.Units.{program_of}
 use Rattle.dm_meaning.specs.Operations.{of_value, designates, World, Objects, whole}
 use Rattle.dm_meaning.specs.Running.{evaluates, Run, done, to_do, Hole, here, within, in_first, in_others, no_runs, more_runs, begun}
-use Rattle.dm_meaning.specs.Examples.{at, reading, counted, and_count}
+use Rattle.dm_meaning.specs.Examples.{at, types, constant, reading, counted, and_count, six_unit, beyond_six}
 use Rattle.dm_rewrite.specs.Computed.{Computed}
 use Rattle.dm_rewrite.specs.Effects.{Stage}
+use Rattle.dm_rewrite.specs.NamedConstants.{Named}
 
 abbrev int : CType
 int = integer Int
@@ -99,3 +104,34 @@ address_of_x = begun (node address (pointer int) (spans 0) (trees (node (object 
 -- a function of one parameter, which the declaration of x declares
 abbrev pub function : Definition
 function = record { function = 0; parameters = 1 ∷ []; body = node block void (spans 0) (trees []) }
+
+-- ---- static const int SIX = 6; int main(void) { return SIX; }
+
+-- the type of SIX, whose declaration has the number 1, and its read
+abbrev const_int : CType
+const_int = const int
+
+abbrev pub six_read : Tree
+six_read = node read int (spans 0) (trees (node (object 1) const_int (spans 0) (trees []) ∷ []))
+
+abbrev six_declaration : Declaration
+six_declaration = record { name = codes "SIX"; sort = Object true; kind = const_int; linkage = Internal; place = at 0 }
+
+abbrev six_static : Static
+six_static = record { declared = 1; initialiser = Some one_expression; expressions = constant 6 ∷ [] }
+
+abbrev returning_six : Definition
+returning_six = record { function = 0; parameters = []; body = node block void (spans 0) (trees (node return void (spans 0) (trees (six_read ∷ [])) ∷ [])) }
+
+-- the change from the program of `return 3 * 2;`
+abbrev pub naming_six : Named
+naming_six = record {
+  old = program_of types six_unit;
+  declared = six_unit.declared ++ six_declaration ∷ [];
+  functions = returning_six ∷ [];
+  statics = six_static ∷ [];
+  rename = beyond_six;
+  added = 1;
+  kind = Int;
+  value = pos 6;
+}

@@ -6,4 +6,5 @@ pub mod Effects
 pub mod Closed
 pub mod ClosedStates
 pub mod StepEffects
+pub mod NamedConstants
 pub mod Examples

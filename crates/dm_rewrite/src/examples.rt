@@ -4,9 +4,11 @@ ghost use Rattle.std.specs.Prelude.{◌≡◌, ℕ, false, List, [], ◌∷◌, 
 ghost use Rattle.dm_int.specs.declared.Kind.TheVariants.{Int};
 ghost use Rattle.dm_meaning.specs.Among.{IsAmong};
 ghost use Rattle.dm_meaning.specs.Choices.{run_by};
-ghost use Rattle.dm_meaning.specs.Examples.{at, and_count, counted_sum};
+ghost use Rattle.dm_meaning.specs.Examples.{at, and_count, by_choice, counted_sum};
 ghost use Rattle.dm_meaning.specs.Expressions.{Move, goes, moves};
+ghost use Rattle.dm_meaning.specs.Machines.{exited};
 ghost use Rattle.dm_meaning.specs.Memory.{IsFresh, killed};
+ghost use Rattle.dm_meaning.specs.Refinement.{Refines};
 ghost use Rattle.dm_meaning.specs.Running.{Run, Hole, filled_in};
 ghost use Rattle.dm_meaning.specs.Simulation.{GoesWrong};
 ghost use Rattle.dm_meaning.specs.States.{returns, State};
@@ -21,6 +23,7 @@ ghost use Rattle.dm_rewrite.specs.Effects.{on_object, effects_of, ChangesOnly, L
 ghost use Rattle.dm_rewrite.specs.Examples as examples;
 ghost use Rattle.dm_rewrite.specs.KeptMemory.{KeepsPlaces};
 ghost use Rattle.dm_rewrite.specs.StepEffects.{stage_of, next_effects, StillHolds};
+ghost use Rattle.dm_rewrite.specs.NamedConstants.{new_of as named_of, IsNaming, HasOneMore};
 ghost use Rattle.dm_rewrite.specs.PureSteps.{IsAt, Evaluated};
 
 /// In `i++ + i` the second operand is evaluated at once, and reads i; where i was counted before, the program can go wrong.
@@ -87,4 +90,13 @@ pub fn a_step_leaves_other_objects()
         (λ state. next_effects (stage_of (and_count 2) (1 ∷ []) (λ f. false) state) state ≡ on_object 2 ∷ []) }
     ensures steps { IsSomeAnd (run_by (and_count 2) (replicate 12 0) [])
         (λ state. (other : State) → Step (and_count 2) state other → StillHolds other.world.memory 1 (examples.holding 2)) }
+{}
+
+/// `static const int SIX = 6; int main(void) { return SIX; }` refines `int main(void) { return 3 * 2; }`.
+pub fn a_named_constant_refines()
+    ensures constant { by_choice 0 60 [] examples.naming_six.old ≡ Some (exited 6, []) }
+    ensures named { by_choice 0 60 [] (named_of examples.naming_six) ≡ Some (exited 6, []) }
+    ensures premises { IsNaming examples.naming_six }
+    ensures statics { (names : ℕ → ℕ) → IsFresh names [] → HasOneMore examples.naming_six names }
+    ensures refines { Refines (machine_of (named_of examples.naming_six)) (machine_of examples.naming_six.old) }
 {}

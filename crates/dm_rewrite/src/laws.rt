@@ -1,16 +1,17 @@
-ghost use Rattle.std.specs.Prelude.{◌≡◌, ◌⊎◌, ℕ, Bool, true, false, List, Some, None};
+ghost use Rattle.std.specs.Prelude.{◌≡◌, ◌⊎◌, ℕ, Bool, true, false, List, [], Some, None};
 ghost use Rattle.dm_token.specs.declared.place.Place.{Place};
 ghost use Rattle.dm_type.specs.CTypes.{CType};
 ghost use Rattle.dm_tree.specs.Trees.{Label};
 ghost use Rattle.dm_meaning.specs.Among.{IsAmong};
-ghost use Rattle.dm_meaning.specs.Memory.{Block, look_up, killed};
+ghost use Rattle.dm_meaning.specs.Memory.{Block, look_up, killed, IsFresh};
 ghost use Rattle.dm_meaning.specs.Programs.{Definition, Program};
+ghost use Rattle.dm_meaning.specs.Refinement.{Refines};
 ghost use Rattle.dm_meaning.specs.Simulation.{GoesWrong};
 ghost use Rattle.dm_meaning.specs.States.{Use, Task, State};
 ghost use Rattle.dm_meaning.specs.Steps.{opened_memory, scene_of, Step};
 ghost use Rattle.dm_meaning.specs.Units.{machine_of};
-ghost use Rattle.dm_meaning.specs.Values.{At, Value, overlaps_any};
-ghost use Rattle.dm_meaning.specs.Operations.{World, Scene, Operand, operate};
+ghost use Rattle.dm_meaning.specs.Values.{At, Value, numbered, overlaps_any};
+ghost use Rattle.dm_meaning.specs.Operations.{World, Scene, Operand, Objects, operate, whole};
 ghost use Rattle.dm_meaning.specs.Running.{Run, Hole, IsOpen, filled_in, locks_in};
 ghost use Rattle.dm_meaning.specs.Expressions.{Move, goes, moves, kind_of_run};
 ghost use Rattle.dm_rewrite.specs.Computed.{Computed, computed, IsPure, is_pure_label};
@@ -19,6 +20,7 @@ ghost use Rattle.dm_rewrite.specs.Closed.{MemoryAvoids, IsClosedIn, StaysClosed}
 ghost use Rattle.dm_rewrite.specs.ClosedStates.{ProgramNamesOnly, IsClosedState};
 ghost use Rattle.dm_rewrite.specs.Effects.{Effect, Stage, IsFree, effects_of, Writes, ChangesOnly, LeavesNoMore};
 ghost use Rattle.dm_rewrite.specs.KeptMemory.{HasSameObjects, KeepsPlaces};
+ghost use Rattle.dm_rewrite.specs.NamedConstants.{Named, new_of as named_of, IsNaming, NameAlike, HasHeld, RunAgrees, Matched, HasOneMore};
 ghost use Rattle.dm_rewrite.specs.StepEffects.{stage_of, next_effects, StillHolds};
 ghost use Rattle.dm_rewrite.specs.PureSteps.{DidPlain, StepKeeps, Meets, IsAt, Evaluated};
 
@@ -123,4 +125,21 @@ pub fn effects_of_program_steps()
     ensures { (program : Program) (closed : List ℕ) (quiet : ℕ → Bool) (state other : State) → Step program state other
         → (n : ℕ) (block : Block) → look_up state.world.memory n ≡ Some block
         → IsFree closed (next_effects (stage_of program closed quiet state) state) n → StillHolds other.world.memory n block }
+{}
+
+/// Where the new program reads an added const object and the old one has an integer constant expression of its type and value, each step of a tree
+/// of the new program is met in the old one. The read is a step that gives the value and meets no lock.
+pub fn named_constant_steps()
+    ensures { (change : Named) (n : ℕ) → IsNaming change → (news objects : Objects) → NameAlike change n news objects
+        → (world : World) → HasHeld change n world.memory → (locks : List At) → overlaps_any (whole (numbered n)) locks ≡ false
+        → (run other : Run) → RunAgrees change n run other
+        → (move : Move Run Hole) → IsAmong move (moves (record { program = named_of change; objects = news }) world locks run)
+        → Matched change n (record { program = change.old; objects = objects }) world locks other move }
+{}
+
+/// A program in which integer constant expressions have become reads of an added const object of their type and value refines the program with
+/// the expressions, where its static objects are those of that program and the added one.
+pub fn named_constants_refine()
+    ensures { (change : Named) → IsNaming change → ((names : ℕ → ℕ) → IsFresh names [] → HasOneMore change names)
+        → Refines (machine_of (named_of change)) (machine_of change.old) }
 {}
