@@ -10,6 +10,8 @@ use Rattle.dm_type.specs.Tables.{Table, no_type}
 use Rattle.dm_tree.specs.Scenes.{HasConst, itself}
 use Rattle.dm_tree.specs.Typing.{IsEntry, ExternalFits, IsWellTypedUnit, file_scene}
 use Rattle.dm_tree.specs.Units.{Declaration, External}
+use Rattle.dm_meaning.specs.Machines.{Goes}
+use Rattle.dm_meaning.specs.Units.{machine_of}
 use Rattle.dm_meaning.specs.Values.{integer_value}
 use Rattle.dm_meaning.specs.Memory.{Block, look_up}
 use Rattle.dm_meaning.specs.Programs.{layout}
@@ -152,3 +154,7 @@ new_name i = ap (λ b. if b then Some (record { kind = int; contents = integer_v
 
 pub first_step : Step running beginning behind
 first_step = ((λ i. 8 + i), ((λ i j e. omega (arith, e)), new_name), inl refl)
+
+pub one_step : Goes (machine_of running) 1 beginning behind
+unfolding Goes
+one_step = (behind, first_step, refl)

@@ -1,22 +1,20 @@
 -- The initialisers of well-typed declarations give objects and their parts values of their types.
-use Rattle.std.specs.Prelude.{◌≡◌, refl, ℕ, zero, suc, ◌+◌, nat_lt, Bool, true, false, not, ◌||◌, IsTrue, IfSome, IsSome, List, [], ◌∷◌, ◌++◌, length, take, drop, Option, Some, None, option_map, option_and_then, slice_get, if◌then◌else◌}
+use Rattle.std.specs.Prelude.{◌≡◌, refl, ℕ, zero, suc, ◌+◌, nat_lt, Bool, true, false, not, IsTrue, IfSome, IsSome, List, [], ◌∷◌, ◌++◌, length, take, drop, Option, Some, None, option_map, slice_get, if◌then◌else◌}
 use Rattle.std.specs.Option.{option_map_or}
 use Rattle.std.proofs.Common.{arith, ap, sym, ◌∙◌, subst}
 use Rattle.std.proofs.lemmas.Bool.{false≢true, true≢false}
 use Rattle.dm_int.specs.declared.Kind.{Kind}
 use Rattle.dm_type.specs.declared.shape.Member.{Member}
-use Rattle.dm_type.specs.CTypes.{CType, void, integer, pointer, array, struct, function, const, bare, with_const}
+use Rattle.dm_type.specs.CTypes.{CType, void, integer, pointer, array, struct, const, bare, with_const}
 use Rattle.dm_type.specs.Tables.{type_of, members_of}
-use Rattle.dm_tree.specs.Composites.{covers}
 use Rattle.dm_tree.specs.Constants.{integer_kind}
-use Rattle.dm_tree.specs.Initialisers.{also, at_end, targets, targets_of_items, is_character, is_fixed, Initialises, AllInitialise, InitialiserFits, FitsEntry, DeclaratorFits, DeclaratorsFit}
-use Rattle.dm_tree.specs.Scenes.{Scene, is_lvalue, is_scalar, part_type, member_type}
-use Rattle.dm_tree.specs.Trees.{literal, Spans, Tree, node, listed, kind_of, Declarator, Initialiser, Initialisers, one_expression, in_braces, no_items, more_items, expressions_in, expressions_in_items}
+use Rattle.dm_tree.specs.Initialisers.{also, targets, targets_of_items, is_character, is_fixed, Initialises, AllInitialise, InitialiserFits, FitsEntry, DeclaratorFits, DeclaratorsFit}
+use Rattle.dm_tree.specs.Scenes.{Scene, is_scalar, part_type, member_type}
+use Rattle.dm_tree.specs.Trees.{literal, Tree, node, listed, kind_of, Declarator, Initialiser, Initialisers, one_expression, in_braces, no_items, more_items, expressions_in, expressions_in_items}
 use Rattle.dm_tree.specs.Units.{Declaration}
-use Rattle.dm_meaning.specs.Values.{Value}
 use Rattle.dm_meaning.specs.Objects.{Field, object_of, outside, reached_member, element, inner_type, unqualified, is_array}
 use Rattle.dm_meaning.specs.Programs.{Program, layout, declaration_of}
-use Rattle.dm_meaning.specs.Operations.{Result, of_value, designates}
+use Rattle.dm_meaning.specs.Operations.{of_value, designates}
 use Rattle.dm_meaning.specs.Statements.{array_of, characters_at, expressions_of, kind_declared, with_expressions}
 use Rattle.dm_meaning.proofs.OptionLemmas.{none_is_some, some_is_some, bound_some, mapped_some}
 use Rattle.dm_sound.specs.TypedValues.{own_type, has_parts, HasType}
@@ -257,8 +255,7 @@ module _ (program : Program) (sound : IsSoundTable program.table) where
           let there = item_there type n item items types f in
           let part = part_there type kind e p n there.part there.is in
           let count = expressions_in item in
-          let both = targets_split scene fixed there.firsts there.others trees count (counted item there.part there.firsts there.of_first) (subst (λ (ts : List CType). AllInitialise scene fixed ts trees) (sym there.joined) h) in
-          (
+          let both = targets_split scene fixed there.firsts there.others trees count (counted item there.part there.firsts there.of_first) (subst (λ (ts : List CType). AllInitialise scene fixed ts trees) (sym there.joined) h) in (
             part.0,
             fills item there.part (inner_type (layout program) (bare kind) n) part.1 part.2 there.firsts there.of_first (take count trees) both.0 (taken_typed program result count trees t),
             fill_parts items type kind e p (suc n) there.others there.of_rest (drop count trees) both.1 (dropped_typed program result count trees t),
@@ -293,8 +290,7 @@ module _ (program : Program) (sound : IsSoundTable program.table) where
     declarators_fill (one ∷ more) trees h t =
         let count = expressions_of one.initialiser in
         let first = subst (λ n. DeclaratorFits place one (take n trees)) (same_count one.initialiser) h.0 in
-        let rest = subst (λ n. DeclaratorsFit place more (drop n trees)) (same_count one.initialiser) h.1 in
-        (
+        let rest = subst (λ n. DeclaratorsFit place more (drop n trees)) (same_count one.initialiser) h.1 in (
           declarator_fills one (take count trees) (declaration_of program one.declared) refl first.0 first.1 (taken_typed program result count trees t),
           declarators_fill more (drop count trees) rest (dropped_typed program result count trees t),
         )

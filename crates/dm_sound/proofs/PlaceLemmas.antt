@@ -1,5 +1,5 @@
 -- Objects keep their types: in later memory each name, place and thing that is left to do is what it was.
-use Rattle.std.specs.Prelude.{◌≡◌, refl, ℕ, zero, suc, ◌+◌, ◌≤◌, ◌==◌, Bool, true, false, ◌||◌, List, [], ◌∷◌, ◌++◌, length, Option, Some, None, option_map, if◌then◌else◌}
+use Rattle.std.specs.Prelude.{◌≡◌, refl, ℕ, suc, ◌+◌, ◌≤◌, ◌==◌, Bool, true, false, ◌||◌, List, [], ◌∷◌, ◌++◌, length, Option, Some, None, option_map, if◌then◌else◌}
 use Rattle.std.proofs.Common.{arith, ap, sym, ◌∙◌, subst}
 use Rattle.std.proofs.lemmas.Bool.{false≢true}
 use Rattle.dm_type.specs.CTypes.{CType, bare, is_const}
@@ -14,7 +14,7 @@ use Rattle.dm_meaning.specs.Statements.{type_declared, named_from, made_from}
 use Rattle.dm_meaning.specs.Steps.{given_from}
 use Rattle.dm_meaning.proofs.ExtendLemmas.{look_changed}
 use Rattle.dm_meaning.proofs.OptionLemmas.{none_is_some, some_is_some}
-use Rattle.dm_sound.specs.TypedStates.{IsOfKind, AreNamed, IsPlace, UseFits, TaskFits, TasksFit, IsTypedFrame, IsTypedCaller, AreTypedCallers}
+use Rattle.dm_sound.specs.TypedStates.{IsOfKind, AreNamed, IsPlace, UseFits, TaskFits, TasksFit, IsTypedFrame, AreTypedCallers}
 
 -- ---- types of objects
 

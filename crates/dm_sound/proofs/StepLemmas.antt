@@ -1,5 +1,5 @@
 -- The steps of typed states leave typed states.
-use Rattle.std.specs.Prelude.{◌≡◌, refl, ◌⊎◌, ℕ, Bool, true, false, ◌&&◌, ◌||◌, IsTrue, List, [], ◌∷◌, map, length, Option, Some, None, pos, bytes_eq, codes, if◌then◌else◌}
+use Rattle.std.specs.Prelude.{◌≡◌, refl, ℕ, zero, suc, Bool, true, false, ◌||◌, IsTrue, List, [], ◌∷◌, map, length, Option, Some, None, pos, codes, if◌then◌else◌}
 use Rattle.std.proofs.Common.{arith, ap, sym, ◌∙◌, subst, inl, inr}
 use Rattle.std.proofs.lemmas.Bool.{false≢true}
 use Rattle.std.proofs.lemmas.Int.{ints}
@@ -12,35 +12,34 @@ use Rattle.dm_tree.specs.Composites.{covers}
 use Rattle.dm_tree.specs.Scenes.{is_void}
 use Rattle.dm_tree.specs.Trees.{Tree, node, parts_of}
 use Rattle.dm_tree.specs.Typing.{IsWellTyped, DefinitionFits, is_main_type}
-use Rattle.dm_tree.specs.Units.{Declaration}
 use Rattle.dm_meaning.specs.declared.cause.Cause.TheVariants.{NoValue}
 use Rattle.dm_meaning.specs.Among.{IsAmong}
-use Rattle.dm_meaning.specs.Machines.{Standing, undefined, exited}
+use Rattle.dm_meaning.specs.Machines.{Goes, Standing, undefined, exited}
 use Rattle.dm_meaning.specs.Values.{At, Value, integer_value, unset}
 use Rattle.dm_meaning.specs.Objects.{Layout}
 use Rattle.dm_meaning.specs.Memory.{Memory, written, killed, IsFresh}
 use Rattle.dm_meaning.specs.Programs.{Program, Definition, layout, declaration_of, definition_of}
-use Rattle.dm_meaning.specs.Operations.{World}
 use Rattle.dm_meaning.specs.Running.{Run, done, to_do, locks_in, Hole}
 use Rattle.dm_meaning.specs.Expressions.{Move, goes, calls, fails, exits, moves}
 use Rattle.dm_meaning.specs.States.{Use, Task, begins, declares, initials, evaluates, again, tests, ends, ends_switch, leaves, skips, hands_back, Caller, State}
 use Rattle.dm_meaning.specs.Statements.{Turned, onward, refused, declared_in, kind_declared, type_declared, named_from, begin_statement, begin_declarator, begin_initialiser, concluded, unfolded, ended, after_break, after_continue}
-use Rattle.dm_meaning.specs.Steps.{given_from, opened_frame, opened_memory, opened, lacks_value, gone_back, handed_back, is_main, gives_nothing, body_place, no_place, closed, turned, moved, scene_of, expression_steps, task_steps, Step}
+use Rattle.dm_meaning.specs.Steps.{given_from, opened_memory, opened, lacks_value, gone_back, handed_back, is_main, gives_nothing, body_place, no_place, closed, turned, moved, scene_of, expression_steps, task_steps, Step}
+use Rattle.dm_meaning.specs.Units.{machine_of}
 use Rattle.dm_meaning.proofs.AmongLemmas.{among-map_from}
 use Rattle.dm_meaning.proofs.OptionLemmas.{and_left}
 use Rattle.dm_meaning.proofs.StateLemmas.{from_steps}
 use Rattle.dm_meaning.proofs.StoreLemmas.{MoveKeeps, moves_keep}
 use Rattle.dm_sound.specs.TypedValues.{IsGiven}
 use Rattle.dm_sound.specs.TypedTrees.{scene_in, IsTyped}
-use Rattle.dm_sound.specs.TypedRuns.{IsTypedFunction, IsTypedProgram, IsTypedWorld, ComesFrom, CallFits, HoleComesFrom, MoveFits, result_in, result_of}
-use Rattle.dm_sound.specs.TypedStates.{AreNamed, AllAreTyped, UseFits, TasksFit, IsTypedFrame, AreTypedCallers, IsTypedState}
+use Rattle.dm_sound.specs.TypedRuns.{IsTypedFunction, IsTypedProgram, ComesFrom, CallFits, HoleComesFrom, MoveFits, result_in, result_of}
+use Rattle.dm_sound.specs.TypedStates.{AllAreTyped, UseFits, TasksFit, AreTypedCallers, IsTypedState}
 use Rattle.dm_sound.proofs.ValueLemmas.{number_same}
 use Rattle.dm_sound.proofs.GivenLemmas.{given_number, void_given}
 use Rattle.dm_sound.proofs.ComeLemmas.{typed_parts, filled_comes}
 use Rattle.dm_sound.proofs.CallLemmas.{found_definition}
 use Rattle.dm_sound.proofs.RunLemmas.{moves_fit}
 use Rattle.dm_sound.proofs.FirstLemmas.{typed_opened, typed_killed}
-use Rattle.dm_sound.proofs.PlaceLemmas.{Keeps, keeps_same, keeps_then, keeps_written, keeps_killed, named_later, AreNewFrom, made_keeps, made_named, AreGiven, given_named, use_later, tasks_later, callers_later}
+use Rattle.dm_sound.proofs.PlaceLemmas.{Keeps, keeps_same, keeps_then, keeps_written, keeps_killed, named_later, AreNewFrom, made_keeps, made_named, given_named, use_later, tasks_later, callers_later}
 use Rattle.dm_sound.proofs.TaskLemmas.{all_listed, unfolded_fit, given_back, DeclaresFill, items_fit, TurnedFits, statement_fits, declarator_fits, initialiser_fits, concluded_fits, ended_fits, break_fits, continue_fits}
 
 stored_keeps : (memory : Memory) (at : At) (value : Value) (later : Memory) → Keeps memory later → Keeps memory (written later at value)
@@ -314,3 +313,9 @@ module _ (program : Program) (sound : IsTypedProgram program) (fills : (result :
   pub step_typed : (state other : State) → IsTypedState program state → Step program state other → IsTypedState program other
   step_typed state other s step =
       task_typed state s step.0 step.1 (unfolded state.frame.tasks) (unfolded_fit program (result_for state.frame.function) state.world.memory state.frame.tasks s.frame.tasks) other (from_steps state.standing _ other step.2).1
+
+  -- so do more of them
+  pub goes_typed : (n : ℕ) (state other : State) → IsTypedState program state → Goes (machine_of program) n state other → IsTypedState program other
+  unfolding Goes
+  goes_typed zero state other s g = subst (IsTypedState program) g s
+  goes_typed (suc n) state other s g = goes_typed n g.0 other (step_typed state g.0 s g.1) g.2

@@ -1,20 +1,20 @@
 -- The steps of statements and declarations leave what is typed.
-use Rattle.std.specs.Prelude.{◌≡◌, refl, ℕ, zero, suc, Bool, true, false, not, IsTrue, MatchBool, List, [], ◌∷◌, ◌++◌, drop, take, map, Option, Some, None, ℤ, if◌then◌else◌}
+use Rattle.std.specs.Prelude.{◌≡◌, refl, ℕ, suc, Bool, true, false, not, IsTrue, List, [], ◌∷◌, ◌++◌, drop, map, Option, Some, None, if◌then◌else◌}
 use Rattle.std.proofs.Common.{ap, sym, ◌∙◌, subst, inl, inr}
 use Rattle.std.proofs.lemmas.Bool.{false≢true}
 use Rattle.dm_token.specs.declared.place.Place.{Place}
-use Rattle.dm_type.specs.CTypes.{CType, void, integer, pointer, array, struct, function, const, bare}
+use Rattle.dm_type.specs.CTypes.{CType, pointer, array, function, const, bare}
 use Rattle.dm_tree.specs.Composites.{covers}
 use Rattle.dm_tree.specs.Scenes.{is_lvalue, is_function}
 use Rattle.dm_tree.specs.Trees.{Label, block as block_form, declare, full, if_statement, switch, case, default, while_loop, do_loop, for_loop, break, continue, return, Spans, Tree, Trees, node, no_trees, more_trees, listed, kind_of, Declarator, Initialiser, Initialisers, one_expression, in_braces, no_items, more_items, expressions_in}
-use Rattle.dm_meaning.specs.Values.{numbered, At, Value, integer_value, unset}
+use Rattle.dm_meaning.specs.Values.{At, Value, integer_value, unset}
 use Rattle.dm_meaning.specs.Objects.{Layout, is_array, inner_type}
 use Rattle.dm_meaning.specs.Memory.{Memory, contents_at, written, killed}
 use Rattle.dm_meaning.specs.Programs.{Program, layout}
-use Rattle.dm_meaning.specs.Operations.{Result, of_value, designates, Objects, object_named, whole, part_of, Truth, holds, untold, truth_of}
+use Rattle.dm_meaning.specs.Operations.{Result, of_value, designates, Objects, object_named, Truth, holds, untold, truth_of}
 use Rattle.dm_meaning.specs.Expressions.{value_of}
-use Rattle.dm_meaning.specs.States.{Loop, Use, drops, chooses, selects, repeats, continues, returns, initialises, Task, begins, declares, initials, evaluates, again, tests, ends, ends_switch, leaves, skips, hands_back}
-use Rattle.dm_meaning.specs.Statements.{Turned, onward, refused, evaluation, is_automatic, declared_in, type_declared, named_since, expressions_of, Local, with_expressions, declarator_tasks, item_tasks, items_tasks, unlabelled, entered, memory_entered, start_tasks, as_list, on_one_tree, on_first_tree, on_option_tree, on_tree_if, loop_with, begin_for, returning, begin_form, begin_tree, begin_statement, initial_of, begin_declarator, part_tasks, count_items, value_listed, begin_initialiser, initial_value, has_case, has_default, from_first, or_items, selected, selected_by, by_test, begins_one, concluded, tested, continued, unfolded, ended, after_break, after_continue}
+use Rattle.dm_meaning.specs.States.{Loop, Use, drops, chooses, selects, repeats, continues, returns, initialises, Task, begins, declares, again, tests, ends, ends_switch, leaves, skips, hands_back}
+use Rattle.dm_meaning.specs.Statements.{Turned, onward, refused, evaluation, is_automatic, declared_in, type_declared, named_since, Local, with_expressions, item_tasks, items_tasks, unlabelled, entered, memory_entered, start_tasks, as_list, on_one_tree, on_first_tree, on_option_tree, on_tree_if, loop_with, begin_for, begin_form, begin_tree, begin_statement, initial_of, begin_declarator, part_tasks, count_items, value_listed, begin_initialiser, initial_value, has_case, has_default, from_first, or_items, selected_by, by_test, begins_one, concluded, tested, continued, unfolded, ended, after_break, after_continue}
 use Rattle.dm_meaning.specs.Units.{is_pointer}
 use Rattle.dm_sound.specs.TypedValues.{own_type, has_values, HasType, IsGiven, AreTyped}
 use Rattle.dm_sound.specs.TypedTrees.{IsSoundTable, IsTyped}
@@ -208,8 +208,7 @@ module _ (program : Program) (sound : IsSoundTable program.table) (result : CTyp
       entered_fits items tasks h =
           let ds = declared_in program items in
           let after = memory_entered program names items memory in
-          let keeps = made_keeps program names distinct 0 ds memory new in
-          (
+          let keeps = made_keeps program names distinct 0 ds memory new in (
             typed_made program sound names 0 ds memory typed,
             keeps,
             made_named program names distinct 0 ds objects memory new named,
@@ -221,13 +220,12 @@ module _ (program : Program) (sound : IsSoundTable program.table) (result : CTyp
           let ds = declared_in program (as_list start) in
           let after = memory_entered program names (as_list start) memory in
           let keeps = made_keeps program names distinct 0 ds memory new in
-          let inside = made_named program names distinct 0 ds objects memory new named in
-          (
+          let inside = made_named program names distinct 0 ds objects memory new named in (
             typed_made program sound names 0 ds memory typed,
             keeps,
             inside,
             tasks_joined program result after (start_tasks start) (tests (entered program names (as_list start) objects) loop ∷ ends objects ∷ rest) (start_fits after start s)
-            ((inside, l), (named_later program memory after keeps objects named, tasks_later program memory after keeps result rest waits)),
+                ((inside, l), (named_later program memory after keeps objects named, tasks_later program memory after keeps result rest waits)),
           )
 
       returned_fits : (kind : CType) (spans : Spans) (parts : Trees) → IsTyped program result (node return kind spans parts) → TurnedFits (begin_form program names objects rest memory return (listed parts))
@@ -316,13 +314,12 @@ module _ (program : Program) (sound : IsSoundTable program.table) (result : CTyp
     initialiser_fits at kind (in_braces items) trees h f =
         let value = value_listed (layout program) kind (count_items items) (contents_at memory at) in
         let after = written memory at value in
-        let keeps = keeps_written at value memory in
-        (
+        let keeps = keeps_written at value memory in (
           stored_typed at kind h value (listed_has program sound kind f.0 (count_items items) (contents_at memory at) (place_has at kind h)),
           keeps,
           named_later program memory after keeps objects named,
           tasks_joined program result after (part_tasks (layout program) at kind 0 items trees) rest (parts_fit after at kind (place_later (layout program) memory after keeps at kind h) 0 items trees f.1)
-          (tasks_later program memory after keeps result rest waits),
+              (tasks_later program memory after keeps result rest waits),
         )
 
     -- ---- the end of a full expression
@@ -358,8 +355,7 @@ module _ (program : Program) (sound : IsSoundTable program.table) (result : CTyp
     concluded_fits tree place returns given u h = stays (hands_back (value_of given) ∷ []) (value_returned tree given u.0 u.1 h, tt)
     concluded_fits tree place (initialises at kind) given u h =
         let value = initial_value kind given in
-        let keeps = keeps_written at value memory in
-        (
+        let keeps = keeps_written at value memory in (
           stored_typed at kind u.0 value (u.1 given h),
           keeps,
           named_later program memory (written memory at value) keeps objects named,

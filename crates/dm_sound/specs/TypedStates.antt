@@ -6,7 +6,7 @@ use Rattle.std.specs.Prelude.{◌≡◌, ℕ, suc, Bool, false, not, IsTrue, Lis
 use Rattle.dm_type.specs.CTypes.{CType, bare}
 use Rattle.dm_tree.specs.Composites.{covers}
 use Rattle.dm_tree.specs.Scenes.{is_lvalue}
-use Rattle.dm_tree.specs.Trees.{Tree, Declarator, Initialiser, Initialisers, one_expression, in_braces, no_items, more_items, expressions_in, kind_of}
+use Rattle.dm_tree.specs.Trees.{Tree, Initialiser, Initialisers, one_expression, in_braces, no_items, more_items, expressions_in, kind_of}
 use Rattle.dm_tree.specs.Units.{Declaration}
 use Rattle.dm_meaning.specs.Values.{At}
 use Rattle.dm_meaning.specs.Objects.{Layout, object_of, element, inner_type}

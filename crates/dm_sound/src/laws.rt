@@ -8,6 +8,7 @@ ghost use Rattle.dm_tree.specs.Typing.{IsWellTypedUnit};
 ghost use Rattle.dm_tree.specs.Units.{TypedUnit};
 ghost use Rattle.dm_meaning.specs.Among.{IsAmong};
 ghost use Rattle.dm_meaning.specs.Expressions.{Move, moves};
+ghost use Rattle.dm_meaning.specs.Machines.{Goes};
 ghost use Rattle.dm_meaning.specs.Memory.{Memory, killed};
 ghost use Rattle.dm_meaning.specs.Objects.{Layout, all_unset, all_zero};
 ghost use Rattle.dm_meaning.specs.Operations.{Operand, Scene, World, of_value, operate};
@@ -16,7 +17,7 @@ ghost use Rattle.dm_meaning.specs.Running.{Hole, Run, begun, done, filled_in, op
 ghost use Rattle.dm_meaning.specs.Statements.{array_of, characters_at, value_listed};
 ghost use Rattle.dm_meaning.specs.States.{State};
 ghost use Rattle.dm_meaning.specs.Steps.{Step, opened_memory};
-ghost use Rattle.dm_meaning.specs.Units.{program_of};
+ghost use Rattle.dm_meaning.specs.Units.{machine_of, program_of};
 ghost use Rattle.dm_meaning.specs.Values.{At, Value, literal_of};
 ghost use Rattle.dm_meaning.specs.Wholes.{is_expression};
 ghost use Rattle.dm_sound.specs.Excuses.{IsExcusedMove, results_in};
@@ -106,4 +107,10 @@ pub fn initialisers_keep_types()
 pub fn steps_keep_states_typed()
     ensures { (program : Program) (state other : State) → IsTypedProgram program → HasProperEntries program → IsTypedState program state
         → Step program state other → IsTypedState program other }
+{}
+
+/// So is each state of a run that goes on from a typed state.
+pub fn runs_stay_typed()
+    ensures { (program : Program) (n : ℕ) (state other : State) → IsTypedProgram program → HasProperEntries program
+        → IsTypedState program state → Goes (machine_of program) n state other → IsTypedState program other }
 {}

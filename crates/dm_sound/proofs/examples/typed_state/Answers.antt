@@ -1,5 +1,5 @@
 -- The state meets each premise.
-use Rattle.dm_sound.proofs.ExampleLemmas.{running_typed, running_proper, beginning_typed, first_step}
+use Rattle.dm_sound.proofs.ExampleLemmas.{running_typed, running_proper, beginning_typed, first_step, one_step}
 use Rattle.dm_sound.proofs.examples.typed_state.Goals as goal
 
 pub returns-clause-program : goal.returns-clause-program
@@ -13,3 +13,6 @@ returns-clause-state c = beginning_typed
 
 pub returns-clause-step : goal.returns-clause-step
 returns-clause-step c = first_step
+
+pub returns-clause-goes : goal.returns-clause-goes
+returns-clause-goes c = one_step
