@@ -67,10 +67,6 @@ module _ (program : Program) (result : CType) where
 
   -- ---- switch
 
-  or_typed : (o : Option (List Tree)) (items others : List Tree) → ((found : List Tree) → o ≡ Some found → AllAreTyped program result found) → AllAreTyped program result others → AllAreTyped program result (or_items o others)
-  or_typed None items others h k = k
-  or_typed (Some found) items others h k = h found refl
-
   first_typed : (test : Tree → Bool) (items : List Tree) → AllAreTyped program result items → (o : Option (List Tree)) → from_first test items ≡ o → (others : List Tree) → AllAreTyped program result others
       → AllAreTyped program result (or_items o others)
   first_typed test [] h o e others k = subst (λ (p : Option (List Tree)). AllAreTyped program result (or_items p others)) e k
@@ -183,10 +179,6 @@ module _ (program : Program) (sound : IsSoundTable program.table) (result : CTyp
   start_fits memory None h = tt
   start_fits memory (Some (node (declare lengths declarators) kind spans parts)) h = item_fits memory (node (declare lengths declarators) kind spans parts) h
   start_fits memory (Some (node label kind spans parts)) h = (evaluation_fits program result memory (node label kind spans parts) drops h tt, tt)
-
-  as_list_typed : (start : Option Tree) → IsTypedIfThere program result start → AllAreTyped program result (as_list start)
-  as_list_typed None h = tt
-  as_list_typed (Some tree) h = (h, tt)
 
   -- what a step leaves in a frame is typed
   module _ (objects : Objects) (rest : List Task) (memory : Memory) (typed : AreTyped (layout program) memory) (named : AreNamed program memory objects) (waits : TasksFit program memory result rest) where
