@@ -59,9 +59,6 @@ same_element a b m n e = (element_of e, length_of e)
     length_of : array a m ≡ array b n → m ≡ n
     length_of f = cc
 
-same_struct : (m n : ℕ) → struct m ≡ struct n → m ≡ n
-same_struct m n e = cc
-
 integer_by : (type : CType) (kind : Kind) → integer_kind type ≡ Some kind → unqualified type ≡ integer kind
 integer_by (integer other) kind e = ap integer (some_is_some other kind e)
 integer_by (const (integer other)) kind e = ap integer (some_is_some other kind e)
