@@ -1,7 +1,7 @@
 -- The premises of the laws, for the example.
-use Rattle.std.specs.Prelude.{nat_eq, ◌≡◌, refl, zero, suc, ◌==◌, Bool, true, false, All, [], ◌∷◌, Some, None, pos, if◌then◌else◌}
+use Rattle.std.specs.Prelude.{nat_eq, ◌≡◌, refl, ℕ, zero, suc, ◌+◌, ◌==◌, Bool, true, false, All, [], ◌∷◌, Some, None, pos, if◌then◌else◌}
 use Rattle.std.specs.List.{IsDistinct}
-use Rattle.std.proofs.Common.{arith, subst}
+use Rattle.std.proofs.Common.{arith, ap, subst, inl}
 use Rattle.std.proofs.lemmas.Bool.{false≢true}
 use Rattle.std.proofs.lemmas.Int.{ints}
 use Rattle.dm_int.specs.declared.Kind.TheVariants.{Int}
@@ -9,17 +9,21 @@ use Rattle.dm_type.specs.CTypes.{integer, void}
 use Rattle.dm_type.specs.Tables.{Table, no_type}
 use Rattle.dm_tree.specs.Scenes.{HasConst, itself}
 use Rattle.dm_tree.specs.Typing.{IsEntry, ExternalFits, IsWellTypedUnit, file_scene}
-use Rattle.dm_tree.specs.Units.{External}
+use Rattle.dm_tree.specs.Units.{Declaration, External}
+use Rattle.dm_meaning.specs.Machines.{Goes}
+use Rattle.dm_meaning.specs.Units.{machine_of}
 use Rattle.dm_meaning.specs.Values.{integer_value}
-use Rattle.dm_meaning.specs.Memory.{Block}
+use Rattle.dm_meaning.specs.Memory.{Block, look_up}
 use Rattle.dm_meaning.specs.Programs.{layout}
 use Rattle.dm_meaning.specs.Running.{every}
+use Rattle.dm_meaning.specs.Steps.{Step}
 use Rattle.dm_meaning.proofs.OptionLemmas.{none_is_some, some_is_some}
 use Rattle.dm_sound.specs.TypedValues.{HasType, IsGiven, AreTyped}
-use Rattle.dm_sound.specs.TypedTrees.{IsSoundTable, IsTyped}
+use Rattle.dm_sound.specs.TypedTrees.{IsProper, IsSoundTable, IsTyped}
 use Rattle.dm_sound.specs.TypedSteps.{AreOperands}
 use Rattle.dm_sound.specs.TypedRuns.{HoleComesFrom, IsProperForm, IsProperUnit, IsTypedProgram, IsTypedWorld}
-use Rattle.dm_sound.specs.Examples.{int, entry, external, unit, program, counted, name, world_with, operands, negated, negation, two, one_of_two}
+use Rattle.dm_sound.specs.TypedStates.{HasProperEntries, IsTypedState}
+use Rattle.dm_sound.specs.Examples.{int, entry, external, unit, main_entry, body, main_external, running_unit, running, beginning, behind, program, counted, name, world_with, operands, negated, negation, two, one_of_two}
 use Rattle.dm_sound.proofs.UnitLemmas.{unit_typed}
 
 -- ---- the unit
@@ -93,3 +97,64 @@ five_given = record { typed = (refl, (omega (arith, ints), omega (arith, ints)))
 
 pub one_has : HasType (layout program) two one_of_two
 one_has = (refl, ((refl, (omega (arith, ints), omega (arith, ints))), (refl, tt)))
+
+-- ---- a state
+
+both_of : {A : Type 0} (P : A → Type 0) (x y : A) → P x → P y → All P (x ∷ y ∷ [])
+both_of P x y h k zero d inside = h
+both_of P x y h k (suc zero) d inside = k
+both_of P x y h k (suc (suc n)) d inside = absurd (omega arith)
+
+main_fits : ExternalFits (file_scene no_type running_unit.declared) main_external
+main_fits = (nothing _, nothing _, ((refl, (tt, refl, ((nothing _, refl), tt)), (λ e. (refl, refl))), refl))
+
+first_fits : ExternalFits (file_scene no_type running_unit.declared) external
+first_fits = (nothing _, nothing _, (nothing _, ((((λ h. (refl, refl)), refl), refl), refl)))
+
+once : IsDistinct nat_eq (1 ∷ [])
+unfolding IsDistinct
+once = (tt, tt)
+
+running_fits : IsWellTypedUnit no_type running_unit
+running_fits = record {
+  entries = both_of IsEntry entry main_entry (refl, λ h. refl) (refl, refl);
+  externals = both_of (ExternalFits (file_scene no_type running_unit.declared)) external main_external first_fits main_fits;
+  once = once;
+}
+
+pub running_typed : IsTypedProgram running
+running_typed = unit_typed no_type running_unit table_sound running_fits (both_of (λ (one : External). IsProperForm one.form) external main_external (nothing _) (tt, tt))
+
+pub running_proper : HasProperEntries running
+running_proper zero one e = subst (λ (x : Declaration). IsProper x.kind) (some_is_some entry one e) tt
+running_proper (suc zero) one e = subst (λ (x : Declaration). IsProper x.kind) (some_is_some main_entry one e) (tt, tt)
+running_proper (suc (suc d)) one e = absurd (none_is_some one e)
+
+five_there : (b : Bool) (block : Block) → (if b then Some (record { kind = int; contents = integer_value Int (pos 5); alive = true; writable = true }) else None) ≡ Some block → HasType (layout running) block.kind block.contents
+five_there true block e = subst (λ (x : Block). HasType (layout running) x.kind x.contents) (some_is_some _ block e) (refl, (omega (arith, ints), omega (arith, ints)))
+five_there false block e = absurd (none_is_some block e)
+
+body_typed : IsTyped running int body
+body_typed = record { breaks = false; continues = false; labels = None; typed = ((nothing _, refl), tt); proper = (tt, tt) }
+
+pub beginning_typed : IsTypedState running beginning
+beginning_typed = record {
+  world = record { memory = λ n block e. five_there (7 == n) block e; input = nothing _ };
+  statics = ((record { kind = int; contents = integer_value Int (pos 5); alive = true; writable = true }, refl, refl), tt);
+  frame = record { definition = record { function = 1; parameters = []; body = body }; defined = refl; named = tt; tasks = (body_typed, tt) };
+  callers = tt;
+}
+
+-- names from 8 on are those of no object
+new_name : (i : ℕ) → look_up (world_with 5).memory (8 + i) ≡ None
+new_name i = ap (λ b. if b then Some (record { kind = int; contents = integer_value Int (pos 5); alive = true; writable = true }) else None) (other i)
+  where
+    other : (i : ℕ) → (7 == 8 + i) ≡ false
+    other i = grind arith
+
+pub first_step : Step running beginning behind
+first_step = ((λ i. 8 + i), ((λ i j e. omega (arith, e)), new_name), inl refl)
+
+pub one_step : Goes (machine_of running) 1 beginning behind
+unfolding Goes
+one_step = (behind, first_step, refl)

@@ -13,3 +13,7 @@ pub mod UnitLemmas
 pub mod FirstLemmas
 pub mod FailLemmas
 pub mod ListedLemmas
+pub mod PlaceLemmas
+pub mod TaskLemmas
+pub mod FillLemmas
+pub mod StepLemmas

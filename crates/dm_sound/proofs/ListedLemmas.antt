@@ -6,7 +6,7 @@ use Rattle.dm_int.specs.declared.Kind.{Kind}
 use Rattle.dm_int.specs.Ranges.{zero-in_range, in_range-convert}
 use Rattle.dm_type.specs.CTypes.{CType, integer, pointer, array, const, bare}
 use Rattle.dm_tree.specs.Constants.{integer_kind}
-use Rattle.dm_meaning.specs.Values.{Value, Values, integer_value, pointer_value, parts as compound, unset, no_values, value_list, values, parts_in, literal_of}
+use Rattle.dm_meaning.specs.Values.{Name, numbered, elsewhere, Value, Values, integer_value, pointer_value, parts as compound, unset, no_values, value_list, values, parts_in, literal_of}
 use Rattle.dm_meaning.specs.Objects.{Layout, all_zero}
 use Rattle.dm_meaning.specs.Memory.{character}
 use Rattle.dm_meaning.specs.Programs.{Program, layout}
@@ -91,3 +91,15 @@ literal_has laid element kind e count bytes unit =
     let chars = value_list (values (map character bytes ++ character 0 ∷ [])) in
     subst (λ (t : CType). HasType laid (array element (Some count)) (text_of t count chars)) (sym (bare_integer element kind e))
     (refl, filled_up laid element (integer_value kind (pos 0)) (own, zero-in_range kind) count count (omega arith) (map (as_element (integer kind)) chars) (elements_have laid element kind own chars (all_characters bytes)))
+
+nothing_has : (laid : Layout) (element : CType) (kind : Kind) → integer_kind element ≡ Some kind → (count : ℕ) → HasType laid (array element (Some count)) (array_of (array element (Some count)) [])
+nothing_has laid element kind e count =
+    subst (λ (t : CType). HasType laid (array element (Some count)) (text_of t count [])) (sym (bare_integer element kind e))
+    (refl, filled_up laid element (integer_value kind (pos 0)) (own_integer element kind e, zero-in_range kind) count count (omega arith) [] tt)
+
+-- whatever object is designated
+pub text_has : (laid : Layout) (element : CType) (kind : Kind) → integer_kind element ≡ Some kind → (count : ℕ) (name : Name)
+    → HasType laid (array element (Some count)) (array_of (array element (Some count)) (characters_at name))
+text_has laid element kind e count (literal_of bytes unit) = literal_has laid element kind e count bytes unit
+text_has laid element kind e count (numbered n) = nothing_has laid element kind e count
+text_has laid element kind e count (elsewhere identifier) = nothing_has laid element kind e count

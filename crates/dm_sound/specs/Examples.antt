@@ -3,17 +3,19 @@ use Rattle.std.specs.Prelude.{ℕ, true, false, List, [], ◌∷◌, Some, None,
 use Rattle.dm_token.specs.declared.place.Place.{Place}
 use Rattle.dm_token.specs.declared.place.Span.{Span}
 use Rattle.dm_int.specs.declared.Kind.TheVariants.{Int}
-use Rattle.dm_type.specs.CTypes.{CType, integer, array, function as function_type, no_types}
+use Rattle.dm_type.specs.CTypes.{CType, void, integer, array, function as function_type, no_types}
 use Rattle.dm_type.specs.Tables.{no_type}
 use Rattle.dm_tree.specs.declared.tree.Sign.TheVariants.{Minus}
 use Rattle.dm_tree.specs.declared.unit.Linkage.TheVariants.{External as Outer}
-use Rattle.dm_tree.specs.declared.unit.Sort.TheVariants.{Object}
-use Rattle.dm_tree.specs.Trees.{Label, object, function, count, unary, call, Spans, Tree, Trees, node, no_trees, more_trees}
-use Rattle.dm_tree.specs.Units.{Declaration, External, declares, TypedUnit}
+use Rattle.dm_tree.specs.declared.unit.Sort.TheVariants.{Object, Function}
+use Rattle.dm_tree.specs.Trees.{Label, object, function, count, unary, call, block, Spans, Tree, Trees, node, no_trees, more_trees}
+use Rattle.dm_tree.specs.Units.{Declaration, External, declares, defines_function, TypedUnit}
+use Rattle.dm_meaning.specs.Machines.{going}
 use Rattle.dm_meaning.specs.Values.{At, numbered, Value, integer_value, parts, unset, no_values, more_values}
 use Rattle.dm_meaning.specs.Programs.{Program}
 use Rattle.dm_meaning.specs.Operations.{designates, Operand, World, Scene, whole}
 use Rattle.dm_meaning.specs.Running.{evaluates, no_runs, Hole, here, within, in_first}
+use Rattle.dm_meaning.specs.States.{Task, begins, ends, State}
 use Rattle.dm_meaning.specs.Units.{program_of}
 
 abbrev somewhere : Place
@@ -81,3 +83,29 @@ two = array int (Some 2)
 
 abbrev pub one_of_two : Value
 one_of_two = parts (more_values (integer_value Int (pos 1)) (more_values unset no_values))
+
+-- int c; int main(void) {}
+abbrev pub main_entry : Declaration
+main_entry = record { name = codes "main"; sort = Function; kind = function_type int no_types; linkage = Outer; place = somewhere }
+
+abbrev pub body : Tree
+body = node block void spans no_trees
+
+abbrev pub main_external : External
+main_external = record { span = no_span; constants = []; form = defines_function 1 [] body }
+
+abbrev pub running_unit : TypedUnit
+running_unit = record { declared = entry ∷ main_entry ∷ []; externals = external ∷ main_external ∷ [] }
+
+abbrev pub running : Program
+running = program_of no_type running_unit
+
+-- the body begins as a statement, and behind it the block ends
+abbrev state_with : List Task → State
+state_with tasks = record { standing = going; frame = record { function = 1; objects = []; tasks = tasks }; callers = []; statics = (0, 7) ∷ []; world = world_with 5 }
+
+abbrev pub beginning : State
+beginning = state_with (begins body ∷ [])
+
+abbrev pub behind : State
+behind = state_with (ends [] ∷ [])

@@ -2,5 +2,6 @@ pub mod TypedValues
 pub mod TypedTrees
 pub mod TypedSteps
 pub mod TypedRuns
+pub mod TypedStates
 pub mod Examples
 pub mod Excuses

@@ -6,14 +6,17 @@ ghost use Rattle.dm_type.specs.CTypes.{integer, void};
 ghost use Rattle.dm_type.specs.Tables.{no_type};
 ghost use Rattle.dm_tree.specs.Constants.{integer_kind};
 ghost use Rattle.dm_tree.specs.Typing.{IsWellTypedUnit};
+ghost use Rattle.dm_meaning.specs.Machines.{Goes};
 ghost use Rattle.dm_meaning.specs.Operations.{gives, of_value, operate};
 ghost use Rattle.dm_meaning.specs.Programs.{layout};
 ghost use Rattle.dm_meaning.specs.Running.{begun, open_of};
-ghost use Rattle.dm_meaning.specs.Units.{program_of};
+ghost use Rattle.dm_meaning.specs.Steps.{Step};
+ghost use Rattle.dm_meaning.specs.Units.{machine_of, program_of};
 ghost use Rattle.dm_meaning.specs.Values.{integer_value};
 ghost use Rattle.dm_meaning.specs.Wholes.{is_expression};
 ghost use Rattle.dm_sound.specs.Examples as examples;
 ghost use Rattle.dm_sound.specs.TypedRuns.{ArgumentsFit, ComesFrom, HoleComesFrom, IsProperUnit, IsTypedProgram, IsTypedWorld};
+ghost use Rattle.dm_sound.specs.TypedStates.{HasProperEntries, IsTypedState};
 ghost use Rattle.dm_sound.specs.TypedSteps.{IsTypedScope, AreOperands, is_operated};
 ghost use Rattle.dm_sound.specs.TypedTrees.{IsSoundTable, IsTyped};
 ghost use Rattle.dm_sound.specs.TypedValues.{AreTyped, HasType, IsGiven, has_parts, own_type};
@@ -59,4 +62,14 @@ pub fn typed_unit()
     ensures typed { IsWellTypedUnit no_type examples.unit }
     ensures proper { IsProperUnit examples.unit }
     ensures program { program_of no_type examples.unit ≡ examples.program }
+{}
+
+/// The state in which `main` of `int c; int main(void) {}` runs, and the step to the state behind it, meet each premise of
+/// `steps_keep_states_typed` and `runs_stay_typed`.
+pub fn typed_state()
+    ensures program { IsTypedProgram examples.running }
+    ensures entries { HasProperEntries examples.running }
+    ensures state { IsTypedState examples.running examples.beginning }
+    ensures step { Step examples.running examples.beginning examples.behind }
+    ensures goes { Goes (machine_of examples.running) 1 examples.beginning examples.behind }
 {}

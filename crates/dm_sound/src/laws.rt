@@ -8,18 +8,21 @@ ghost use Rattle.dm_tree.specs.Typing.{IsWellTypedUnit};
 ghost use Rattle.dm_tree.specs.Units.{TypedUnit};
 ghost use Rattle.dm_meaning.specs.Among.{IsAmong};
 ghost use Rattle.dm_meaning.specs.Expressions.{Move, moves};
+ghost use Rattle.dm_meaning.specs.Machines.{Goes};
 ghost use Rattle.dm_meaning.specs.Memory.{Memory, killed};
 ghost use Rattle.dm_meaning.specs.Objects.{Layout, all_unset, all_zero};
 ghost use Rattle.dm_meaning.specs.Operations.{Operand, Scene, World, of_value, operate};
 ghost use Rattle.dm_meaning.specs.Programs.{Definition, Program, layout};
 ghost use Rattle.dm_meaning.specs.Running.{Hole, Run, begun, done, filled_in, open_of};
 ghost use Rattle.dm_meaning.specs.Statements.{array_of, characters_at, value_listed};
-ghost use Rattle.dm_meaning.specs.Steps.{opened_memory};
-ghost use Rattle.dm_meaning.specs.Units.{program_of};
+ghost use Rattle.dm_meaning.specs.States.{State};
+ghost use Rattle.dm_meaning.specs.Steps.{Step, opened_memory};
+ghost use Rattle.dm_meaning.specs.Units.{machine_of, program_of};
 ghost use Rattle.dm_meaning.specs.Values.{At, Value, literal_of};
 ghost use Rattle.dm_meaning.specs.Wholes.{is_expression};
 ghost use Rattle.dm_sound.specs.Excuses.{IsExcusedMove, results_in};
 ghost use Rattle.dm_sound.specs.TypedRuns.{ArgumentsFit, ComesFrom, HoleComesFrom, IsProperUnit, IsTypedProgram, IsTypedWorld, MoveFits};
+ghost use Rattle.dm_sound.specs.TypedStates.{HasProperEntries, IsTypedState};
 ghost use Rattle.dm_sound.specs.TypedSteps.{IsTypedScope, AreOperands, DidFits, is_operated};
 ghost use Rattle.dm_sound.specs.TypedTrees.{IsSoundTable, IsTyped};
 ghost use Rattle.dm_sound.specs.TypedValues.{AreTyped, HasType, IsGiven, has_parts, own_type};
@@ -97,4 +100,17 @@ pub fn initialisers_keep_types()
         → HasType (layout program) type value → HasType (layout program) type (value_listed (layout program) type n value) }
     ensures literal { (laid : Layout) (element : CType) (kind : Kind) → integer_kind element ≡ Some kind → (count : ℕ) (bytes : List ℕ) (unit : ℕ)
         → HasType laid (array element (Some count)) (array_of (array element (Some count)) (characters_at (literal_of bytes unit))) }
+{}
+
+/// Each step of a typed state leaves a typed state: what is left to do in each function that is running is typed, each declaration names
+/// an object of its type, each object holds a value of its type, and what a function hands back is of its result's type.
+pub fn steps_keep_states_typed()
+    ensures { (program : Program) (state other : State) → IsTypedProgram program → HasProperEntries program → IsTypedState program state
+        → Step program state other → IsTypedState program other }
+{}
+
+/// So is each state of a run that goes on from a typed state.
+pub fn runs_stay_typed()
+    ensures { (program : Program) (n : ℕ) (state other : State) → IsTypedProgram program → HasProperEntries program
+        → IsTypedState program state → Goes (machine_of program) n state other → IsTypedState program other }
 {}

@@ -4,9 +4,12 @@
 mod examples;
 mod laws;
 
-pub use examples::{typed_argument, typed_counting, typed_list, typed_negation, typed_unit};
+pub use examples::{
+    typed_argument, typed_counting, typed_list, typed_negation, typed_state, typed_unit,
+};
 pub use laws::{
     calls_give_their_types, calls_keep_objects_typed, ends_keep_objects_typed, evaluations_begin,
     expressions_keep_their_types, first_values_have_their_types, initialisers_keep_types,
-    operators_give_their_types, typed_expressions_are_never_ill, units_give_typed_programs,
+    operators_give_their_types, runs_stay_typed, steps_keep_states_typed,
+    typed_expressions_are_never_ill, units_give_typed_programs,
 };
