@@ -18,6 +18,7 @@ use Rattle.dm_type.specs.declared.shape.Shape.TheVariants as shape
 use Rattle.dm_type.specs.Tables.{Table, Has, IsId, types_of, type_of}
 use Rattle.dm_syn.specs.Sources.{Source, spelling_at}
 use Rattle.dm_syn.specs.Trees as syn
+use Rattle.dm_tree.proofs.ListLemmas.{listed-trees}
 use Rattle.dm_tree.specs.declared.tree.Core.{Core}
 use Rattle.dm_tree.specs.declared.tree.Core as q
 use Rattle.dm_tree.specs.declared.tree.Form.TheVariants.{Declare}
@@ -105,10 +106,6 @@ typed_unit_of declared all = record { declared = declared; externals = all }
 abbrev declared_in : Label → List Declarator
 declared_in (label.declare n declarators) = declarators
 declared_in other = []
-
-listed-trees : (all : List Tree) → listed (trees all) ≡ all
-listed-trees [] = refl
-listed-trees (first ∷ others) = ap (λ rest. first ∷ rest) (listed-trees others)
 
 pass-all : (n : ℕ) (locals : List Local) → list_all (are_known_in_local n) locals ≡ true → all_pass (map (are_known_in_local n) locals) ≡ true
 pass-all n [] h = refl
