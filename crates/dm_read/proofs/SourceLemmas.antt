@@ -21,7 +21,7 @@ use Rattle.dm_syn.specs.Statements.{IsInitialiser, AreMoreInitialisers, IsItem, 
 use Rattle.dm_pexpr.specs.Answers.{source_with}
 use Rattle.dm_pexpr.specs.NameMaps.{NameMap, is_type as is_type_in}
 use Rattle.dm_pexpr.specs.Scoping.{known_with}
-use Rattle.dm_pexpr.proofs.MapLemmas.{tied}
+use Rattle.dm_name_map.proofs.MapLemmas.{tied}
 use Rattle.dm_eexpr.specs.Alone.{source_alone}
 use Rattle.dm_edecl.specs.Placing.{AreExternals}
 use Rattle.dm_read.specs.Syntax.{Stand, IsSyntax, names_behind}

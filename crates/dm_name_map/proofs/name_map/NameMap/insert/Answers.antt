@@ -1,7 +1,7 @@
 use Rattle.std.proofs.Common.{ap, ◌∙◌}
 use Rattle.std.specs.FinMap as finite
-use Rattle.dm_macro.proofs.MapLemmas.{entries_with}
-use Rattle.dm_macro.proofs.name_map.NameMap.insert.Goals as goal
+use Rattle.dm_name_map.proofs.MapLemmas.{entries_with}
+use Rattle.dm_name_map.proofs.name_map.NameMap.insert.Goals as goal
 
 pub returns-clause-ok : goal.returns-clause-ok
 returns-clause-ok c =

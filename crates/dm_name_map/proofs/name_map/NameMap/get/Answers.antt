@@ -1,7 +1,7 @@
 use Rattle.std.proofs.Common.{sym, ap, ◌∙◌}
 use Rattle.std.specs.FinMap as finite
-use Rattle.dm_macro.proofs.MapLemmas.{get_of_entries}
-use Rattle.dm_macro.proofs.name_map.NameMap.get.Goals as goal
+use Rattle.dm_name_map.proofs.MapLemmas.{get_of_entries}
+use Rattle.dm_name_map.proofs.name_map.NameMap.get.Goals as goal
 
 pub returns : goal.returns
 returns c =

@@ -1,7 +1,7 @@
 use Rattle.std.proofs.Common.{is_some, sym, ap, ◌∙◌}
 use Rattle.std.specs.FinMap as finite
-use Rattle.dm_macro.proofs.MapLemmas.{get_of_entries, entries_without}
-use Rattle.dm_macro.proofs.name_map.NameMap.remove.Goals as goal
+use Rattle.dm_name_map.proofs.MapLemmas.{get_of_entries, entries_without}
+use Rattle.dm_name_map.proofs.name_map.NameMap.remove.Goals as goal
 
 pub returns-clause-had : goal.returns-clause-had
 returns-clause-had c =
