@@ -21,6 +21,7 @@ use Rattle.dm_syn.specs.Trees as trees
 use Rattle.dm_syn.specs.Views as view
 use Rattle.dm_eunit.specs.Elaborated.{Elaborates}
 use Rattle.dm_lines.specs.Outside.{Outside}
+use Rattle.dm_lines.specs.Statuses as statuses
 use Rattle.dm_read.specs.declared.behind.Layers.{Layers}
 use Rattle.dm_read.specs.declared.unit.Reading.{Reading}
 use Rattle.dm_read.specs.Reading.{AreTokens, HasLayers, IsReading, layers_of}
@@ -136,7 +137,7 @@ module _ (one_syntax : (tokens : List CToken) (a b : List trees.External) → Is
   no_lack files (Some name) input before after ReadFault has none quiet = quiet none.1
 
   pub complete : (request : RunRequest) (unit : Source) (before after : Outside) (ending : RunEnding) → HoldsRun before.files request unit → EndsRun request unit before after ending
-      → ¬ Rose before.folder_faults after.folder_faults → ¬ Rose before.sink_faults after.sink_faults → (status_of_run ending ≡ 0) ⊎ (status_of_run ending ≡ 8)
+      → ¬ Rose before.folder_faults after.folder_faults → ¬ Rose before.sink_faults after.sink_faults → (status_of_run ending ≡ statuses.done) ⊎ (status_of_run ending ≡ statuses.memory_wanted)
   complete request unit before after (finished input reading files (ran outcome)) holds ends folder sink = inl refl
   complete request unit before after (finished input reading files (unput outcome)) holds ends folder sink = absurd (sink ends.1.3.1)
   complete request unit before after (finished input reading files too_many_definitions) holds ends folder sink =

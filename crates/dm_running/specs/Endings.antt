@@ -11,6 +11,7 @@ use Rattle.dm_token.specs.declared.unit.UnitTokens.{UnitTokens}
 use Rattle.dm_search.specs.Fresh.{fresh}
 use Rattle.dm_unit.specs.Units.{IsReadAs, setting_of}
 use Rattle.dm_lines.specs.Outside.{Outside, KeepsFiles, Puts}
+use Rattle.dm_lines.specs.Statuses as statuses
 use Rattle.dm_lines.specs.Stops.{line_of_stop, status_of_stop}
 use Rattle.dm_read.specs.declared.unit.Reading.{Reading}
 use Rattle.dm_words.specs.Requests.{RunRequest}
@@ -31,7 +32,7 @@ abbrev pub status_of_run : RunEnding → ℕ
 status_of_run (finished input reading files finish) = status_of_finish finish
 status_of_run (stopped input why files) = status_of_stop why
 status_of_run (input_missing why) = status_of_no_input why
-status_of_run memory_wanted = 8
+status_of_run memory_wanted = statuses.memory_wanted
 
 -- a fault has its cause in the folder
 abbrev pub HasCause : Stop → ℕ → ℕ → Type 0
