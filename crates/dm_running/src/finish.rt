@@ -15,7 +15,7 @@ use dm_exec::{Outcome, run_for};
 use dm_io::Sink;
 use dm_lines::statuses;
 use dm_program::Program;
-use dm_read::Reading;
+use dm_reading::Reading;
 use dm_run::run_text;
 use dm_token::{Memory, Text};
 use dm_words::RunWords;

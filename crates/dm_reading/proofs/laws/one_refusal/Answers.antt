@@ -1,8 +1,8 @@
 use Rattle.std.proofs.Common.{◌≡◌, ℕ, List}
 use Rattle.dm_token.specs.declared.token.CToken.{CToken}
-use Rattle.dm_read.specs.Syntax.{IsRefusedAt}
-use Rattle.dm_read.proofs.SyntaxLemmas.{Beside, same, first-goes-on, second-goes-on, beside}
-use Rattle.dm_read.proofs.laws.one_refusal.Goals as goal
+use Rattle.dm_reading.specs.Syntax.{IsRefusedAt}
+use Rattle.dm_reading.proofs.SyntaxLemmas.{Beside, same, first-goes-on, second-goes-on, beside}
+use Rattle.dm_reading.proofs.laws.one_refusal.Goals as goal
 
 from : (tokens : List CToken) (a b : ℕ) (first : IsRefusedAt tokens a) (second : IsRefusedAt tokens b) → Beside tokens first.before second.before a b first.known second.known → a ≡ b
 from tokens a b first second (same e f) = f

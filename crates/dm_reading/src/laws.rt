@@ -3,7 +3,7 @@
 ghost use Rattle.std.specs.Prelude.{◌≡◌, ℕ, List};
 ghost use Rattle.dm_token.specs.declared.token.CToken.{CToken};
 ghost use Rattle.dm_syn.specs.Trees.{External};
-ghost use Rattle.dm_read.specs.Syntax.{IsSyntax, IsRefusedAt};
+ghost use Rattle.dm_reading.specs.Syntax.{IsSyntax, IsRefusedAt};
 
 /// A unit has at most one syntax.
 pub fn one_syntax()

@@ -2,8 +2,8 @@ use Rattle.std.proofs.Common.{◌≡◌, List, length}
 use Rattle.dm_token.specs.declared.token.CToken.{CToken}
 use Rattle.dm_syn.specs.Trees.{External}
 use Rattle.dm_pexpr.specs.NameMaps.{NameMap}
-use Rattle.dm_read.proofs.SyntaxLemmas.{Beside, same, first-goes-on, second-goes-on, beside, none-at-the-end}
-use Rattle.dm_read.proofs.laws.one_syntax.Goals as goal
+use Rattle.dm_reading.proofs.SyntaxLemmas.{Beside, same, first-goes-on, second-goes-on, beside, none-at-the-end}
+use Rattle.dm_reading.proofs.laws.one_syntax.Goals as goal
 
 from : (tokens : List CToken) (a b : List External) (known others : NameMap) → Beside tokens a b (length tokens) (length tokens) known others → a ≡ b
 from tokens a b known others (same e f) = e
