@@ -20,7 +20,7 @@ use Rattle.dm_meaning.specs.Programs.{Program, layout, declaration_of}
 use Rattle.dm_meaning.specs.Operations.{Result, of_value, designates, Operand, World, Scene, Did, gives, breaks, ends_with}
 use Rattle.dm_meaning.specs.Running.{Open, first_open, others_open}
 use Rattle.dm_sound.specs.TypedValues.{IsGiven, AreTyped}
-use Rattle.dm_sound.specs.TypedTrees.{IsSoundTable}
+use Rattle.dm_sound.specs.TypedTrees.{IsProper, IsSoundTable}
 
 -- an lvalue designates a place, and another expression gives a value of its type
 abbrev pub IsResult : Layout → Tree → Result → Type 0
@@ -85,3 +85,5 @@ DidFits scene world tree operands (ends_with status) = ⊥
 pub record IsTypedScope (program : Program) : Type 0 where
   pub table : IsSoundTable program.table
   pub entries : (d : ℕ) (entry : Declaration) → declaration_of program d ≡ Some entry → IsEntry entry
+  -- as those of a table are
+  pub proper : (d : ℕ) (entry : Declaration) → declaration_of program d ≡ Some entry → IsProper entry.kind
