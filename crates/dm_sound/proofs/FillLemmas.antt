@@ -12,14 +12,16 @@ use Rattle.dm_tree.specs.Scenes.{Scene, is_scalar, part_type, member_type}
 use Rattle.dm_tree.specs.Trees.{literal, Tree, node, listed, kind_of, Declarator, Initialiser, Initialisers, one_expression, in_braces, no_items, more_items, expressions_in, expressions_in_items}
 use Rattle.dm_tree.specs.Units.{Declaration}
 use Rattle.dm_meaning.specs.Objects.{Field, object_of, outside, reached_member, element, inner_type, unqualified, is_array}
+use Rattle.dm_meaning.specs.Causes.{is_unset}
 use Rattle.dm_meaning.specs.Programs.{Program, layout, declaration_of}
 use Rattle.dm_meaning.specs.Operations.{of_value, designates}
 use Rattle.dm_meaning.specs.Statements.{array_of, characters_at, expressions_of, kind_declared, with_expressions}
 use Rattle.dm_meaning.proofs.OptionLemmas.{none_is_some, some_is_some, bound_some, mapped_some}
-use Rattle.dm_sound.specs.TypedValues.{own_type, has_parts, HasType}
+use Rattle.dm_sound.specs.TypedValues.{own_type, has_parts, has_values, HasType}
 use Rattle.dm_sound.specs.TypedTrees.{IsProper, IsSoundTable, scene_in}
 use Rattle.dm_sound.specs.TypedStates.{Gives, Fills, FillParts, FillsIfThere, AllAreTyped}
 use Rattle.dm_sound.proofs.ValueLemmas.{own_bare, has_own, has_like, covered_like, back_like}
+use Rattle.dm_sound.proofs.GivenLemmas.{like_values, scalar_values}
 use Rattle.dm_sound.proofs.OperateLemmas.{value_no_lvalue}
 use Rattle.dm_sound.proofs.ComeLemmas.{typed_parts}
 use Rattle.dm_sound.proofs.ListedLemmas.{text_has}
@@ -220,13 +222,15 @@ module _ (program : Program) (sound : IsSoundTable program.table) where
       let like = array_like type (Some many) kind e p in
       let char = character_kind (integer_kind type) h.0 in
       let inner = integer_back like.0 char.0 like.3 (sym like.2 ∙ integer_by type char.0 char.1) in
-      subst (λ (t : CType). HasType (layout program) t (array_of t (characters_at at.name))) (sym like.1) (text_has (layout program) like.0 char.0 inner many at.name)
+      subst (λ (t : CType). HasType (layout program) t (array_of t (characters_at at.name)) × (is_unset (array_of t (characters_at at.name)) ≡ false)) (sym like.1) (text_has (layout program) like.0 char.0 inner many at.name, refl)
   gives scene fixed (array type (Some many)) (node label k spans parts) kind e p h given g = absurd (false≢true h.1)
   gives scene fixed type tree kind e p h (of_value value) g =
       let plain = scalar_plain type h.1 in
       let same : own_type (bare type) ≡ own_type kind = own_bare type ∙ plain_own type plain ∙ e ∙ sym (plain_own kind (ap is_array (sym e) ∙ plain)) in
-      has_own (layout program) (bare type) kind same value
-      (has_like (layout program) (kind_of tree) (bare type) (back_like (own_type (bare type)) (own_type (kind_of tree)) (covered_like (bare type) (kind_of tree) h.2 g.1.whole)) value g.1.typed)
+      let like = covered_like (bare type) (kind_of tree) h.2 g.1.whole in (
+        has_own (layout program) (bare type) kind same value (has_like (layout program) (kind_of tree) (bare type) (back_like (own_type (bare type)) (own_type (kind_of tree)) like) value g.1.typed),
+        g.1.set (like_values (own_type (bare type)) (own_type (kind_of tree)) like (ap has_values (own_bare type) ∙ scalar_values type h.1)),
+      )
   gives scene fixed type tree kind e p h (designates at) g = absurd (false≢true (ap not (sym g) ∙ value_no_lvalue tree h.0))
 
   -- ---- initialisers

@@ -22,3 +22,4 @@ pub mod StaticLemmas
 pub mod BeginLemmas
 pub mod ProperLemmas
 pub mod RunningLemmas
+pub mod SetLemmas

@@ -247,7 +247,7 @@ module _ (program : Program) (sound : IsTypedProgram program) (fills : (result :
       -- ---- expressions
 
       moved_typed : (rest : List Task) (place : Place) (use_of : Use) (tree : Tree) → TasksFit program memory result rest → IsTyped program result tree → UseFits program memory result tree use_of
-          → (m : Move Run Hole) → MoveFits program tree m → MoveKeeps (Keeps memory) (stored_keeps memory) (scene_of program state) state.world [] (keeps_same memory) m → IsTypedState program (moved program names state rest place use_of m)
+          → (m : Move Run Hole) → MoveFits program memory tree m → MoveKeeps (Keeps memory) (stored_keeps memory) (scene_of program state) state.world [] (keeps_same memory) m → IsTypedState program (moved program names state rest place use_of m)
       moved_typed rest place use_of tree waits t u (goes world run) h k = record {
         world = h.0;
         statics = named_later program memory world.memory k state.statics s.statics;
@@ -255,7 +255,7 @@ module _ (program : Program) (sound : IsTypedProgram program) (fills : (result :
           definition = s.frame.definition;
           defined = s.frame.defined;
           named = named_later program memory world.memory k state.frame.objects s.frame.named;
-          tasks = ((tree, t, h.1, use_later program memory world.memory k result tree use_of u), tasks_later program memory world.memory k result rest waits);
+          tasks = ((tree, t, h.2, use_later program memory world.memory k result tree use_of u), tasks_later program memory world.memory k result rest waits);
         };
         callers = callers_later program memory world.memory k state.frame.function state.callers s.callers;
       }

@@ -1,7 +1,7 @@
 -- Trees under evaluation, and the steps of expressions.
 --     ComesFrom layout tree run      the evaluation of a tree has come to this
 --     HoleComesFrom layout tree called hole      so where the part that is left out is a call of this type
---     MoveFits program tree move      what a step of a typed expression does
+--     MoveFits program memory tree move      what a step of a typed expression does
 use Rattle.std.specs.Prelude.{◌≡◌, ◌⊎◌, ℕ, zero, suc, Bool, true, false, not, IsTrue, All, MatchBool, List, [], ◌∷◌, Option, Some, None}
 use Rattle.dm_int.specs.declared.Kind.{Kind}
 use Rattle.dm_type.specs.CTypes.{CType, void, function as function_type, bare}
@@ -14,13 +14,15 @@ use Rattle.dm_tree.specs.Units.{Declaration, External, ExternalForm, declares, d
 use Rattle.dm_meaning.specs.Among.{IsAmong}
 use Rattle.dm_meaning.specs.Values.{Value}
 use Rattle.dm_meaning.specs.Objects.{Layout}
+use Rattle.dm_meaning.specs.Memory.{Memory}
+use Rattle.dm_meaning.specs.Causes.{is_unset}
 use Rattle.dm_meaning.specs.Programs.{Program, Definition, Static, layout, declaration_of, definition_of}
 use Rattle.dm_meaning.specs.Operations.{World}
 use Rattle.dm_meaning.specs.Running.{Doing, evaluates, gives_truth, gives_value, Run, done, to_do, Runs, no_runs, more_runs, begun, Open, every, first_open, others_open, open_of, Hole, here, within, Holes, in_first, in_others}
 use Rattle.dm_meaning.specs.Expressions.{Move, goes, calls, fails, exits}
 use Rattle.dm_meaning.specs.Statements.{type_declared}
 use Rattle.dm_meaning.specs.Units.{AreBytes}
-use Rattle.dm_sound.specs.TypedValues.{HasType, AreTyped}
+use Rattle.dm_sound.specs.TypedValues.{HasType, AreTyped, StaySet}
 use Rattle.dm_sound.specs.TypedTrees.{IsProper, IsProperTree, scene_in}
 use Rattle.dm_sound.specs.TypedSteps.{IsResult, IsTypedScope}
 
@@ -120,23 +122,29 @@ ArgumentsFit program [] [] = Unit {0}
 ArgumentsFit program (d ∷ ds) (value ∷ values) = HasType (layout program) (type_declared program d) value × ArgumentsFit program ds values
 ArgumentsFit program ds values = ⊥
 
--- a function that the program defines is called with an argument for each parameter, and the call has the type of its result, as that was
+-- each of these values was set
+abbrev pub AreGivenValues : List Value → Type 0
+AreGivenValues [] = Unit {0}
+AreGivenValues (value ∷ values) = (is_unset value ≡ false) × AreGivenValues values
+
+-- a function that the program defines is called with an argument for each parameter, which was set, and the call has the type of its result, as that was
 -- known where the call stands (6.5.2.2p1, p5)
 pub record CallFits (program : Program) (f : ℕ) (arguments : List Value) (kind : CType) : Type 0 where
   pub definition : Definition
   pub defined : definition_of program f ≡ Some definition
   pub arguments_fit : ArgumentsFit program definition.parameters arguments
+  pub arguments_set : AreGivenValues arguments
   pub result : CType
   pub gives : kind ≡ bare result
   pub covered : IsTrue (covers (result_of program f) result)
 
 -- What a step of a typed expression does: it leaves a tree to which the evaluation of the same tree has come and each object a value of
--- its type; or it calls a function, whose call is left out; or it is undefined, or ends the program.
-abbrev pub MoveFits : Program → Tree → Move Run Hole → Type 0
-MoveFits program tree (goes world run) = IsTypedWorld program world × ComesFrom (layout program) tree run
-MoveFits program tree (calls f arguments kind hole) = CallFits program f arguments kind × HoleComesFrom (layout program) tree kind hole
-MoveFits program tree (fails cause place) = Unit {0}
-MoveFits program tree (exits status) = Unit {0}
+-- its type, and unsets none; or it calls a function, whose call is left out; or it is undefined, or ends the program.
+abbrev pub MoveFits : Program → Memory → Tree → Move Run Hole → Type 0
+MoveFits program memory tree (goes world run) = IsTypedWorld program world × StaySet memory world.memory × ComesFrom (layout program) tree run
+MoveFits program memory tree (calls f arguments kind hole) = CallFits program f arguments kind × HoleComesFrom (layout program) tree kind hole
+MoveFits program memory tree (fails cause place) = Unit {0}
+MoveFits program memory tree (exits status) = Unit {0}
 
 -- ---- units
 

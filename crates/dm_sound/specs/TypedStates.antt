@@ -10,6 +10,7 @@ use Rattle.dm_tree.specs.Trees.{Tree, Initialiser, Initialisers, one_expression,
 use Rattle.dm_meaning.specs.Values.{At}
 use Rattle.dm_meaning.specs.Objects.{Layout, object_of, element, inner_type}
 use Rattle.dm_meaning.specs.Memory.{Memory, Block, look_up, reached}
+use Rattle.dm_meaning.specs.Causes.{is_unset}
 use Rattle.dm_meaning.specs.Programs.{Program, Definition, layout, definition_of}
 use Rattle.dm_meaning.specs.Operations.{Result, Objects}
 use Rattle.dm_meaning.specs.States.{Loop, Use, drops, chooses, selects, repeats, continues, returns, initialises, Task, begins, declares, initials, evaluates, again, tests, ends, ends_switch, leaves, skips, hands_back, Frame, Caller, State}
@@ -36,9 +37,10 @@ IsPlace laid memory at kind = (fixed : Bool) × (reached laid memory at ≡ obje
 
 -- ---- initialisers (6.7.9)
 
--- what the value of the tree gives an object of this type is a value of the type
+-- what the value of the tree gives an object of this type is a value of the type, and was set
 abbrev pub Gives : Program → CType → Tree → Type 0
-Gives program kind tree = (given : Result) → IsResult (layout program) tree given → HasType (layout program) kind (initial_value kind given)
+Gives program kind tree =
+    (given : Result) → IsResult (layout program) tree given → HasType (layout program) kind (initial_value kind given) × (is_unset (initial_value kind given) ≡ false)
 
 abbrev mutual
   -- The initialiser gives an object of this type, or the parts of it that it names, values of their types; its expressions are those of a

@@ -46,7 +46,7 @@ pub fn operators_give_their_types()
 pub fn expressions_keep_their_types()
     ensures { (scene : Scene) (world : World) (locks : List At) (result : CType) (tree : Tree) (run : Run) (move : Move Run Hole)
         → IsTypedProgram scene.program → IsTypedWorld scene.program world → IsTyped scene.program result tree
-        → ComesFrom (layout scene.program) tree run → IsAmong move (moves scene world locks run) → MoveFits scene.program tree move }
+        → ComesFrom (layout scene.program) tree run → IsAmong move (moves scene world locks run) → MoveFits scene.program world.memory tree move }
 {}
 
 /// Where a step of a typed expression is undefined with the cause `type`, that is so because a place that is designated in it holds an
