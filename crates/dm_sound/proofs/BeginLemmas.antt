@@ -97,7 +97,7 @@ module _ (program : Program) (sound : IsTypedProgram program) where
 
   -- ---- main
 
-  main_there : (functions : List Definition) (main : Definition) → main_in program functions ≡ Some main
+  pub main_there : (functions : List Definition) (main : Definition) → main_in program functions ≡ Some main
       → (definition_in functions main.function ≡ Some main) × (is_main (declaration_of program main.function) ≡ true)
   main_there [] main e = absurd (none_is_some main e)
   main_there (first ∷ functions) main e = by_main (is_main (declaration_of program first.function)) refl e (main_there functions main)
@@ -118,7 +118,7 @@ module _ (program : Program) (sound : IsTypedProgram program) where
           (ap (λ b. if b then Some first else definition_in functions first.function) (same first.function), f)
       by_main false f g later = let found = later g in (by_name (first.function == main.function) refl f found, found.1)
 
-  main_arguments : (n : ℕ) (main : Definition) → (h : IsTypedFunction program main) → is_main (declaration_of program main.function) ≡ true → ArgumentsFit program main.parameters (arguments_for n main.parameters)
+  pub main_arguments : (n : ℕ) (main : Definition) → (h : IsTypedFunction program main) → is_main (declaration_of program main.function) ≡ true → ArgumentsFit program main.parameters (arguments_for n main.parameters)
   main_arguments n main h m = by_type h.entry.kind h.fits.1 (h.fits.2 ((bytes_eq-Decides h.entry.name (codes "main")).0 (ap is_main (sym h.declared) ∙ m))).0
     where
       by_type : (type : CType) → DefinitionFits place main.parameters main.body type → IsTrue (is_main_type type) → ArgumentsFit program main.parameters (arguments_for n main.parameters)
@@ -134,14 +134,14 @@ module _ (program : Program) (sound : IsTypedProgram program) where
   -- ---- objects of static storage duration
 
   module _ (names : ℕ → ℕ) (distinct : (i j : ℕ) → names i ≡ names j → i ≡ j) where
-    zeroed_typed : (i : ℕ) (ds : List ℕ) (memory : Memory) → AreTyped (layout program) memory → AreTyped (layout program) (zeroed_from program names i ds memory)
+    pub zeroed_typed : (i : ℕ) (ds : List ℕ) (memory : Memory) → AreTyped (layout program) memory → AreTyped (layout program) (zeroed_from program names i ds memory)
     zeroed_typed i [] memory typed = typed
     zeroed_typed i (d ∷ ds) memory typed =
         let kind = type_declared program d in
         let one = record (new_block (layout program) kind) { contents = all_zero (layout program) kind } in
         zeroed_typed (suc i) ds ((names i, one) ∷ memory) (typed_added (layout program) (names i) one memory (zero_has program sound.scope.table kind) typed)
 
-    zeroed_given : (i : ℕ) (ds : List ℕ) (objects : Objects) (memory : Memory) (n : ℕ) → n ≡ i + length ds → AreNewFrom program names distinct i memory → AreNamed program memory objects
+    pub zeroed_given : (i : ℕ) (ds : List ℕ) (objects : Objects) (memory : Memory) (n : ℕ) → n ≡ i + length ds → AreNewFrom program names distinct i memory → AreNamed program memory objects
         → AreGiven program names distinct n memory (zeroed_from program names i ds memory) (named_from names i ds objects)
     zeroed_given i [] objects memory n e new h = record { keeps = keeps_same memory; named = h; new = λ j le. new j (omega (arith, e, le)) }
     zeroed_given i (d ∷ ds) objects memory n e new h =
@@ -156,10 +156,10 @@ module _ (program : Program) (sound : IsTypedProgram program) where
 
     module _ (known : Memory) (objects : Objects) (n : ℕ) where
       -- memory is typed, has these objects, and its later names are new
-      record IsReady (memory : Memory) : Type 0 where
-        typed : AreTyped (layout program) memory
-        named : AreNamed program memory objects
-        new : AreNewFrom program names distinct n memory
+      pub record IsReady (memory : Memory) : Type 0 where
+        pub typed : AreTyped (layout program) memory
+        pub named : AreNamed program memory objects
+        pub new : AreNewFrom program names distinct n memory
 
       one_ready : (static : Static) → IsTypedStatic program static → (memory : Memory) → IsReady memory → (o : Option ℕ) → object_named objects static.declared ≡ o → (i : Option Initialiser) → static.initialiser ≡ i
           → IsReady (initialised program objects known static o i memory)
@@ -176,7 +176,7 @@ module _ (program : Program) (sound : IsTypedProgram program) where
             new = new_written n m value memory ready.new;
           }
 
-      all_ready : (statics : List Static) → ((static : Static) → IsAmong static statics → IsTypedStatic program static) → (memory : Memory) → IsReady memory → IsReady (all_initialised program objects known statics memory)
+      pub all_ready : (statics : List Static) → ((static : Static) → IsAmong static statics → IsTypedStatic program static) → (memory : Memory) → IsReady memory → IsReady (all_initialised program objects known statics memory)
       all_ready [] s memory ready = ready
       all_ready (static ∷ statics) s memory ready =
           all_ready statics (λ one a. s one (inr a)) (initialised program objects known static (object_named objects static.declared) static.initialiser memory)
@@ -186,7 +186,7 @@ module _ (program : Program) (sound : IsTypedProgram program) where
   numbered_all [] = refl
   numbered_all (static ∷ statics) = ap suc (numbered_all statics)
 
-  how_many : (statics : List Static) → length statics ≡ 0 + length (static_numbers statics)
+  pub how_many : (statics : List Static) → length statics ≡ 0 + length (static_numbers statics)
   how_many statics = let e = numbered_all statics in omega (arith, e)
 
   -- ---- the beginning

@@ -17,7 +17,7 @@ use Rattle.dm_sound.proofs.BeginLemmas.{begins_typed}
 use Rattle.dm_sound.proofs.ProperLemmas.{unit_proper}
 use Rattle.dm_sound.proofs.UnitLemmas.{unit_typed}
 
-program_runs_typed : (program : Program) → IsTypedProgram program → (input : List ℕ) (n : ℕ) (state : State) → RunsTo (machine_of program) input n state → IsTypedState program state
+pub program_runs_typed : (program : Program) → IsTypedProgram program → (input : List ℕ) (n : ℕ) (state : State) → RunsTo (machine_of program) input n state → IsTypedState program state
 program_runs_typed program sound input n state run =
     let fills = declares_fill program sound.scope.table sound.scope.proper in
     goes_typed program sound fills n run.start state (begins_typed program sound fills input run.start run.begins) run.goes

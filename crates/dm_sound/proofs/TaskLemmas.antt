@@ -36,7 +36,7 @@ module _ (program : Program) (result : CType) where
   all_listed no_trees h = tt
   all_listed (more_trees first rest) h = (h.0, all_listed rest h.1)
 
-  unlabelled_typed : (tree : Tree) → IsTyped program result tree → IsTyped program result (unlabelled tree)
+  pub unlabelled_typed : (tree : Tree) → IsTyped program result tree → IsTyped program result (unlabelled tree)
   unlabelled_typed (node case kind spans (more_trees value (more_trees statement rest))) h = unlabelled_typed statement (typed_parts program result case kind spans (more_trees value (more_trees statement rest)) h).1.0
   unlabelled_typed (node default kind spans (more_trees statement rest)) h = unlabelled_typed statement (typed_parts program result default kind spans (more_trees statement rest) h).0
   unlabelled_typed tree h = h
@@ -76,7 +76,7 @@ module _ (program : Program) (result : CType) where
       by_test_of true f later = subst (λ (p : Option (List Tree)). AllAreTyped program result (or_items p others)) f h
       by_test_of false f later = subst (λ (p : Option (List Tree)). AllAreTyped program result (or_items p others)) f later
 
-  selected_typed : (value : Value) (items : List Tree) → AllAreTyped program result items → AllAreTyped program result (selected_by program value items)
+  pub selected_typed : (value : Value) (items : List Tree) → AllAreTyped program result items → AllAreTyped program result (selected_by program value items)
   selected_typed (integer_value kind z) items h =
       first_typed (has_case program z) items h (from_first (has_case program z) items) refl (or_items (from_first has_default items) [])
       (first_typed has_default items h (from_first has_default items) refl [] tt)
