@@ -5,7 +5,8 @@ mod examples;
 mod laws;
 
 pub use examples::{
-    typed_argument, typed_counting, typed_list, typed_negation, typed_state, typed_unit,
+    typed_argument, typed_beginning, typed_counting, typed_list, typed_negation, typed_run,
+    typed_state, typed_unit,
 };
 pub use laws::{
     calls_give_their_types, calls_keep_objects_typed, ends_keep_objects_typed, evaluations_begin,
