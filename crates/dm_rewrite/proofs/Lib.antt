@@ -16,6 +16,8 @@ mod NamedStatementLemmas
 mod NamedSizeLemmas
 mod NamedStateLemmas
 mod NamedRefineLemmas
+mod NamedStaticLemmas
 mod NamedStartLemmas
+mod NamedUnitLemmas
 mod NamedExample
 mod CountExample
