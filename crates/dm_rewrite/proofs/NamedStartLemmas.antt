@@ -7,7 +7,7 @@ use Rattle.dm_meaning.specs.Refinement.{Refines}
 use Rattle.dm_meaning.specs.Simulation.{IsSimulation, simulated}
 use Rattle.dm_meaning.specs.Values.{Value}
 use Rattle.dm_meaning.specs.Objects.{all_zero}
-use Rattle.dm_meaning.specs.Memory.{Memory, Block, look_up, new_block, IsFresh}
+use Rattle.dm_meaning.specs.Memory.{Memory, Block, look_up, new_block}
 use Rattle.dm_meaning.specs.Programs.{Definition, Program, layout, declaration_of}
 use Rattle.dm_meaning.specs.States.{State}
 use Rattle.dm_meaning.specs.Statements.{declared_in, made_from, named_from}
@@ -17,7 +17,7 @@ use Rattle.dm_meaning.specs.Extending.{HasAll}
 use Rattle.dm_meaning.specs.MoreObjects.{with_memory}
 use Rattle.dm_meaning.specs.Replaced.{Zipped}
 use Rattle.dm_meaning.proofs.OptionLemmas.{none_is_some, some_is_some}
-use Rattle.dm_meaning.proofs.GrowLemmas.{equal_of, look_added}
+use Rattle.dm_meaning.proofs.GrowLemmas.{equal_of}
 use Rattle.dm_meaning.proofs.RunLemmas.{OptionAgrees}
 use Rattle.dm_meaning.proofs.PassStatementLemmas.{IsSmall, main_small}
 use Rattle.dm_meaning.proofs.SpareStateLemmas.{settled_beginnings}

@@ -1,18 +1,18 @@
 -- How a run begins where the new program has one object of static storage duration more: it takes a name of its own, and all other objects
 -- are those of the old program, which takes the other names in order.
 use Rattle.std.specs.Prelude.{◌≡◌, refl, ℕ, suc, ◌+◌, ◌<◌, ◌≤◌, ◌==◌, nat_lt, Bool, true, false, List, [], ◌∷◌, ◌++◌, length, take, drop, Option, Some, None, option_map, option_and_then, slice_get, ℤ, if◌then◌else◌}
-use Rattle.std.proofs.Common.{arith, ap, sym, ◌∙◌, subst}
+use Rattle.std.proofs.Common.{arith, ap, sym, ◌∙◌, subst, inl, inr}
 use Rattle.dm_int.specs.declared.Op.{Op}
 use Rattle.dm_int.specs.Kinds as kinds
 use Rattle.dm_type.specs.CTypes.{CType, void, integer, pointer, array, struct, function as function_type, const, bare}
 use Rattle.dm_tree.specs.declared.unit.Sort.{Sort}
 use Rattle.dm_tree.specs.Constants.{is_constant_form, constant_forms, has_constant_form, kinds_in, constant_value, constant_values, value_at, value_if_enumerator, enumerator_value}
-use Rattle.dm_tree.specs.Trees.{Label, enumerator, literal, object, member, decay, address, follow, convert, binary, sizeof_tree, Spans, Initialiser, Initialisers, one_expression, in_braces, no_items, more_items, expressions_in, Tree, Trees, node, no_trees, more_trees, kind_of, listed}
+use Rattle.dm_tree.specs.Trees.{Label, enumerator, literal, object, member, decay, address, follow, convert, binary, sizeof_tree, Initialiser, Initialisers, one_expression, in_braces, no_items, more_items, expressions_in, Tree, Trees, node, no_trees, more_trees, kind_of, listed}
 use Rattle.dm_tree.specs.Units.{Declaration}
-use Rattle.dm_meaning.specs.Values.{Name, numbered, literal_of, elsewhere, Pointer, null, to, Value, integer_value, pointer_value, values, parts_in, parts as compound}
+use Rattle.dm_meaning.specs.Values.{Name, numbered, literal_of, elsewhere, Pointer, null, to, integer_value, pointer_value, values, parts_in, parts as compound}
 use Rattle.dm_meaning.specs.Objects.{inner_type, all_zero}
 use Rattle.dm_meaning.specs.Memory.{Memory, Block, look_up, look, new_block, changed_block, written, IsFresh}
-use Rattle.dm_meaning.specs.Causes.{moved_pointer, pointer_along, path_moved}
+use Rattle.dm_meaning.specs.Causes.{pointer_along, path_moved}
 use Rattle.dm_meaning.specs.Programs.{Static, Program, layout, declaration_of, constant_of}
 use Rattle.dm_meaning.specs.Operations.{Objects, object_named, whole, move_of, or_zero}
 use Rattle.dm_meaning.specs.Statements.{type_declared, named_from, count_items, array_of}
@@ -123,13 +123,13 @@ module _ (program : Program) (objects : Objects) (memory : Memory) (n : ℕ) (na
 
   plus_avoids : (op : Op) (kind : CType) (trees : List Tree) (ps : List Pointer) → AllAvoid n ps → PointerAvoids n (address_plus program memory op kind trees ps)
   plus_avoids op kind (left ∷ right ∷ []) ps h =
-      by_bool (is_pointer (kind_of left))
+      by_bool (is_pointer (kind_of left)) _ _
       (moved_avoids kind (first_pointer ps) (move_of op (or_zero (constant_of program right))) (first_avoids n ps h))
       (moved_avoids kind (second_pointer ps) (or_zero (constant_of program left)) (second_avoids n ps h))
     where
-      by_bool : (b : Bool) {p q : Pointer} → PointerAvoids n p → PointerAvoids n q → PointerAvoids n (if b then p else q)
-      by_bool true g k = g
-      by_bool false g k = k
+      by_bool : (b : Bool) (p q : Pointer) → PointerAvoids n p → PointerAvoids n q → PointerAvoids n (if b then p else q)
+      by_bool true p q g k = g
+      by_bool false p q g k = k
   plus_avoids op kind trees ps h = tt
 
   name_avoids : (o : Option ℕ) (identifier : List ℕ) → ((m : ℕ) → o ≡ Some m → m ≡ n → ⊥) → name_of o identifier ≡ numbered n → ⊥
@@ -206,18 +206,18 @@ module _ (change : Named) (naming : IsNaming change) where
   renamed_kinds (more_trees first rest) (more_trees other others) h =
       ap (λ k. k ∷ kinds_in rest) (renamed_kind first other h.0) ∙ ap (λ l. kind_of other ∷ l) (renamed_kinds rest others h.1)
 
-  form_label : (label : Label) (kind : CType) (passes others : List Bool) {A B : Type 0} → IfSizeof label A B → (B → passes ≡ others)
+  form_label : (label : Label) (kind : CType) (passes others : List Bool) (A B : Type 0) → IfSizeof label A B → (B → passes ≡ others)
       → has_constant_form (relabelled change.rename label) kind passes ≡ has_constant_form label kind others
-  form_label sizeof_tree kind passes others h same = refl
-  form_label (enumerator d) kind passes others h same = refl
-  form_label label kind passes others h same = ap (has_constant_form label kind) (same h)
+  form_label sizeof_tree kind passes others A B h same = refl
+  form_label (enumerator d) kind passes others A B h same = refl
+  form_label label kind passes others A B h same = ap (has_constant_form label kind) (same h)
 
   mutual
     renamed_form : (tree other : Tree) → IsRenamed change tree other → is_constant_form tree ≡ is_constant_form other
     renamed_form (node label kind spans parts) (node other other_kind other_spans others) h =
         ap (λ l. has_constant_form l kind (constant_forms parts)) h.0
         ∙ ap (λ k. has_constant_form (relabelled change.rename other) k (constant_forms parts)) h.1
-        ∙ form_label other other_kind (constant_forms parts) (constant_forms others) h.2 (λ k. renamed_forms parts others k)
+        ∙ form_label other other_kind (constant_forms parts) (constant_forms others) _ _ h.2 (λ k. renamed_forms parts others k)
 
     renamed_forms : (trees others : Trees) → AreRenamed change trees others → constant_forms trees ≡ constant_forms others
     renamed_forms no_trees no_trees h = refl
@@ -232,13 +232,13 @@ module _ (change : Named) (naming : IsNaming change) where
   size_at declared kind (x ∷ []) values others = refl
   size_at declared kind (x ∷ y ∷ rest) values others = refl
 
-  value_label : (label : Label) (kind : CType) (kinds other_kinds : List CType) (values others : List (Option ℤ)) {A B : Type 0} → IfSizeof label A B
+  value_label : (label : Label) (kind : CType) (kinds other_kinds : List CType) (values others : List (Option ℤ)) (A B : Type 0) → IfSizeof label A B
       → (A → kinds ≡ other_kinds) → (B → kinds ≡ other_kinds) → (B → values ≡ others)
       → value_at change.old.table change.declared (relabelled change.rename label) kind kinds values ≡ value_at change.old.table change.old.declared label kind other_kinds others
-  value_label sizeof_tree kind kinds other_kinds values others h a b c =
+  value_label sizeof_tree kind kinds other_kinds values others A B h a b c =
       ap (λ ks. value_at change.old.table change.declared sizeof_tree kind ks values) (a h) ∙ size_at change.declared kind other_kinds values others
-  value_label (enumerator d) kind kinds other_kinds values others h a b c = same_value d
-  value_label label kind kinds other_kinds values others h a b c =
+  value_label (enumerator d) kind kinds other_kinds values others A B h a b c = same_value d
+  value_label label kind kinds other_kinds values others A B h a b c =
       ap (λ ks. value_at change.old.table change.declared label kind ks values) (b h) ∙ ap (value_at change.old.table change.declared label kind other_kinds) (c h)
 
   mutual
@@ -246,7 +246,7 @@ module _ (change : Named) (naming : IsNaming change) where
     renamed_value (node label kind spans parts) (node other other_kind other_spans others) h =
         ap (λ l. value_at change.old.table change.declared l kind (kinds_in parts) (constant_values change.old.table change.declared parts)) h.0
         ∙ ap (λ k. value_at change.old.table change.declared (relabelled change.rename other) k (kinds_in parts) (constant_values change.old.table change.declared parts)) h.1
-        ∙ value_label other other_kind (kinds_in parts) (kinds_in others) (constant_values change.old.table change.declared parts) (constant_values change.old.table change.old.declared others) h.2
+        ∙ value_label other other_kind (kinds_in parts) (kinds_in others) (constant_values change.old.table change.declared parts) (constant_values change.old.table change.old.declared others) _ _ h.2
         (agreeing_kinds parts others) (renamed_kinds parts others) (λ k. renamed_values parts others k)
 
     renamed_values : (trees others : Trees) → AreRenamed change trees others → constant_values change.old.table change.declared trees ≡ constant_values change.old.table change.old.declared others
@@ -310,25 +310,25 @@ module _ (change : Named) (naming : IsNaming change) where
     plus_alike op kind (x ∷ x' ∷ x'' ∷ xs) (y ∷ y' ∷ []) ps h a = absurd h.1.1
     plus_alike op kind (x ∷ x' ∷ x'' ∷ xs) (y ∷ y' ∷ y'' ∷ ys) ps h a = refl
 
-    by_label : (label : Label) (kind : CType) (trees others : List Tree) (ps qs : List Pointer) {A B : Type 0} → IfSizeof label A B → (B → Zipped (IsRenamed change) trees others)
+    by_label : (label : Label) (kind : CType) (trees others : List Tree) (ps qs : List Pointer) (A B : Type 0) → IfSizeof label A B → (B → Zipped (IsRenamed change) trees others)
         → (B → ps ≡ qs) → AllAvoid n qs → address_by (new_of change) news more (relabelled change.rename label) kind trees ps ≡ address_by change.old objects memory label kind others qs
-    by_label (object d) kind trees others ps qs h zipped same a =
+    by_label (object d) kind trees others ps qs A B h zipped same a =
         ap (λ o. to (whole (name_of o (identifier_of (declaration_of (new_of change) (change.rename d)))))) (alike d)
         ∙ ap (λ i. to (whole (name_of (object_named objects d) i))) (same_identifier d)
-    by_label (binary op) kind trees others ps qs h zipped same a = ap (address_plus (new_of change) more op kind trees) (same h) ∙ plus_alike op kind trees others qs (zipped h) a
-    by_label (member k) kind trees others ps qs h zipped same a = ap (λ ps. pointer_into (first_pointer ps) k) (same h)
-    by_label decay kind trees others ps qs h zipped same a = ap (λ ps. pointer_into (first_pointer ps) 0) (same h)
-    by_label convert kind trees others ps qs h zipped same a = ap first_pointer (same h)
-    by_label address kind trees others ps qs h zipped same a = ap first_pointer (same h)
-    by_label follow kind trees others ps qs h zipped same a = ap first_pointer (same h)
-    by_label label kind trees others ps qs h zipped same a = refl
+    by_label (binary op) kind trees others ps qs A B h zipped same a = ap (address_plus (new_of change) more op kind trees) (same h) ∙ plus_alike op kind trees others qs (zipped h) a
+    by_label (member k) kind trees others ps qs A B h zipped same a = ap (λ ps. pointer_into (first_pointer ps) k) (same h)
+    by_label decay kind trees others ps qs A B h zipped same a = ap (λ ps. pointer_into (first_pointer ps) 0) (same h)
+    by_label convert kind trees others ps qs A B h zipped same a = ap first_pointer (same h)
+    by_label address kind trees others ps qs A B h zipped same a = ap first_pointer (same h)
+    by_label follow kind trees others ps qs A B h zipped same a = ap first_pointer (same h)
+    by_label label kind trees others ps qs A B h zipped same a = refl
 
     mutual
       address_alike : (tree other : Tree) → IsRenamed change tree other → address_of (new_of change) news more tree ≡ address_of change.old objects memory other
       address_alike (node label kind spans parts) (node other other_kind other_spans others) h =
           ap (λ l. address_by (new_of change) news more l kind (listed parts) (addresses_of (new_of change) news more parts)) h.0
           ∙ ap (λ k. address_by (new_of change) news more (relabelled change.rename other) k (listed parts) (addresses_of (new_of change) news more parts)) h.1
-          ∙ by_label other other_kind (listed parts) (listed others) (addresses_of (new_of change) news more parts) (addresses_of change.old objects memory others) h.2
+          ∙ by_label other other_kind (listed parts) (listed others) (addresses_of (new_of change) news more parts) (addresses_of change.old objects memory others) _ _ h.2
           (listed_renamed parts others) (λ k. addresses_alike parts others k) (addresses_avoid change.old objects memory n others_named others)
 
       addresses_alike : (trees others : Trees) → AreRenamed change trees others → addresses_of (new_of change) news more trees ≡ addresses_of change.old objects memory others
@@ -416,18 +416,18 @@ module _ (change : Named) (naming : IsNaming change) where
     -- the added object
     own_initialised : (static : Static) → IsAddedObject change static → object_named news change.added ≡ Some n → (block : Block) (news_memory old_memory : Memory) → IsBeside n block news_memory old_memory
         → IsBeside n (record block { contents = integer_value change.kind change.value }) (initialised (new_of change) news more static (object_named news static.declared) static.initialiser news_memory) old_memory
-    own_initialised static object named block news_memory old_memory now =
+    own_initialised static it named block news_memory old_memory now =
         let first_value = static_value (new_of change) news more (type_declared (new_of change) static.declared) one_expression static.expressions in
         let is : first_value ≡ integer_value change.kind change.value =
-        ap (λ d. static_value (new_of change) news more (type_declared (new_of change) d) one_expression static.expressions) object.declared
-        ∙ ap (λ k. static_value (new_of change) news more k one_expression static.expressions) object.kind
-        ∙ ap (static_one (new_of change) news more (const (integer change.kind))) object.expressions
-        ∙ ap (λ o. integer_value change.kind (kinds.convert change.kind (number_or o (address_of (new_of change) news more object.tree)))) object.constant
-        ∙ ap (integer_value change.kind) object.converted in
+        ap (λ d. static_value (new_of change) news more (type_declared (new_of change) d) one_expression static.expressions) it.declared
+        ∙ ap (λ k. static_value (new_of change) news more k one_expression static.expressions) it.kind
+        ∙ ap (static_one (new_of change) news more (const (integer change.kind))) it.expressions
+        ∙ ap (λ o. integer_value change.kind (kinds.convert change.kind (number_or o (address_of (new_of change) news more it.tree)))) it.constant
+        ∙ ap (integer_value change.kind) it.converted in
         subst (λ o. IsBeside n (record block { contents = integer_value change.kind change.value }) (initialised (new_of change) news more static o static.initialiser news_memory) old_memory)
-        (sym (ap (object_named news) object.declared ∙ named))
+        (sym (ap (object_named news) it.declared ∙ named))
         (subst (λ i. IsBeside n (record block { contents = integer_value change.kind change.value }) (initialised (new_of change) news more static (Some n) i news_memory) old_memory)
-        (sym object.initialiser)
+        (sym it.initialiser)
         (subst (λ v. IsBeside n (record block { contents = integer_value change.kind change.value }) (written news_memory (whole (numbered n)) v) old_memory) (sym is)
         (beside_own n block news_memory old_memory now (λ block. record block { contents = integer_value change.kind change.value }))))
 
@@ -436,11 +436,11 @@ module _ (change : Named) (naming : IsNaming change) where
         → Zipped (StaticAgrees change) (before ++ behind) others → (block : Block) (news_memory old_memory : Memory) → IsBeside n block news_memory old_memory
         → IsBeside n (record block { contents = integer_value change.kind change.value }) (all_initialised (new_of change) news more (before ++ added ∷ behind) news_memory)
         (all_initialised change.old objects memory others old_memory)
-    all_beside [] behind added others object named h block news_memory old_memory now =
-        rest_initialised (record block { contents = integer_value change.kind change.value }) behind others h _ old_memory (own_initialised added object named block news_memory old_memory now)
-    all_beside (static ∷ before) behind added [] object named h block news_memory old_memory now = absurd h
-    all_beside (static ∷ before) behind added (other ∷ others) object named h block news_memory old_memory now =
-        all_beside before behind added others object named h.1 block _ _ (initialised_beside block static other h.0 news_memory old_memory now)
+    all_beside [] behind added others it named h block news_memory old_memory now =
+        rest_initialised (record block { contents = integer_value change.kind change.value }) behind others h _ old_memory (own_initialised added it named block news_memory old_memory now)
+    all_beside (static ∷ before) behind added [] it named h block news_memory old_memory now = absurd h
+    all_beside (static ∷ before) behind added (other ∷ others) it named h block news_memory old_memory now =
+        all_beside before behind added others it named h.1 block _ _ (initialised_beside block static other h.0 news_memory old_memory now)
 
 -- ---- names
 
@@ -580,14 +580,14 @@ module _ (change : Named) (naming : IsNaming change) (adds : AddsObject change) 
   named_all : (before behind : List Static) (added : Static) (others : List Static) → IsAddedObject change added → Zipped (StaticAgrees change) (before ++ behind) others
       → (i : ℕ) → i + length before ≡ place → (news objects : Objects) → ((d : ℕ) → object_named news (change.rename d) ≡ object_named objects d)
       → NameAlike change number (named_from names i (static_numbers (before ++ added ∷ behind)) news) (named_from old_names i (static_numbers others) objects)
-  named_all [] behind added others object h i at news objects now =
-      named_behind behind others h i (omega (arith, at)) _ _ (alike_added news objects now added.declared (names i) object.declared (ap names (here at)))
+  named_all [] behind added others it h i at news objects now =
+      named_behind behind others h i (omega (arith, at)) _ _ (alike_added news objects now added.declared (names i) it.declared (ap names (here at)))
     where
       here : i + 0 ≡ place → i ≡ place
       here e = omega (arith, e)
-  named_all (static ∷ before) behind added [] object h i at news objects now = absurd h
-  named_all (static ∷ before) behind added (other ∷ others) object h i at news objects now =
-      named_all before behind added others object h.1 (suc i) (next (length before) at) _ _
+  named_all (static ∷ before) behind added [] it h i at news objects now = absurd h
+  named_all (static ∷ before) behind added (other ∷ others) it h i at news objects now =
+      named_all before behind added others it h.1 (suc i) (next (length before) at) _ _
       (same_one news objects now static.declared other.declared (names i) (old_names i) h.0.0 (sym (without_below names place i (nearer (length before) at))))
     where
       next : (m : ℕ) → i + suc m ≡ place → suc i + m ≡ place
@@ -599,11 +599,11 @@ module _ (change : Named) (naming : IsNaming change) (adds : AddsObject change) 
   names_others : (ds : List ℕ) (i : ℕ) (objects : Objects) → ((d m : ℕ) → object_named objects d ≡ Some m → m ≡ number → ⊥)
       → (d m : ℕ) → object_named (named_from old_names i ds objects) d ≡ Some m → m ≡ number → ⊥
   names_others [] i objects h = h
-  names_others (c ∷ cs) i objects h = names_others cs (suc i) ((c, old_names i) ∷ objects) (λ d. by_bool (c == d) (h d))
+  names_others (c ∷ cs) i objects h = names_others cs (suc i) ((c, old_names i) ∷ objects) (λ d. by_bool (c == d) (object_named objects d) (h d))
     where
-      by_bool : (b : Bool) {o : Option ℕ} → ((m : ℕ) → o ≡ Some m → m ≡ number → ⊥) → (m : ℕ) → (if b then Some (old_names i) else o) ≡ Some m → m ≡ number → ⊥
-      by_bool true k m e f = old_apart i (some_is_some (old_names i) m e ∙ f)
-      by_bool false k m e f = k m e f
+      by_bool : (b : Bool) (o : Option ℕ) → ((m : ℕ) → o ≡ Some m → m ≡ number → ⊥) → (m : ℕ) → (if b then Some (old_names i) else o) ≡ Some m → m ≡ number → ⊥
+      by_bool true o k m e f = old_apart i (some_is_some (old_names i) m e ∙ f)
+      by_bool false o k m e f = k m e f
 
   -- ---- memory
 
@@ -628,17 +628,17 @@ module _ (change : Named) (naming : IsNaming change) (adds : AddsObject change) 
   zeroed_all : (before behind : List Static) (added : Static) (others : List Static) → IsAddedObject change added → Zipped (StaticAgrees change) (before ++ behind) others
       → (i : ℕ) → i + length before ≡ place → (more memory : Memory) → IsSame number more memory
       → IsBeside number zeroed (zeroed_from (new_of change) names i (static_numbers (before ++ added ∷ behind)) more) (zeroed_from change.old old_names i (static_numbers others) memory)
-  zeroed_all [] behind added others object h i at more memory now =
+  zeroed_all [] behind added others it h i at more memory now =
       zeroed_behind behind others h i (omega (arith, at)) _ _
       (subst (λ n. IsBeside number zeroed ((n, zeroed_block (type_declared (new_of change) added.declared)) ∷ more) memory) (sym (ap names (here at)))
-      (subst (λ kind. IsBeside number zeroed ((number, zeroed_block kind) ∷ more) memory) (sym (ap (type_declared (new_of change)) object.declared ∙ object.kind))
+      (subst (λ kind. IsBeside number zeroed ((number, zeroed_block kind) ∷ more) memory) (sym (ap (type_declared (new_of change)) it.declared ∙ it.kind))
       (beside_itself number zeroed more memory now)))
     where
       here : i + 0 ≡ place → i ≡ place
       here e = omega (arith, e)
-  zeroed_all (static ∷ before) behind added [] object h i at more memory now = absurd h
-  zeroed_all (static ∷ before) behind added (other ∷ others) object h i at more memory now =
-      zeroed_all before behind added others object h.1 (suc i) (next (length before) at) _ _
+  zeroed_all (static ∷ before) behind added [] it h i at more memory now = absurd h
+  zeroed_all (static ∷ before) behind added (other ∷ others) it h i at more memory now =
+      zeroed_all before behind added others it h.1 (suc i) (next (length before) at) _ _
       (same_added number more memory now (names i) (old_names i) _ _ (sym (without_below names place i (nearer (length before) at))) (same_block static other h.0) (old_apart i))
     where
       next : (m : ℕ) → i + suc m ≡ place → suc i + m ≡ place
@@ -688,10 +688,13 @@ module _ (change : Named) (naming : IsNaming change) (adds : AddsObject change) 
     fresh = old_fresh;
     named = subst (λ ss. NameAlike change number (new_objects ss) old_objects) (sym adds.statics) alike_all;
     memory = memory_all change.statics adds.statics;
-    later = λ i. ap (λ n. names (n + i)) counted ∙ sym (without_beyond names place (length change.old.statics + i) (further i far));
+    later = λ i. ap (λ n. names (n + i)) counted ∙ ap names (one_further (length change.old.statics) i) ∙ sym (without_beyond names place (length change.old.statics + i) (further i far));
     apart = λ i e. never i (fresh.0 (length change.statics + i) place e) counted far;
   }
     where
+      one_further : (m i : ℕ) → suc m + i ≡ suc (m + i)
+      one_further m i = omega arith
+
       further : (i : ℕ) → place ≤ length change.old.statics → place ≤ length change.old.statics + i
       further i h = omega (arith, h)
 

@@ -9,7 +9,7 @@ use Rattle.dm_tree.specs.Constants.{constant_forms}
 use Rattle.dm_tree.specs.Trees.{Label, enumerator, block, declare, full, empty, if_statement, switch, case, default, while_loop, do_loop, for_loop, break, continue, return, is_statement, Declarator, Tree, Trees, node, no_trees, more_trees, label_of, trees_of, listed}
 use Rattle.dm_tree.specs.Units.{Declaration, External, ExternalForm, declares, defines_function, TypedUnit}
 use Rattle.dm_meaning.specs.Refinement.{Refines}
-use Rattle.dm_meaning.specs.Programs.{Static, declaration_at, declaration_of}
+use Rattle.dm_meaning.specs.Programs.{Static, declaration_at}
 use Rattle.dm_meaning.specs.Statements.{Local, with_expressions, expressions_of, kind_declared}
 use Rattle.dm_meaning.specs.Units.{is_static_sort, is_static_declaration, is_static, locals_by, locals_in, locals_in_all, locals_of, all_locals, with_initialiser, with_static, statics_from, definitions_by, definitions_in, program_of, machine_of}
 use Rattle.dm_meaning.specs.Replaced.{renamed_declarator, relabelled, Zipped, facts_of}
@@ -18,8 +18,8 @@ use Rattle.dm_meaning.proofs.GrowLemmas.{differ_is}
 use Rattle.dm_meaning.proofs.RunLemmas.{same_renamed}
 use Rattle.dm_meaning.proofs.StatementLemmas.{zipped_append, zipped_take, zipped_drop}
 use Rattle.dm_meaning.proofs.YieldLemmas.{may_give}
-use Rattle.dm_rewrite.specs.NamedConstants.{Named, new_of, Agrees, AllAgree, DefinitionAgrees, IsRenamed, StaticAgrees}
-use Rattle.dm_rewrite.specs.NamedUnits.{change_of, SameIfStatic, FormAgrees, ExternalAgrees, IsAddedDeclaration, IsUnitNaming}
+use Rattle.dm_rewrite.specs.NamedConstants.{Named, Agrees, AllAgree, DefinitionAgrees, IsRenamed, StaticAgrees}
+use Rattle.dm_rewrite.specs.NamedUnits.{change_of, SameIfStatic, FormAgrees, ExternalAgrees, IsUnitNaming}
 use Rattle.dm_rewrite.proofs.NamedSizeLemmas.{constant_gives}
 use Rattle.dm_rewrite.proofs.NamedStartLemmas.{named_constants_refine}
 
@@ -335,6 +335,15 @@ module _ (change : Named) (injective : (c d : ℕ) → change.rename c ≡ chang
 pub named_units_refine : (table : Table) (new old : TypedUnit) (rename : ℕ → ℕ) (added : ℕ) (kind : Kind) (value : ℤ) → IsUnitNaming table new old rename added kind value
     → Refines (machine_of (program_of table new)) (machine_of (program_of table old))
 named_units_refine table new old rename added kind value h =
+    let change = change_of table new old rename added kind value in
+    let local : Local = record { declarator = h.declaration.declarator; expressions = take (expressions_of h.declaration.declarator.initialiser) (h.declaration.tree ∷ []) } in
+    let is_static_here : is_static new.declared local ≡ true =
+    ap (λ b. b && is_static_declaration (declaration_at new.declared h.declaration.declarator.declared)) h.declaration.defines
+    ∙ ap (λ d. is_static_declaration (declaration_at new.declared d)) h.declaration.declared
+    ∙ ap is_static_declaration h.declaration.entry
+    ∙ ap is_static_sort h.declaration.sort in
+    let statics =
+    statics_with_added change h.injective h.apart h.told h.before h.behind h.adds old.externals local (ap locals_of h.declaration.form) h.declaration.declared is_static_here h.others [] [] tt in
     named_constants_refine change
     (record {
       injective = h.injective;
@@ -360,20 +369,3 @@ named_units_refine table new old rename added kind value h =
         converted = h.declaration.converted;
       };
     })
-  where
-    abbrev change : Named
-    change = change_of table new old rename added kind value
-
-    abbrev local : Local
-    local = record { declarator = h.declaration.declarator; expressions = take (expressions_of h.declaration.declarator.initialiser) (h.declaration.tree ∷ []) }
-
-    is_static_here : is_static new.declared local ≡ true
-    is_static_here =
-        ap (λ b. b && is_static_declaration (declaration_at new.declared h.declaration.declarator.declared)) h.declaration.defines
-        ∙ ap (λ d. is_static_declaration (declaration_at new.declared d)) h.declaration.declared
-        ∙ ap is_static_declaration h.declaration.entry
-        ∙ ap is_static_sort h.declaration.sort
-
-    abbrev statics : HasAdded change h.injective h.apart h.told (static_of local) (statics_from new.declared (all_locals (h.before ++ h.adds ∷ h.behind)) []) (statics_from old.declared (all_locals old.externals) [])
-    statics =
-        statics_with_added change h.injective h.apart h.told h.before h.behind h.adds old.externals local (ap locals_of h.declaration.form) h.declaration.declared is_static_here h.others [] [] tt
