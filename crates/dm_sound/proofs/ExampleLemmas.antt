@@ -27,11 +27,12 @@ use Rattle.dm_meaning.specs.Running.{every}
 use Rattle.dm_meaning.specs.Steps.{Step}
 use Rattle.dm_meaning.proofs.OptionLemmas.{none_is_some, some_is_some}
 use Rattle.dm_sound.specs.TypedValues.{HasType, IsGiven, AreTyped}
+use Rattle.dm_sound.specs.SameTables.{shown_struct, AreSameStructs}
 use Rattle.dm_sound.specs.TypedTrees.{IsProper, IsSoundTable, IsTyped}
 use Rattle.dm_sound.specs.TypedSteps.{AreOperands}
 use Rattle.dm_sound.specs.TypedRuns.{HoleComesFrom, IsProperForm, IsProperUnit, IsTypedProgram, IsTypedWorld}
 use Rattle.dm_sound.specs.TypedStates.{IsTypedState}
-use Rattle.dm_sound.specs.Examples.{somewhere, no_span, spans, main_definition, started, types, core_body, core_unit, core_program, core_started, int, entry, external, unit, main_entry, body, main_external, running_unit, running, beginning, behind, program, counted, name, world_with, operands, negated, negation, two, one_of_two}
+use Rattle.dm_sound.specs.Examples.{one_table, other_table, somewhere, no_span, spans, main_definition, started, types, core_body, core_unit, core_program, core_started, int, entry, external, unit, main_entry, body, main_external, running_unit, running, beginning, behind, program, counted, name, world_with, operands, negated, negation, two, one_of_two}
 use Rattle.dm_sound.proofs.UnitLemmas.{unit_typed}
 
 -- ---- the unit
@@ -202,7 +203,7 @@ void_type = refl
 form_seen : opened_form types (roll-Form (layer.Block [])) ≡ opened block_form []
 form_seen = folds.fold-roll-Form Opened OpenedInitial Tree OpenedLocal (form_layer types) initial_layer (core_layer types) local_layer (layer.Block [])
 
-body_seen : view types core_body ≡ body
+pub body_seen : view types core_body ≡ body
 body_seen =
     folds.fold-roll-Core Opened OpenedInitial Tree OpenedLocal (form_layer types) initial_layer (core_layer types) local_layer (record { form = roll-Form (layer.Block []); kind = 5; inner = no_span; outer = no_span; place = somewhere })
     ∙ ap (λ (form : Opened). node_of form (type_of types 5) no_span no_span somewhere) form_seen ∙ ap (λ (type : CType). node block_form type spans no_trees) void_type
@@ -251,3 +252,13 @@ core_typed = record {
 pub core_run : RunsTo (machine_of core_program) [] 0 core_started
 unfolding Goes
 core_run = record { start = core_started; begins = (nothing _, (λ i. i), ((λ i j e. e), λ i. refl), _, refl, refl); goes = refl }
+
+-- ---- two tables
+
+pub tables_same : AreSameStructs one_table other_table
+unfolding types_of
+tables_same = record { count = refl; same = by_number }
+  where
+    by_number : (number : ℕ) → shown_struct other_table number ≡ shown_struct one_table number
+    by_number zero = refl
+    by_number (suc number) = refl

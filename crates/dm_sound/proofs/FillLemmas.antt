@@ -11,12 +11,14 @@ use Rattle.dm_tree.specs.Initialisers.{also, targets, targets_of_items, is_chara
 use Rattle.dm_tree.specs.Scenes.{Scene, is_scalar, part_type, member_type}
 use Rattle.dm_tree.specs.Trees.{literal, Tree, node, listed, kind_of, Declarator, Initialiser, Initialisers, one_expression, in_braces, no_items, more_items, expressions_in, expressions_in_items}
 use Rattle.dm_tree.specs.Units.{Declaration}
+use Rattle.dm_tree.proofs.ExpressionLemmas.{IsExpression, value-expression}
 use Rattle.dm_meaning.specs.Objects.{Field, object_of, outside, reached_member, element, inner_type, unqualified, is_array}
 use Rattle.dm_meaning.specs.Causes.{is_unset}
 use Rattle.dm_meaning.specs.Programs.{Program, layout, declaration_of}
 use Rattle.dm_meaning.specs.Operations.{of_value, designates}
 use Rattle.dm_meaning.specs.Statements.{array_of, characters_at, expressions_of, kind_declared, with_expressions}
 use Rattle.dm_meaning.proofs.OptionLemmas.{none_is_some, some_is_some, bound_some, mapped_some}
+use Rattle.dm_meaning.proofs.WholeLemmas.{typed-expression}
 use Rattle.dm_sound.specs.TypedValues.{own_type, has_parts, has_values, HasType}
 use Rattle.dm_sound.specs.TypedTrees.{IsProper, IsSoundTable, scene_in}
 use Rattle.dm_sound.specs.TypedStates.{Gives, Fills, FillParts, FillsIfThere, AllAreTyped}
@@ -96,6 +98,12 @@ struct_like number (const (struct other)) e p = (sym e, refl)
 struct_like number (const (const kind)) e p = absurd (false≢true p.0)
 struct_like number (const kind) e p = absurd (true≢false (ap is_struct e))
 struct_like number kind e p = absurd (true≢false (ap is_struct e))
+
+-- what initialises an object is an expression
+initialises_whole : (scene : Scene) (fixed : Bool) (type : CType) (tree : Tree) → Initialises scene fixed type tree → IsExpression tree
+initialises_whole scene fixed (array type (Some many)) (node (literal bytes unit) kind spans parts) h = refl
+initialises_whole scene fixed (array type (Some many)) (node label kind spans parts) h = value-expression (node label kind spans parts) h.0
+initialises_whole scene fixed type tree h = value-expression tree h.0
 
 -- ---- lists
 
@@ -242,7 +250,7 @@ module _ (program : Program) (sound : IsSoundTable program.table) where
       fills one_expression type kind e p types f [] h t = tt
       fills one_expression type kind e p types f (tree ∷ []) h t =
           let first = subst (λ (ts : List CType). AllInitialise scene fixed ts (tree ∷ [])) (sym (some_is_some (type ∷ []) types f)) h in
-          (t.0, gives scene fixed type tree kind e p first.0)
+          (t.0, gives scene fixed type tree kind e p first.0, typed-expression (scene_in program result t.0.breaks t.0.continues t.0.labels) tree t.0.typed (initialises_whole scene fixed type tree first.0))
       fills one_expression type kind e p types f (first ∷ second ∷ rest) h t = tt
       fills (in_braces no_items) type kind e p types f trees h t = absurd (none_is_some types f)
       fills (in_braces (more_items item items)) type kind e p types f trees h t =

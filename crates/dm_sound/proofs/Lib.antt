@@ -23,3 +23,5 @@ pub mod BeginLemmas
 pub mod ProperLemmas
 pub mod RunningLemmas
 pub mod SetLemmas
+pub mod ExcuseLemmas
+pub mod LayoutLemmas

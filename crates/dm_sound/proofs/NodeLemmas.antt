@@ -22,7 +22,7 @@ use Rattle.dm_tree.specs.Evaluation.{is_shift, is_right, updated_value, count_op
 use Rattle.dm_tree.specs.Initialisers.{is_enumerator, is_function_sort}
 use Rattle.dm_tree.specs.Operands.{Becomes, BecomesPointer, FitsBinary, UpdateFits, FitsMember}
 use Rattle.dm_tree.specs.Scenes.{Scene as Standing, IsValue, is_lvalue, is_array as is_array_type, is_scalar, is_integer, is_pointer, is_function, target, member_type}
-use Rattle.dm_tree.specs.Trees.{Label, Spans, Tree, Trees, node, no_trees, more_trees, kind_of, label_of, is_statement, listed}
+use Rattle.dm_tree.specs.Trees.{Label, Spans, Tree, Trees, node, no_trees, more_trees, kind_of, listed}
 use Rattle.dm_tree.specs.Trees as label
 use Rattle.dm_tree.specs.Typing.{Fits, FitsExpression, FitsSort}
 use Rattle.dm_tree.specs.Units.{Declaration}

@@ -216,7 +216,7 @@ module _ (program : Program) (memory later : Memory) (keeps : Keeps memory later
   task_later result (begins tree) h = h
   task_later result (declares declarator trees) h = h
   task_later result (initials at kind initialiser trees) h = (place_later (layout program) memory later keeps at kind h.0, h.1)
-  task_later result (evaluates place run use_of) h = (h.0, h.1, h.2, use_later result h.0 use_of h.3)
+  task_later result (evaluates place run use_of) h = (h.0, h.1, h.2, use_later result h.0 use_of h.3, h.4)
   task_later result (again saved loop) h = (named_later program memory later keeps saved h.0, h.1)
   task_later result (tests saved loop) h = (named_later program memory later keeps saved h.0, h.1)
   task_later result (ends saved) h = named_later program memory later keeps saved h
@@ -246,6 +246,7 @@ module _ (program : Program) (memory later : Memory) (keeps : Keeps memory later
       typed = h.0.typed;
       comes = h.0.comes;
       use_of = use_later _ h.0.tree caller.use_of h.0.use_of;
+      whole = h.0.whole;
       result = h.0.result;
       gives = h.0.gives;
       covered = h.0.covered;

@@ -9,7 +9,7 @@ use Rattle.dm_type.specs.CTypes.{CType, integer}
 use Rattle.dm_type.specs.Layouts.{size_of}
 use Rattle.dm_tree.specs.Constants.{integer_kind}
 use Rattle.dm_tree.specs.Scenes.{Scene as Standing, IsValue, is_lvalue}
-use Rattle.dm_tree.specs.Trees.{Label, Spans, Tree, Trees, node, no_trees, more_trees, kind_of, label_of, trees_of, is_statement, listed}
+use Rattle.dm_tree.specs.Trees.{Label, Spans, Tree, Trees, node, no_trees, more_trees, kind_of, trees_of, listed}
 use Rattle.dm_tree.specs.Trees as label
 use Rattle.dm_tree.specs.Typing.{Fits}
 use Rattle.dm_meaning.specs.Among.{IsAmong}
@@ -17,7 +17,6 @@ use Rattle.dm_meaning.specs.Values.{At}
 use Rattle.dm_meaning.specs.Objects.{Layout}
 use Rattle.dm_meaning.specs.Programs.{layout, or_zero as or_no_size}
 use Rattle.dm_meaning.specs.Operations.{Result, of_value, designates, Operand, World, Scene, Did, gives, breaks, ends_with, ill, number_alone, Truth, holds, untold, truth_of, truth_in, operate}
-use Rattle.dm_meaning.specs.Primitives.{Prim}
 use Rattle.dm_meaning.specs.Running.{Doing, evaluates, gives_truth, gives_value, Run, done, to_do, Runs, no_runs, more_runs, begun, Open, every, only_first, but_first, nothing, first_open, others_open, open_of, open_parts, operands_in, locks_in_all, Hole, within, Holes, in_first, in_others}
 use Rattle.dm_meaning.specs.Expressions.{Move, goes, calls, fails, exits, lifted, as_move, unlocked, by_truth, on_operand, value_of, nth_run, going_on, both_chosen, either_chosen, operand_chosen, kind_of_run, form_step, node_step, own_or_inner, where_open, moves, moves_in}
 use Rattle.dm_meaning.specs.Units.{AreBytes}

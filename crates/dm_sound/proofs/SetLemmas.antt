@@ -1,11 +1,11 @@
 -- Objects that hold a value that was set go on to do so.
-use Rattle.std.specs.Prelude.{◌≡◌, refl, ℕ, suc, ◌==◌, Bool, true, false, List, [], ◌∷◌, Option, Some, None, option_map, if◌then◌else◌}
-use Rattle.std.proofs.Common.{ap, sym, ◌∙◌}
+use Rattle.std.specs.Prelude.{◌≡◌, refl, ℕ, ◌==◌, Bool, true, false, List, [], ◌∷◌, option_map, if◌then◌else◌}
+use Rattle.std.proofs.Common.{ap, ◌∙◌}
 use Rattle.dm_meaning.specs.Values.{Name, numbered, literal_of, elsewhere, part, past, Path, At, Value, with_part}
-use Rattle.dm_meaning.specs.Memory.{Memory, Block, look_up, changed_block, written, killed}
+use Rattle.dm_meaning.specs.Memory.{Memory, Block, changed_block, written, killed}
 use Rattle.dm_meaning.specs.Causes.{is_unset}
 use Rattle.dm_meaning.proofs.ExtendLemmas.{look_changed}
-use Rattle.dm_sound.specs.TypedValues.{IsSet, StaySet}
+use Rattle.dm_sound.specs.TypedValues.{StaySet}
 
 pub stay_same : (memory : Memory) → StaySet memory memory
 stay_same memory n h = h

@@ -5,6 +5,7 @@ use Rattle.dm_token.specs.declared.place.Span.{Span}
 use Rattle.dm_int.specs.declared.Kind.TheVariants.{Char, Int}
 use Rattle.dm_type.specs.CTypes.{CType, void, integer, array, function as function_type, no_types}
 use Rattle.dm_type.specs.declared.shape.Shape.TheVariants as shape
+use Rattle.dm_type.specs.declared.shape.Struct.{Struct}
 use Rattle.dm_type.specs.Tables.{Table, no_type}
 use Rattle.dm_tree.specs.declared.tree.Core.{Core, roll-Core}
 use Rattle.dm_tree.specs.declared.tree.Form.{roll-Form}
@@ -143,3 +144,13 @@ core_program = program_of types (view_of_unit types core_unit)
 
 abbrev pub core_started : State
 core_started = start (λ i. i) core_program (record { function = 0; parameters = []; body = view types core_body }) []
+
+-- struct { int m; } in two tables, of which the first has int as its first type, and the second char
+abbrev pub struct_with : ℕ → List Struct
+struct_with int_number = record { tag = None; content = Some (record { members = record { name = codes "m"; kind = int_number } ∷ []; layout = Some (record { size = 4; alignment = 4 }) }) } ∷ []
+
+abbrev pub one_table : Table
+one_table = record { shapes = shape.Integer Int ∷ []; structs = struct_with 0 }
+
+abbrev pub other_table : Table
+other_table = record { shapes = shape.Integer Char ∷ shape.Integer Int ∷ []; structs = struct_with 1 }

@@ -16,6 +16,7 @@ ghost use Rattle.dm_meaning.specs.Units.{Begins, machine_of, program_of};
 ghost use Rattle.dm_meaning.specs.Values.{integer_value};
 ghost use Rattle.dm_meaning.specs.Wholes.{is_expression};
 ghost use Rattle.dm_sound.specs.Examples as examples;
+ghost use Rattle.dm_sound.specs.SameTables.{AreSameStructs};
 ghost use Rattle.dm_sound.specs.TypedRuns.{ArgumentsFit, ComesFrom, HoleComesFrom, IsProperUnit, IsTypedProgram, IsTypedWorld};
 ghost use Rattle.dm_sound.specs.TypedStates.{IsTypedState};
 ghost use Rattle.dm_sound.specs.TypedSteps.{IsTypedScope, AreOperands, is_operated};
@@ -66,7 +67,7 @@ pub fn typed_unit()
 {}
 
 /// The state in which `main` of `int c; int main(void) {}` runs, and the step to the state behind it, meet each premise of
-/// `steps_keep_states_typed` and `runs_stay_typed`.
+/// `steps_keep_states_typed`, `typed_steps_are_never_ill` and `runs_stay_typed`.
 pub fn typed_state()
     ensures program { IsTypedProgram examples.running }
     ensures state { IsTypedState examples.running examples.beginning }
@@ -85,4 +86,9 @@ pub fn typed_run()
     ensures table { IsSoundTable examples.types }
     ensures unit { IsTypedUnit examples.types examples.core_unit }
     ensures run { RunsTo (machine_of examples.core_program) [] 0 examples.core_started }
+{}
+
+/// Two tables that number their types differently say the same of structs.
+pub fn same_tables()
+    ensures { AreSameStructs examples.one_table examples.other_table }
 {}

@@ -15,7 +15,7 @@ ghost use Rattle.dm_meaning.specs.Machines.{Goes, RunsTo};
 ghost use Rattle.dm_meaning.specs.Memory.{Memory, killed};
 ghost use Rattle.dm_meaning.specs.Objects.{Layout, all_unset, all_zero};
 ghost use Rattle.dm_meaning.specs.Operations.{Operand, Scene, World, of_value, operate};
-ghost use Rattle.dm_meaning.specs.Programs.{Definition, Program, layout};
+ghost use Rattle.dm_meaning.specs.Programs.{Definition, Program, constant_of, layout};
 ghost use Rattle.dm_meaning.specs.Running.{Hole, Run, begun, done, filled_in, open_of};
 ghost use Rattle.dm_meaning.specs.Statements.{array_of, characters_at, value_listed};
 ghost use Rattle.dm_meaning.specs.States.{State};
@@ -23,7 +23,8 @@ ghost use Rattle.dm_meaning.specs.Steps.{Step, opened_memory};
 ghost use Rattle.dm_meaning.specs.Units.{Begins, machine_of, program_of};
 ghost use Rattle.dm_meaning.specs.Values.{At, Value, literal_of};
 ghost use Rattle.dm_meaning.specs.Wholes.{is_expression};
-ghost use Rattle.dm_sound.specs.Excuses.{IsExcusedMove, results_in};
+ghost use Rattle.dm_sound.specs.Excuses.{IsExcusedMove, IsExcusedStep, results_in};
+ghost use Rattle.dm_sound.specs.SameTables.{AreSameStructs, over};
 ghost use Rattle.dm_sound.specs.TypedRuns.{ArgumentsFit, ComesFrom, HoleComesFrom, IsProperUnit, IsTypedProgram, IsTypedWorld, MoveFits};
 ghost use Rattle.dm_sound.specs.TypedStates.{IsTypedState};
 ghost use Rattle.dm_sound.specs.TypedSteps.{IsTypedScope, AreOperands, DidFits, is_operated};
@@ -134,4 +135,20 @@ pub fn typed_programs_run_typed()
     ensures { (types : Table) (one : CoreUnit) (input : List ℕ) (n : ℕ) (state : State) → IsSoundTable types → IsTypedUnit types one
         → RunsTo (machine_of (program_of types (view_of_unit types one))) input n state
         → IsTypedState (program_of types (view_of_unit types one)) state }
+{}
+
+/// Where a step of a typed state is undefined with the cause `type`, that is so because a place that is designated in the full expression
+/// under evaluation holds an object of another type, because two pointers are too far apart, or because `puts` is given what is no text;
+/// and never because a tree were ill typed.
+pub fn typed_steps_are_never_ill()
+    ensures { (program : Program) (state other : State) → IsTypedProgram program → IsTypedState program state → Step program state other
+        → IsExcusedStep program state other }
+{}
+
+/// Over tables that say the same of structs a program's types are laid out alike, and its constant expressions have the same values. Nothing
+/// else of its table is read in a run.
+pub fn same_structs_are_laid_out_alike()
+    ensures layout { (old new : Table) (program : Program) → AreSameStructs old new → layout (over program new) ≡ layout (over program old) }
+    ensures constants { (old new : Table) (program : Program) (tree : Tree) → AreSameStructs old new
+        → constant_of (over program new) tree ≡ constant_of (over program old) tree }
 {}
