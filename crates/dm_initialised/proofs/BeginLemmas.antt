@@ -1,9 +1,9 @@
 -- Runs begin where objects are set: parameters of `main`, and scalars of static storage duration (6.7.9p10).
-use Rattle.std.specs.Prelude.{◌≡◌, refl, ℕ, suc, ◌+◌, ◌≤◌, Bool, true, false, IsTrue, IfSome, IsSome, List, [], ◌∷◌, length, Option, Some, None}
-use Rattle.std.proofs.Common.{arith, ap, sym, ◌∙◌, subst, inl, inr}
+use Rattle.std.specs.Prelude.{◌≡◌, refl, ℕ, suc, ◌+◌, ◌≤◌, Bool, true, false, IsTrue, List, [], ◌∷◌, length, Option, Some, None}
+use Rattle.std.proofs.Common.{arith, ap, sym, subst, inl, inr}
 use Rattle.std.proofs.lemmas.Bool.{false≢true}
 use Rattle.dm_type.specs.CTypes.{CType, integer, pointer, array, const, bare}
-use Rattle.dm_tree.specs.Initialisers.{targets, is_fixed, Initialises, AllInitialise, InitialiserFits}
+use Rattle.dm_tree.specs.Initialisers.{is_fixed, Initialises, InitialiserFits}
 use Rattle.dm_tree.specs.Scenes.{Scene, is_scalar}
 use Rattle.dm_tree.specs.Trees.{literal, Tree, node, Initialiser, one_expression, in_braces}
 use Rattle.dm_meaning.specs.Among.{IsAmong}
@@ -18,7 +18,7 @@ use Rattle.dm_meaning.specs.States.{State}
 use Rattle.dm_meaning.specs.Statements.{kind_declared, type_declared, named_from}
 use Rattle.dm_meaning.specs.Steps.{opened_memory}
 use Rattle.dm_meaning.specs.Units.{static_numbers, static_scalar, static_value, zeroed_from, initialised, all_initialised, statics_memory, argv_kind, arguments_for, start, main_of, Begins, machine_of}
-use Rattle.dm_meaning.proofs.OptionLemmas.{none_is_some, some_is_some}
+use Rattle.dm_meaning.proofs.OptionLemmas.{none_is_some}
 use Rattle.dm_sound.specs.TypedValues.{StaySet}
 use Rattle.dm_sound.specs.TypedTrees.{scene_in}
 use Rattle.dm_sound.specs.TypedRuns.{IsTypedStatic, IsTypedProgram, AreGivenValues}

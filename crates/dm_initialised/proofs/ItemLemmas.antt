@@ -1,6 +1,6 @@
 -- Declarations and items of blocks: what is left to do when they begin stands where its objects are set.
-use Rattle.std.specs.Prelude.{◌≡◌, refl, ◌⊎◌, ℕ, zero, suc, Bool, true, false, not, ◌&&◌, IsTrue, IfSome, IsSome, List, [], ◌∷◌, ◌++◌, map, replicate, take, drop, Option, Some, None, if◌then◌else◌}
-use Rattle.std.proofs.Common.{ap, sym, ◌∙◌, subst, inl, inr}
+use Rattle.std.specs.Prelude.{◌≡◌, refl, ◌⊎◌, ℕ, zero, suc, Bool, true, false, IsTrue, IfSome, IsSome, List, [], ◌∷◌, ◌++◌, map, replicate, take, drop, Option, Some, None, if◌then◌else◌}
+use Rattle.std.proofs.Common.{ap, sym, subst, inl, inr}
 use Rattle.std.proofs.lemmas.Bool.{false≢true, and_from}
 use Rattle.dm_int.specs.declared.Kind.{Kind}
 use Rattle.dm_type.specs.CTypes.{CType}
@@ -20,7 +20,8 @@ use Rattle.dm_sound.specs.TypedTrees.{scene_in, IsTyped}
 use Rattle.dm_sound.specs.TypedStates.{AllAreTyped}
 use Rattle.dm_sound.proofs.ComeLemmas.{AllTyped}
 use Rattle.dm_sound.proofs.LocalLemmas.{same_count}
-use Rattle.dm_initialised.specs.Settled.{Scope, declared_by, scopes_in_order, scopes_of_initialisers, GiveValues, declared_in_parts, AreOthers, IsSettled, AreSettled, IsSettledProgram}
+use Rattle.dm_effect.specs.Scoped.{Scope, declared_by, scopes_in_order, scopes_of_initialisers}
+use Rattle.dm_initialised.specs.Settled.{GiveValues, declared_in_parts, AreOthers, IsSettled, AreSettled, IsSettledProgram}
 use Rattle.dm_initialised.specs.SetStates.{Within, NoObject, AllSettled, AllItems, GivesWhole, GivesObject, TasksSet}
 use Rattle.dm_initialised.proofs.ScopeLemmas.{within_same, within_other, tasks_more}
 
@@ -165,7 +166,9 @@ module _ (program : Program) (needs : ℕ → Bool) (settled : IsSettledProgram 
           let count = expressions_of one.initialiser in
           let first = subst (λ n. DeclaratorFits place one (take n trees)) (same_count one.initialiser) fits.0 in
           let rest = subst (λ n. DeclaratorsFit place others (drop n trees)) (same_count one.initialiser) fits.1 in
-          let own = own_settled needs count (one.declared ∷ scope) (scopes_of_initialisers (one.declared ∷ scope) others) trees h in (
+          let behind = scopes_of_initialisers (one.declared ∷ scope) others in
+          let own = own_settled needs count (one.declared ∷ scope) behind trees
+          (subst (λ n. ListSettled needs (replicate n (Some (one.declared ∷ scope)) ++ behind) trees) (same_count one.initialiser) h) in (
             (λ n e. record { inner = one.declared ∷ scope; within = beside n e; settled = own.0 }),
             one.declared ∷ scope,
             gained one (take count trees) first g.0 (λ e. named one.declared e (inl refl)) scope,
@@ -209,7 +212,9 @@ module _ (program : Program) (needs : ℕ → Bool) (settled : IsSettledProgram 
         → AreOthers needs (numbers_of declarators) → (tasks : List Task) → TasksIn scope tasks → TasksIn scope (declarator_tasks declarators trees ++ tasks)
     others_locals scope [] trees inner w h o tasks k = k
     others_locals scope (one ∷ others) trees inner w h o tasks k =
-        let own = own_settled needs (expressions_of one.initialiser) (one.declared ∷ inner) (scopes_of_initialisers (one.declared ∷ inner) others) trees h in (
+        let behind = scopes_of_initialisers (one.declared ∷ inner) others in
+        let own = own_settled needs (expressions_of one.initialiser) (one.declared ∷ inner) behind trees
+        (subst (λ n. ListSettled needs (replicate n (Some (one.declared ∷ inner)) ++ behind) trees) (same_count one.initialiser) h) in (
           (λ n e. record { inner = one.declared ∷ inner; within = within_other needs objects scope NoObject (λ m. m ≡ n) (one.declared ∷ inner) (λ m x. absurd x) beside; settled = own.0 }),
           scope,
           within_same needs objects scope (GivesObject program objects one (take (expressions_of one.initialiser) trees)),

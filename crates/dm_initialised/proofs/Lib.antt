@@ -5,3 +5,6 @@ pub mod StatementLemmas
 pub mod StateLemmas
 pub mod BeginLemmas
 pub mod NameLemmas
+pub mod UnitLemmas
+pub mod RunLemmas
+pub mod ExampleLemmas

@@ -1,22 +1,20 @@
 -- What the full expression that is under evaluation names is set.
-use Rattle.std.specs.Prelude.{◌≡◌, ◌⊎◌, ℕ, Bool, true, List, ◌∷◌, Some}
+use Rattle.std.specs.Prelude.{◌≡◌, ◌⊎◌, ℕ, Bool, true, List, Some}
 use Rattle.std.proofs.Common.{subst, inl, inr}
-use Rattle.dm_token.specs.declared.place.Place.{Place}
 use Rattle.dm_meaning.specs.Among.{IsAmong}
 use Rattle.dm_meaning.specs.Machines.{RunsTo}
 use Rattle.dm_meaning.specs.Memory.{Memory}
 use Rattle.dm_meaning.specs.Programs.{Program}
 use Rattle.dm_meaning.specs.Operations.{Objects, object_named}
-use Rattle.dm_meaning.specs.Running.{Run}
-use Rattle.dm_meaning.specs.States.{Use, Task, evaluates, State}
-use Rattle.dm_meaning.specs.Statements.{unfolded}
+use Rattle.dm_meaning.specs.States.{Use, Task, State}
 use Rattle.dm_meaning.specs.Units.{machine_of}
 use Rattle.dm_sound.specs.TypedValues.{IsSet}
 use Rattle.dm_sound.specs.TypedRuns.{IsTypedProgram}
 use Rattle.dm_sound.specs.TypedStates.{IsTypedState}
 use Rattle.dm_sound.proofs.RunningLemmas.{program_runs_typed}
-use Rattle.dm_initialised.specs.Settled.{Scope, IsSettledProgram}
-use Rattle.dm_initialised.specs.SetStates.{AreSet, Within, IsUnderWay, IsSetState, NamesAreSet, IsSetEvaluation, result_for}
+use Rattle.dm_effect.specs.Scoped.{Scope}
+use Rattle.dm_initialised.specs.Settled.{IsSettledProgram}
+use Rattle.dm_initialised.specs.SetStates.{AreSet, Within, IsUnderWay, IsSetState, NamesAreSet, result_for}
 use Rattle.dm_initialised.proofs.StatementLemmas.{Set, unfolded_set}
 use Rattle.dm_initialised.proofs.BeginLemmas.{run_set}
 

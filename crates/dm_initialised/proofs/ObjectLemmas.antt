@@ -1,5 +1,5 @@
 -- New objects and their names: what is named stays so, and what was set is set.
-use Rattle.std.specs.Prelude.{◌≡◌, refl, ◌⊎◌, ℕ, suc, ◌+◌, ◌≤◌, ◌==◌, Bool, true, false, List, [], ◌∷◌, length, Option, Some, None, option_map, if◌then◌else◌}
+use Rattle.std.specs.Prelude.{◌≡◌, refl, ◌⊎◌, ℕ, suc, ◌≤◌, ◌==◌, Bool, true, false, List, [], ◌∷◌, Option, Some, None, option_map, if◌then◌else◌}
 use Rattle.std.proofs.Common.{arith, ap, sym, ◌∙◌, subst, inl, inr}
 use Rattle.std.proofs.lemmas.Bool.{false≢true}
 use Rattle.dm_type.specs.CTypes.{CType, bare}
@@ -14,7 +14,7 @@ use Rattle.dm_meaning.specs.Statements.{type_declared, named_from, made_from}
 use Rattle.dm_meaning.specs.Steps.{given_from}
 use Rattle.dm_meaning.proofs.ExtendLemmas.{look_changed}
 use Rattle.dm_meaning.proofs.GrowLemmas.{equal_of}
-use Rattle.dm_meaning.proofs.OptionLemmas.{none_is_some, some_is_some}
+use Rattle.dm_meaning.proofs.OptionLemmas.{none_is_some}
 use Rattle.dm_sound.specs.TypedValues.{IsSet, StaySet}
 use Rattle.dm_sound.specs.TypedRuns.{AreGivenValues, ArgumentsFit}
 use Rattle.dm_sound.specs.TypedStates.{IsPlace}

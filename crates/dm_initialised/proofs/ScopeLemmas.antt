@@ -1,5 +1,5 @@
 -- Scopes whose objects are set: what is said of one holds of a greater one, and in later memory.
-use Rattle.std.specs.Prelude.{◌≡◌, ◌⊎◌, ℕ, Bool, true, List, [], ◌∷◌, ◌++◌, take, drop, zero, suc, Option, Some, None}
+use Rattle.std.specs.Prelude.{◌≡◌, ◌⊎◌, ℕ, Bool, List, [], ◌∷◌, take, drop, zero, suc, Option, Some, None}
 use Rattle.std.proofs.Common.{subst, inl, inr}
 use Rattle.dm_type.specs.CTypes.{CType}
 use Rattle.dm_tree.specs.Trees.{Tree, Trees, no_trees, more_trees, listed}
@@ -10,9 +10,10 @@ use Rattle.dm_meaning.specs.Programs.{Program}
 use Rattle.dm_meaning.specs.Operations.{Objects, object_named, whole}
 use Rattle.dm_meaning.specs.Running.{Run}
 use Rattle.dm_meaning.specs.States.{Loop, Use, drops, chooses, selects, repeats, continues, returns, initialises, Task, begins, declares, initials, evaluates, again, tests, ends, ends_switch, leaves, skips, hands_back, Caller}
-use Rattle.dm_sound.specs.TypedValues.{IsSet, StaySet}
-use Rattle.dm_initialised.specs.Settled.{Scope, IsSettled, AreSettled, same_scopes}
-use Rattle.dm_initialised.specs.SetStates.{AreSet, Within, NoObject, AllSettled, Stands, StandsAlone, StandsIfThere, LoopStands, GivesWhole, GivesObject, IsUnderWay, IsSetBy, UseStands, EvaluationStands, TasksSet, IsSetFrame, IsSetCaller, AreSetCallers, AreSetStatics}
+use Rattle.dm_sound.specs.TypedValues.{StaySet}
+use Rattle.dm_effect.specs.Scoped.{Scope, same_scopes}
+use Rattle.dm_initialised.specs.Settled.{AreSettled}
+use Rattle.dm_initialised.specs.SetStates.{AreSet, Within, NoObject, AllSettled, Stands, StandsIfThere, LoopStands, GivesWhole, GivesObject, IsUnderWay, IsSetBy, UseStands, EvaluationStands, TasksSet, IsSetCaller, AreSetCallers, AreSetStatics}
 
 module _ (needs : ℕ → Bool) (objects : Objects) where
   -- ---- scopes

@@ -1,12 +1,10 @@
 -- Each step of a state leaves its objects set.
-use Rattle.std.specs.Prelude.{◌≡◌, refl, ◌⊎◌, ℕ, zero, suc, ◌+◌, Bool, true, false, IfSome, IsSome, List, [], ◌∷◌, ◌++◌, map, length, Option, Some, None, pos, if◌then◌else◌}
+use Rattle.std.specs.Prelude.{◌≡◌, refl, ℕ, zero, suc, ◌+◌, Bool, true, false, List, [], ◌∷◌, ◌++◌, map, length, Option, Some, None, pos, if◌then◌else◌}
 use Rattle.std.proofs.Common.{arith, ap, sym, ◌∙◌, subst, inl, inr}
-use Rattle.std.proofs.lemmas.Bool.{false≢true}
 use Rattle.dm_token.specs.declared.place.Place.{Place}
 use Rattle.dm_int.specs.declared.Kind.TheVariants.{Int}
-use Rattle.dm_type.specs.CTypes.{CType, void, function as function_type, bare}
-use Rattle.dm_tree.specs.Scenes.{is_void}
-use Rattle.dm_tree.specs.Trees.{Label, block, label_of, parts_of, Spans, Tree, Trees, node, listed}
+use Rattle.dm_type.specs.CTypes.{CType, void, function as function_type}
+use Rattle.dm_tree.specs.Trees.{Label, block, label_of, parts_of, Tree, node, listed}
 use Rattle.dm_tree.specs.Typing.{DefinitionFits}
 use Rattle.dm_meaning.specs.declared.cause.Cause.TheVariants.{NoValue}
 use Rattle.dm_meaning.specs.Among.{IsAmong}
@@ -14,28 +12,27 @@ use Rattle.dm_meaning.specs.Machines.{Goes, Standing, undefined, exited}
 use Rattle.dm_meaning.specs.Values.{Value, integer_value, unset}
 use Rattle.dm_meaning.specs.Memory.{Memory, killed, IsFresh}
 use Rattle.dm_meaning.specs.Programs.{Program, Definition, layout, declaration_of, definition_of}
-use Rattle.dm_meaning.specs.Operations.{Objects, object_named, of_value}
-use Rattle.dm_meaning.specs.Running.{Run, done, to_do, locks_in, Hole, filled_in}
+use Rattle.dm_meaning.specs.Running.{Run, done, to_do, locks_in, Hole}
 use Rattle.dm_meaning.specs.Expressions.{Move, goes, calls, fails, exits, moves}
-use Rattle.dm_meaning.specs.States.{Use, Task, begins, declares, initials, evaluates, again, tests, ends, ends_switch, leaves, skips, hands_back, Frame, Caller, State}
+use Rattle.dm_meaning.specs.States.{Use, Task, begins, declares, initials, evaluates, again, tests, ends, ends_switch, leaves, skips, hands_back, Caller, State}
 use Rattle.dm_meaning.specs.Statements.{Turned, onward, refused, declared_in, items_tasks, type_declared, named_from, made_from, begin_statement, begin_declarator, begin_initialiser, concluded, unfolded, ended, after_break, after_continue}
 use Rattle.dm_meaning.specs.Steps.{given_from, opened_frame, opened_memory, opened, lacks_value, gone_back, handed_back, is_main, gives_nothing, body_place, no_place, closed, turned, moved, scene_of, expression_steps, task_steps, Step}
 use Rattle.dm_meaning.specs.Units.{machine_of}
 use Rattle.dm_meaning.proofs.AmongLemmas.{among-map_from}
 use Rattle.dm_meaning.proofs.StateLemmas.{from_steps}
-use Rattle.dm_sound.specs.TypedValues.{IsGiven, StaySet, IsSet}
+use Rattle.dm_sound.specs.TypedValues.{IsGiven, StaySet}
 use Rattle.dm_sound.specs.TypedTrees.{scene_in, IsTyped}
-use Rattle.dm_sound.specs.TypedRuns.{IsTypedFunction, IsTypedProgram, ComesFrom, ArgumentsFit, AreGivenValues, CallFits, HoleComesFrom, MoveFits, result_of}
+use Rattle.dm_sound.specs.TypedRuns.{IsTypedFunction, IsTypedProgram, ArgumentsFit, AreGivenValues, MoveFits, result_of}
 use Rattle.dm_sound.specs.TypedStates.{TasksFit, AreTypedCallers, IsTypedState}
 use Rattle.dm_sound.proofs.ComeLemmas.{typed_parts, filled_comes}
 use Rattle.dm_sound.proofs.CallLemmas.{found_definition}
 use Rattle.dm_sound.proofs.RunLemmas.{moves_fit}
 use Rattle.dm_sound.proofs.PlaceLemmas.{AreNewFrom, given_named}
-use Rattle.dm_sound.proofs.SetLemmas.{stay_same, stay_then, stay_killed}
+use Rattle.dm_sound.proofs.SetLemmas.{stay_then, stay_killed}
 use Rattle.dm_sound.proofs.TaskLemmas.{unfolded_fit, given_back, DeclaresFill}
 use Rattle.dm_sound.proofs.StepLemmas.{function_there, body_typed, step_typed}
-use Rattle.dm_initialised.specs.Settled.{Scope, declared_in_parts, IsSettled, IsSettledProgram}
-use Rattle.dm_initialised.specs.SetStates.{AreSet, NoObject, EvaluationStands, TasksSet, IsSetFrame, IsSetCaller, AreSetCallers, AreSetStatics, IsSetState, result_for}
+use Rattle.dm_initialised.specs.Settled.{IsSettled, IsSettledProgram}
+use Rattle.dm_initialised.specs.SetStates.{AreSet, TasksSet, IsSetFrame, IsSetCaller, AreSetCallers, IsSetState, result_for}
 use Rattle.dm_initialised.proofs.ScopeLemmas.{set_later, tasks_later, callers_later, statics_later}
 use Rattle.dm_initialised.proofs.ObjectLemmas.{named_new, named_beside, stay_made, stay_given, given_set}
 use Rattle.dm_initialised.proofs.ItemLemmas.{items_there, items_back, items_set}

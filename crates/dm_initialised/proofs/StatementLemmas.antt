@@ -1,9 +1,9 @@
 -- Statements that begin, full expressions that end, and jumps leave tasks that stand where their objects are set.
-use Rattle.std.specs.Prelude.{◌≡◌, refl, ◌⊎◌, ℕ, suc, Bool, true, false, not, ◌&&◌, IsTrue, List, [], ◌∷◌, ◌++◌, take, drop, Option, Some, None, if◌then◌else◌}
-use Rattle.std.proofs.Common.{arith, ap, sym, ◌∙◌, subst, inl, inr}
+use Rattle.std.specs.Prelude.{◌≡◌, refl, ◌⊎◌, ℕ, suc, Bool, true, false, not, List, [], ◌∷◌, ◌++◌, take, drop, Option, Some, None, if◌then◌else◌}
+use Rattle.std.proofs.Common.{ap, sym, ◌∙◌, subst, inl, inr}
 use Rattle.std.proofs.lemmas.Bool.{false≢true}
 use Rattle.dm_token.specs.declared.place.Place.{Place}
-use Rattle.dm_type.specs.CTypes.{CType, bare}
+use Rattle.dm_type.specs.CTypes.{CType}
 use Rattle.dm_tree.specs.Scenes.{IsValue, is_lvalue}
 use Rattle.dm_tree.specs.Trees.{Label, block as block_form, declare, full, if_statement, switch, case, default, while_loop, do_loop, for_loop, break, continue, return, is_statement, label_of, Spans, Tree, Trees, node, no_trees, more_trees, listed, Declarator, Initialiser, Initialisers, one_expression, in_braces, no_items, more_items, expressions_in}
 use Rattle.dm_tree.specs.Typing.{IsStart, FitsLoop}
@@ -11,26 +11,25 @@ use Rattle.dm_meaning.specs.Among.{IsAmong}
 use Rattle.dm_meaning.specs.Causes.{is_unset}
 use Rattle.dm_meaning.specs.Values.{At, Value, integer_value, unset, numbered}
 use Rattle.dm_meaning.specs.Memory.{Memory, contents_at, written, killed}
-use Rattle.dm_meaning.specs.Objects.{Layout, inner_type}
 use Rattle.dm_meaning.specs.Programs.{Program, layout}
 use Rattle.dm_meaning.specs.Operations.{Result, Objects, object_named, whole, part_of, Truth, holds, untold, truth_of}
 use Rattle.dm_meaning.specs.Expressions.{value_of}
 use Rattle.dm_meaning.specs.Running.{done}
 use Rattle.dm_meaning.specs.States.{Loop, Use, drops, chooses, selects, repeats, continues, returns, initialises, Task, begins, declares, initials, evaluates, again, tests, ends, ends_switch, leaves, skips, hands_back}
-use Rattle.dm_meaning.specs.Statements.{Turned, onward, refused, evaluation, is_automatic, declared_in, type_declared, named_since, named_from, made_from, items_tasks, unlabelled, entered, memory_entered, start_tasks, as_list, on_one_tree, on_first_tree, on_option_tree, on_tree_if, loop_with, begin_for, begin_form, begin_tree, begin_statement, initial_of, begin_declarator, part_tasks, count_items, value_listed, begin_initialiser, initial_value, has_case, has_default, from_first, or_items, selected_by, by_test, begins_one, concluded, tested, continued, unfolded, ended, after_break, after_continue}
+use Rattle.dm_meaning.specs.Statements.{Turned, onward, refused, evaluation, is_automatic, declared_in, type_declared, named_since, named_from, made_from, items_tasks, unlabelled, entered, memory_entered, on_one_tree, on_first_tree, on_option_tree, on_tree_if, loop_with, begin_for, begin_form, begin_tree, begin_statement, initial_of, begin_declarator, part_tasks, count_items, value_listed, begin_initialiser, initial_value, has_case, has_default, from_first, or_items, selected_by, by_test, begins_one, concluded, tested, continued, unfolded, ended, after_break, after_continue}
 use Rattle.dm_meaning.proofs.AmongLemmas.{among_left, among_right, among_either}
 use Rattle.dm_meaning.proofs.OptionLemmas.{none_is_some, some_is_some, and_right}
 use Rattle.dm_sound.specs.TypedValues.{IsSet, StaySet}
 use Rattle.dm_sound.specs.TypedTrees.{IsTyped}
-use Rattle.dm_sound.specs.TypedSteps.{IsResult}
-use Rattle.dm_sound.specs.TypedStates.{IsPlace, Gives, Fills, AllAreTyped, IsTypedIfThere, IsTypedLoop, TaskFits, TasksFit}
+use Rattle.dm_sound.specs.TypedStates.{IsPlace, Fills, AllAreTyped, IsTypedIfThere, IsTypedLoop, TaskFits, TasksFit}
 use Rattle.dm_sound.proofs.ComeLemmas.{AllTyped, typed_parts, begun_comes}
 use Rattle.dm_sound.proofs.PlaceLemmas.{AreNewFrom}
 use Rattle.dm_sound.proofs.SetLemmas.{stay_same, stay_written, stay_killed}
 use Rattle.dm_sound.proofs.TaskLemmas.{all_listed, unlabelled_typed, selected_typed}
-use Rattle.dm_initialised.specs.Settled.{Scope, declared_by, scopes_in_order, declared_in_parts, AreNew, AreOthers, IsSettled, AreSettled, IsSettledProgram}
-use Rattle.dm_initialised.specs.SetStates.{AreSet, Within, NoObject, AllSettled, AllItems, Stands, StandsAlone, StandsIfThere, LoopStands, GivesWhole, GivesObject, IsUnderWay, IsSetBy, UseStands, EvaluationStands, TasksSet}
-use Rattle.dm_initialised.proofs.ScopeLemmas.{within_same, within_other, set_within, stands_more, stands_other, loop_more, tasks_more, set_later, tasks_later, taken_settled, dropped_settled, all_same}
+use Rattle.dm_effect.specs.Scoped.{Scope, declared_by, scopes_in_order}
+use Rattle.dm_initialised.specs.Settled.{declared_in_parts, AreNew, AreOthers, IsSettled, AreSettled, IsSettledProgram}
+use Rattle.dm_initialised.specs.SetStates.{AreSet, Within, NoObject, AllSettled, AllItems, Stands, StandsAlone, StandsIfThere, LoopStands, GivesWhole, GivesObject, IsUnderWay, IsSetBy, UseStands, TasksSet}
+use Rattle.dm_initialised.proofs.ScopeLemmas.{within_same, within_other, set_within, stands_more, stands_other, tasks_more, set_later, tasks_later, taken_settled, dropped_settled, all_same}
 use Rattle.dm_initialised.proofs.ObjectLemmas.{named_new, named_beside, stay_made, written_set}
 use Rattle.dm_initialised.proofs.ItemLemmas.{items_there, items_back, item_set, items_set, chosen_set}
 

@@ -13,13 +13,14 @@ use Rattle.dm_meaning.specs.Values.{numbered}
 use Rattle.dm_meaning.specs.Memory.{Memory}
 use Rattle.dm_meaning.specs.Programs.{Program, layout}
 use Rattle.dm_meaning.specs.Operations.{Objects, object_named, whole}
-use Rattle.dm_meaning.specs.Running.{Run, Hole}
-use Rattle.dm_meaning.specs.States.{Loop, Use, drops, chooses, selects, repeats, continues, returns, initialises, Task, begins, declares, initials, evaluates, again, tests, ends, ends_switch, leaves, skips, hands_back, Frame, Caller, State}
+use Rattle.dm_meaning.specs.Running.{Run}
+use Rattle.dm_meaning.specs.States.{Loop, Use, chooses, selects, repeats, continues, initialises, Task, begins, declares, initials, evaluates, again, tests, ends, ends_switch, leaves, skips, hands_back, Frame, Caller, State}
 use Rattle.dm_meaning.specs.Statements.{is_automatic, type_declared, unfolded}
 use Rattle.dm_sound.specs.TypedValues.{IsSet}
 use Rattle.dm_sound.specs.TypedTrees.{IsTyped}
 use Rattle.dm_sound.specs.TypedRuns.{ComesFrom, HoleComesFrom, result_of}
-use Rattle.dm_initialised.specs.Settled.{Scope, declared_by, AreOthers, IsSettled}
+use Rattle.dm_effect.specs.Scoped.{Scope, declared_by}
+use Rattle.dm_initialised.specs.Settled.{AreOthers, IsSettled}
 
 -- ---- objects
 

@@ -2,49 +2,12 @@
 -- that, in the scope of the declaration (6.2.1p4, 6.7.9p11).
 --     IsSettled needs scope tree      so in a tree, where these declarations are in scope
 --     IsSettledProgram needs program      so in each function, where its parameters are in scope
-use Rattle.std.specs.Prelude.{◌≡◌, ℕ, Bool, true, IsTrue, IsSome, List, [], ◌∷◌, ◌++◌, map, replicate, Option, Some, None}
-use Rattle.dm_tree.specs.Trees.{Label, object, convert, sizeof_kind, block, declare, switch, for_loop, Declarator, Tree, Trees, node, no_trees, more_trees}
+use Rattle.std.specs.Prelude.{◌≡◌, ℕ, Bool, true, IsTrue, IsSome, List, [], ◌∷◌, ◌++◌, Option, Some, None}
+use Rattle.dm_tree.specs.Trees.{Label, object, block, declare, switch, for_loop, Declarator, Tree, Trees, node, no_trees, more_trees}
 use Rattle.dm_meaning.specs.Among.{IsAmong}
 use Rattle.dm_meaning.specs.Programs.{Program, Definition, declaration_of}
-use Rattle.dm_meaning.specs.Statements.{is_automatic_declaration, expressions_of}
-
--- the declarations that are in scope, by their numbers
-abbrev pub Scope : Type 0
-Scope = List ℕ
-
--- ---- where declarations are in scope
-
--- what a declaration declares is in scope behind it, to the end of its block, or of the loop whose first part it is (6.2.1p4, 6.8.5p5)
-abbrev pub declared_here : Label → Scope
-declared_here (declare lengths declarators) = map (λ (one : Declarator). one.declared) declarators
-declared_here label = []
-
-abbrev pub declared_by : Tree → Scope
-declared_by (node label kind spans parts) = declared_here label
-
--- the scope of each part where what a part declares is in scope in those behind it, and where no part declares anything
-abbrev pub scopes_in_order : Scope → Trees → List (Option Scope)
-scopes_in_order scope no_trees = []
-scopes_in_order scope (more_trees first rest) = Some scope ∷ scopes_in_order (declared_by first ++ scope) rest
-
-abbrev pub same_scopes : Scope → Trees → List (Option Scope)
-same_scopes scope no_trees = []
-same_scopes scope (more_trees first rest) = Some scope ∷ same_scopes scope rest
-
--- that of each expression of initialisers: a declarator's name is in scope in its own and in those behind it (6.2.1p7)
-abbrev pub scopes_of_initialisers : Scope → List Declarator → List (Option Scope)
-scopes_of_initialisers scope [] = []
-scopes_of_initialisers scope (one ∷ others) =
-    replicate (expressions_of one.initialiser) (Some (one.declared ∷ scope)) ++ scopes_of_initialisers (one.declared ∷ scope) others
-
--- The scope of each part of a node; none is given for the lengths and enumerator values of type names and declarators, which aren't evaluated.
-abbrev pub scopes_of : Scope → Label → Trees → List (Option Scope)
-scopes_of scope convert parts = Some scope ∷ []
-scopes_of scope (sizeof_kind type) parts = []
-scopes_of scope (declare lengths declarators) parts = replicate lengths None ++ scopes_of_initialisers scope declarators
-scopes_of scope block parts = scopes_in_order scope parts
-scopes_of scope (for_loop first second third) parts = scopes_in_order scope parts
-scopes_of scope label parts = same_scopes scope parts
+use Rattle.dm_meaning.specs.Statements.{is_automatic_declaration}
+use Rattle.dm_effect.specs.Scoped.{Scope, declared_by, scopes_of}
 
 -- ---- trees
 
