@@ -22,7 +22,7 @@ use Rattle.dm_sound.specs.TypedValues.{HasType, IsGiven, AreTyped}
 use Rattle.dm_sound.specs.TypedTrees.{IsProper, IsSoundTable, IsTyped}
 use Rattle.dm_sound.specs.TypedSteps.{AreOperands}
 use Rattle.dm_sound.specs.TypedRuns.{HoleComesFrom, IsProperForm, IsProperUnit, IsTypedProgram, IsTypedWorld}
-use Rattle.dm_sound.specs.TypedStates.{HasProperEntries, IsTypedState}
+use Rattle.dm_sound.specs.TypedStates.{IsTypedState}
 use Rattle.dm_sound.specs.Examples.{int, entry, external, unit, main_entry, body, main_external, running_unit, running, beginning, behind, program, counted, name, world_with, operands, negated, negation, two, one_of_two}
 use Rattle.dm_sound.proofs.UnitLemmas.{unit_typed}
 
@@ -57,7 +57,10 @@ unit_fits = record {
 }
 
 pub unit_proper : IsProperUnit unit
-unit_proper = single (λ (one : External). IsProperForm one.form) external (nothing _)
+unit_proper = record {
+  entries = single (λ (one : Declaration). IsProper one.kind) entry tt;
+  externals = single (λ (one : External). IsProperForm one.form) external (nothing _);
+}
 
 pub program_typed : IsTypedProgram program
 program_typed = unit_typed no_type unit table_sound unit_fits unit_proper
@@ -122,13 +125,14 @@ running_fits = record {
   once = once;
 }
 
-pub running_typed : IsTypedProgram running
-running_typed = unit_typed no_type running_unit table_sound running_fits (both_of (λ (one : External). IsProperForm one.form) external main_external (nothing _) (tt, tt))
+running_proper : IsProperUnit running_unit
+running_proper = record {
+  entries = both_of (λ (one : Declaration). IsProper one.kind) entry main_entry tt (tt, tt);
+  externals = both_of (λ (one : External). IsProperForm one.form) external main_external (nothing _) (tt, tt);
+}
 
-pub running_proper : HasProperEntries running
-running_proper zero one e = subst (λ (x : Declaration). IsProper x.kind) (some_is_some entry one e) tt
-running_proper (suc zero) one e = subst (λ (x : Declaration). IsProper x.kind) (some_is_some main_entry one e) (tt, tt)
-running_proper (suc (suc d)) one e = absurd (none_is_some one e)
+pub running_typed : IsTypedProgram running
+running_typed = unit_typed no_type running_unit table_sound running_fits running_proper
 
 five_there : (b : Bool) (block : Block) → (if b then Some (record { kind = int; contents = integer_value Int (pos 5); alive = true; writable = true }) else None) ≡ Some block → HasType (layout running) block.kind block.contents
 five_there true block e = subst (λ (x : Block). HasType (layout running) x.kind x.contents) (some_is_some _ block e) (refl, (omega (arith, ints), omega (arith, ints)))

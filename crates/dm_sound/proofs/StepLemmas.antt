@@ -80,11 +80,11 @@ module _ (program : Program) (sound : IsTypedProgram program) (fills : (result :
   abbrev result_for : ℕ → CType
   result_for f = bare (result_of program f)
 
-  record IsFunction (f : ℕ) (definition : Definition) : Type 0 where
-    typed : IsTypedFunction program definition
-    same : definition.function ≡ f
+  pub record IsFunction (f : ℕ) (definition : Definition) : Type 0 where
+    pub typed : IsTypedFunction program definition
+    pub same : definition.function ≡ f
 
-  function_there : (f : ℕ) (definition : Definition) → definition_of program f ≡ Some definition → IsFunction f definition
+  pub function_there : (f : ℕ) (definition : Definition) → definition_of program f ≡ Some definition → IsFunction f definition
   function_there f definition e = let found = found_definition program.functions f definition e in record { typed = sound.functions definition found.0; same = found.1 }
 
   entry_there : (f : ℕ) (definition : Definition) (h : IsFunction f definition) → declaration_of program f ≡ Some h.typed.entry
@@ -101,7 +101,7 @@ module _ (program : Program) (sound : IsTypedProgram program) (fills : (result :
   }
   body_by f definition h type e fits = absurd fits
 
-  body_typed : (f : ℕ) (definition : Definition) → definition_of program f ≡ Some definition → IsTyped program (result_for f) definition.body
+  pub body_typed : (f : ℕ) (definition : Definition) → definition_of program f ≡ Some definition → IsTyped program (result_for f) definition.body
   body_typed f definition e = let h = function_there f definition e in body_by f definition h h.typed.entry.kind refl h.typed.fits.1
 
   main_given : (f : ℕ) (definition : Definition) → definition_of program f ≡ Some definition → is_main (declaration_of program f) ≡ true → IsGiven (layout program) (result_for f) (integer_value Int (pos 0))
@@ -111,7 +111,7 @@ module _ (program : Program) (sound : IsTypedProgram program) (fills : (result :
       let int = main_result h.typed.entry.kind (h.typed.fits.2 named).0 in
       subst (λ (t : CType). IsGiven (layout program) (bare t) (integer_value Int (pos 0))) (sym (ap (λ o. result_in (kind_declared o)) (entry_there f definition h) ∙ int)) (zero_given (layout program))
 
-  parts_typed : (result : CType) (tree : Tree) → IsTyped program result tree → AllAreTyped program result (parts_of tree)
+  pub parts_typed : (result : CType) (tree : Tree) → IsTyped program result tree → AllAreTyped program result (parts_of tree)
   parts_typed result (node label kind spans parts) t = all_listed program result parts (typed_parts program result label kind spans parts t)
 
   -- ---- states
@@ -247,7 +247,7 @@ module _ (program : Program) (sound : IsTypedProgram program) (fills : (result :
       -- ---- expressions
 
       moved_typed : (rest : List Task) (place : Place) (use_of : Use) (tree : Tree) → TasksFit program memory result rest → IsTyped program result tree → UseFits program memory result tree use_of
-          → (m : Move Run Hole) → MoveFits program tree m → MoveKeeps (Keeps memory) (stored_keeps memory) (scene_of program state) state.world [] (keeps_same memory) m → IsTypedState program (moved program names state rest place use_of m)
+          → (m : Move Run Hole) → MoveFits program memory tree m → MoveKeeps (Keeps memory) (stored_keeps memory) (scene_of program state) state.world [] (keeps_same memory) m → IsTypedState program (moved program names state rest place use_of m)
       moved_typed rest place use_of tree waits t u (goes world run) h k = record {
         world = h.0;
         statics = named_later program memory world.memory k state.statics s.statics;
@@ -255,7 +255,7 @@ module _ (program : Program) (sound : IsTypedProgram program) (fills : (result :
           definition = s.frame.definition;
           defined = s.frame.defined;
           named = named_later program memory world.memory k state.frame.objects s.frame.named;
-          tasks = ((tree, t, h.1, use_later program memory world.memory k result tree use_of u), tasks_later program memory world.memory k result rest waits);
+          tasks = ((tree, t, h.2, use_later program memory world.memory k result tree use_of u), tasks_later program memory world.memory k result rest waits);
         };
         callers = callers_later program memory world.memory k state.frame.function state.callers s.callers;
       }

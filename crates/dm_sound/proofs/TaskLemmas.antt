@@ -22,7 +22,7 @@ use Rattle.dm_sound.specs.TypedSteps.{IsResult}
 use Rattle.dm_sound.specs.TypedStates.{IsOfKind, AreNamed, IsPlace, Fills, FillParts, FillsIfThere, AllAreTyped, IsTypedIfThere, IsTypedLoop, UseFits, TaskFits, TasksFit}
 use Rattle.dm_sound.proofs.ValueLemmas.{own_bare, has_own, AreLike, has_like, covered_like, like_whole, back_like}
 use Rattle.dm_sound.proofs.AccessLemmas.{contents_there, typed_written}
-use Rattle.dm_sound.proofs.GivenLemmas.{void_given}
+use Rattle.dm_sound.proofs.GivenLemmas.{void_given, like_values}
 use Rattle.dm_sound.proofs.ComeLemmas.{AllTyped, typed_parts, begun_comes}
 use Rattle.dm_sound.proofs.OperateLemmas.{value_no_lvalue}
 use Rattle.dm_sound.proofs.FirstLemmas.{typed_made, typed_killed}
@@ -36,7 +36,7 @@ module _ (program : Program) (result : CType) where
   all_listed no_trees h = tt
   all_listed (more_trees first rest) h = (h.0, all_listed rest h.1)
 
-  unlabelled_typed : (tree : Tree) → IsTyped program result tree → IsTyped program result (unlabelled tree)
+  pub unlabelled_typed : (tree : Tree) → IsTyped program result tree → IsTyped program result (unlabelled tree)
   unlabelled_typed (node case kind spans (more_trees value (more_trees statement rest))) h = unlabelled_typed statement (typed_parts program result case kind spans (more_trees value (more_trees statement rest)) h).1.0
   unlabelled_typed (node default kind spans (more_trees statement rest)) h = unlabelled_typed statement (typed_parts program result default kind spans (more_trees statement rest) h).0
   unlabelled_typed tree h = h
@@ -76,7 +76,7 @@ module _ (program : Program) (result : CType) where
       by_test_of true f later = subst (λ (p : Option (List Tree)). AllAreTyped program result (or_items p others)) f h
       by_test_of false f later = subst (λ (p : Option (List Tree)). AllAreTyped program result (or_items p others)) f later
 
-  selected_typed : (value : Value) (items : List Tree) → AllAreTyped program result items → AllAreTyped program result (selected_by program value items)
+  pub selected_typed : (value : Value) (items : List Tree) → AllAreTyped program result items → AllAreTyped program result (selected_by program value items)
   selected_typed (integer_value kind z) items h =
       first_typed (has_case program z) items h (from_first (has_case program z) items) refl (or_items (from_first has_default items) [])
       (first_typed has_default items h (from_first has_default items) refl [] tt)
@@ -107,19 +107,6 @@ module _ (program : Program) (result : CType) where
   unfolded_fit memory tasks h = h
 
 -- ---- values that are returned
-
-like_values : (x y : CType) → AreLike x y → IsTrue (has_values x) → IsTrue (has_values y)
-like_values x y (inl e) h = subst (λ (t : CType). IsTrue (has_values t)) e h
-like_values x y (inr (inl (p, q))) h = pointer_values y q
-  where
-    pointer_values : (t : CType) → IsTrue (is_pointer t) → IsTrue (has_values t)
-    pointer_values (pointer t) k = refl
-    pointer_values t k = absurd (false≢true k)
-like_values x y (inr (inr (p, q))) h = absurd (function_values x p h)
-  where
-    function_values : (t : CType) → IsTrue (is_function t) → IsTrue (has_values t) → ⊥
-    function_values (function t ts) k g = false≢true g
-    function_values t k g = false≢true k
 
 given_like : (laid : Layout) (a b : CType) → AreLike (own_type a) (own_type b) → (value : Value) → IsGiven laid a value → IsTrue (not (is_array (own_type b))) → IsGiven laid b value
 given_like laid a b like value given w = record {
@@ -348,7 +335,7 @@ module _ (program : Program) (sound : IsSoundTable program.table) (result : CTyp
     concluded_fits tree place (initialises at kind) given u h =
         let value = initial_value kind given in
         let keeps = keeps_written at value memory in (
-          stored_typed at kind u.0 value (u.1 given h),
+          stored_typed at kind u.0 value (u.1 given h).0,
           keeps,
           named_later program memory (written memory at value) keeps objects named,
           tasks_later program memory (written memory at value) keeps result rest waits,

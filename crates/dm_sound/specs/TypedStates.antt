@@ -7,16 +7,16 @@ use Rattle.dm_type.specs.CTypes.{CType, bare}
 use Rattle.dm_tree.specs.Composites.{covers}
 use Rattle.dm_tree.specs.Scenes.{is_lvalue}
 use Rattle.dm_tree.specs.Trees.{Tree, Initialiser, Initialisers, one_expression, in_braces, no_items, more_items, expressions_in, kind_of}
-use Rattle.dm_tree.specs.Units.{Declaration}
 use Rattle.dm_meaning.specs.Values.{At}
 use Rattle.dm_meaning.specs.Objects.{Layout, object_of, element, inner_type}
 use Rattle.dm_meaning.specs.Memory.{Memory, Block, look_up, reached}
-use Rattle.dm_meaning.specs.Programs.{Program, Definition, layout, declaration_of, definition_of}
+use Rattle.dm_meaning.specs.Causes.{is_unset}
+use Rattle.dm_meaning.specs.Programs.{Program, Definition, layout, definition_of}
 use Rattle.dm_meaning.specs.Operations.{Result, Objects}
 use Rattle.dm_meaning.specs.States.{Loop, Use, drops, chooses, selects, repeats, continues, returns, initialises, Task, begins, declares, initials, evaluates, again, tests, ends, ends_switch, leaves, skips, hands_back, Frame, Caller, State}
 use Rattle.dm_meaning.specs.Statements.{type_declared, initial_value}
 use Rattle.dm_sound.specs.TypedValues.{own_type, has_parts, HasType, IsGiven}
-use Rattle.dm_sound.specs.TypedTrees.{IsProper, IsTyped}
+use Rattle.dm_sound.specs.TypedTrees.{IsTyped}
 use Rattle.dm_sound.specs.TypedSteps.{IsResult}
 use Rattle.dm_sound.specs.TypedRuns.{ComesFrom, HoleComesFrom, IsTypedWorld, result_of}
 
@@ -35,15 +35,12 @@ AreNamed program memory (entry ∷ entries) = IsOfKind memory entry.1 (type_decl
 abbrev pub IsPlace : Layout → Memory → At → CType → Type 0
 IsPlace laid memory at kind = (fixed : Bool) × (reached laid memory at ≡ object_of (bare kind) fixed)
 
--- the types of declarations are proper, as those of a table are
-abbrev pub HasProperEntries : Program → Type 0
-HasProperEntries program = (d : ℕ) (entry : Declaration) → declaration_of program d ≡ Some entry → IsProper entry.kind
-
 -- ---- initialisers (6.7.9)
 
--- what the value of the tree gives an object of this type is a value of the type
+-- what the value of the tree gives an object of this type is a value of the type, and was set
 abbrev pub Gives : Program → CType → Tree → Type 0
-Gives program kind tree = (given : Result) → IsResult (layout program) tree given → HasType (layout program) kind (initial_value kind given)
+Gives program kind tree =
+    (given : Result) → IsResult (layout program) tree given → HasType (layout program) kind (initial_value kind given) × (is_unset (initial_value kind given) ≡ false)
 
 abbrev mutual
   -- The initialiser gives an object of this type, or the parts of it that it names, values of their types; its expressions are those of a

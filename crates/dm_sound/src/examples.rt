@@ -16,7 +16,7 @@ ghost use Rattle.dm_meaning.specs.Values.{integer_value};
 ghost use Rattle.dm_meaning.specs.Wholes.{is_expression};
 ghost use Rattle.dm_sound.specs.Examples as examples;
 ghost use Rattle.dm_sound.specs.TypedRuns.{ArgumentsFit, ComesFrom, HoleComesFrom, IsProperUnit, IsTypedProgram, IsTypedWorld};
-ghost use Rattle.dm_sound.specs.TypedStates.{HasProperEntries, IsTypedState};
+ghost use Rattle.dm_sound.specs.TypedStates.{IsTypedState};
 ghost use Rattle.dm_sound.specs.TypedSteps.{IsTypedScope, AreOperands, is_operated};
 ghost use Rattle.dm_sound.specs.TypedTrees.{IsSoundTable, IsTyped};
 ghost use Rattle.dm_sound.specs.TypedValues.{AreTyped, HasType, IsGiven, has_parts, own_type};
@@ -68,7 +68,6 @@ pub fn typed_unit()
 /// `steps_keep_states_typed` and `runs_stay_typed`.
 pub fn typed_state()
     ensures program { IsTypedProgram examples.running }
-    ensures entries { HasProperEntries examples.running }
     ensures state { IsTypedState examples.running examples.beginning }
     ensures step { Step examples.running examples.beginning examples.behind }
     ensures goes { Goes (machine_of examples.running) 1 examples.beginning examples.behind }

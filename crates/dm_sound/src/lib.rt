@@ -10,6 +10,7 @@ pub use examples::{
 pub use laws::{
     calls_give_their_types, calls_keep_objects_typed, ends_keep_objects_typed, evaluations_begin,
     expressions_keep_their_types, first_values_have_their_types, initialisers_keep_types,
-    operators_give_their_types, runs_stay_typed, steps_keep_states_typed,
-    typed_expressions_are_never_ill, units_give_typed_programs,
+    operators_give_their_types, runs_begin_typed, runs_stay_typed, steps_keep_states_typed,
+    typed_expressions_are_never_ill, typed_programs_run_typed, units_give_typed_programs,
+    units_have_proper_types,
 };
