@@ -7,6 +7,7 @@ pub mod Parts
 pub mod Questions
 pub mod Quiet
 pub mod Safe
+pub mod Scoped
 pub mod Sequencing
 pub mod Stable
 pub mod Tables
