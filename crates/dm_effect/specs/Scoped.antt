@@ -4,7 +4,7 @@
 use Rattle.std.specs.Prelude.{ℕ, Bool, true, ◌&&◌, ◌||◌, not, ◌==◌, IsTrue, List, [], ◌∷◌, ◌++◌, map, replicate, slice_get, Option, Some, None}
 use Rattle.std.specs.List.{list_any, list_all}
 use Rattle.dm_tree.specs.Initialisers.{expressions_of}
-use Rattle.dm_tree.specs.Trees.{Label, object, convert, sizeof_kind, declare, Declarator, Tree, Trees, node, no_trees, more_trees}
+use Rattle.dm_tree.specs.Trees.{Label, object, convert, sizeof_kind, block, declare, for_loop, Declarator, Tree, Trees, node, no_trees, more_trees}
 use Rattle.dm_tree.specs.Units.{Declaration, External, ExternalForm, declares, defines_function, TypedUnit}
 use Rattle.dm_meaning.specs.Statements.{is_automatic_declaration}
 
@@ -25,10 +25,14 @@ declared_here label = []
 abbrev pub declared_by : Tree → Scope
 declared_by (node label kind spans parts) = declared_here label
 
--- the scope of each part of a statement or an expression
+-- the scope of each part where what a part declares is in scope in those behind it, and where no part declares anything
 abbrev pub scopes_in_order : Scope → Trees → List (Option Scope)
 scopes_in_order scope no_trees = []
 scopes_in_order scope (more_trees first rest) = Some scope ∷ scopes_in_order (declared_by first ++ scope) rest
+
+abbrev pub same_scopes : Scope → Trees → List (Option Scope)
+same_scopes scope no_trees = []
+same_scopes scope (more_trees first rest) = Some scope ∷ same_scopes scope rest
 
 -- that of each expression of initialisers: a declarator's name is in scope in its own and in those behind it (6.2.1p7)
 abbrev pub scopes_of_initialisers : Scope → List Declarator → List (Option Scope)
@@ -42,7 +46,9 @@ abbrev pub scopes_of : Scope → Label → Trees → List (Option Scope)
 scopes_of scope convert parts = Some scope ∷ []
 scopes_of scope (sizeof_kind type) parts = []
 scopes_of scope (declare lengths declarators) parts = replicate lengths None ++ scopes_of_initialisers scope declarators
-scopes_of scope label parts = scopes_in_order scope parts
+scopes_of scope block parts = scopes_in_order scope parts
+scopes_of scope (for_loop first second third) parts = scopes_in_order scope parts
+scopes_of scope label parts = same_scopes scope parts
 
 -- ---- names
 
