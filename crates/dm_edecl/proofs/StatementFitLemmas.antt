@@ -23,7 +23,7 @@ use Rattle.dm_tree.specs.Trees as label
 use Rattle.dm_tree.specs.Typing.{IsCondition, IsStart as MayStart, FitsReturn, Fits, inside, IsWellTyped, AreWellTyped, AllWellTyped, labels_of}
 use Rattle.dm_typing.specs.Known.{Known, Setting, given}
 use Rattle.dm_typing.specs.Sound.{AreSoundTokens, IsSoundValue, IsSoundKnown, GivesMore}
-use Rattle.dm_typing.proofs.CallLemmas.{listed-trees}
+use Rattle.dm_tree.proofs.ListLemmas.{listed-trees}
 use Rattle.dm_typing.proofs.CoverLemmas.{covers-through}
 use Rattle.dm_typing.proofs.GrowthLemmas.{constant-stays}
 use Rattle.dm_typing.proofs.KnownLemmas.{stays-so, with-more}

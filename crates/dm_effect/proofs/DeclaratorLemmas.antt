@@ -4,6 +4,7 @@ use Rattle.std.specs.List.{list_any}
 use Rattle.std.proofs.Common.{rules}
 use Rattle.std.proofs.Math.Seq.{drop-append_seam, take-append_seam}
 use Rattle.dm_type.specs.Tables.{Table}
+use Rattle.dm_tree.proofs.ListLemmas.{listed-trees}
 use Rattle.dm_tree.specs.declared.tree.Core.{Core, out-Core}
 use Rattle.dm_tree.specs.declared.tree.Core as q
 use Rattle.dm_tree.specs.declared.tree.Form.{Form}
@@ -92,10 +93,6 @@ module _ (types : Table) where
       let back : drop (expressions_of one.declarator.initialiser) (one.expressions ++ others) ≡ others = ap (λ n. drop n (one.expressions ++ others)) (sym count) ∙ drop-append_seam one.expressions others in
       ap₂ (λ (expressions : List Tree) (rest : List statements.Local). record { declarator = one.declarator; expressions = expressions } ∷ rest) front
       (ap (with_expressions (declarators_of (map (view_of_local types) locals))) back ∙ locals-with locals)
-
-  listed-trees : (all : List Tree) → listed (trees all) ≡ all
-  listed-trees [] = refl
-  listed-trees (first ∷ rest) = ap (λ others. first ∷ others) (listed-trees rest)
 
   opened-Declare : (lengths : List Core) (locals : List Local) → opened_form types (form.Declare lengths locals)
       ≡ opened (label.declare (length (map (view types) lengths)) (declarators_of (map (view_of_local types) locals))) (map (view types) lengths ++ expressions_of_locals (map (view_of_local types) locals))

@@ -18,6 +18,7 @@ use Rattle.dm_type.specs.declared.shape.Shape.TheVariants as shape
 use Rattle.dm_type.specs.Tables.{Table, Has, IsId, types_of, type_of}
 use Rattle.dm_syn.specs.Sources.{Source, spelling_at}
 use Rattle.dm_syn.specs.Trees as syn
+use Rattle.dm_tree.proofs.ListLemmas.{listed-trees}
 use Rattle.dm_tree.specs.declared.tree.Core.{Core}
 use Rattle.dm_tree.specs.declared.tree.Core as q
 use Rattle.dm_tree.specs.declared.tree.Form.TheVariants.{Declare}
@@ -57,7 +58,8 @@ use Rattle.dm_estanding.specs.Summaries.{entry_over, kind_of_whole, Summarises, 
 use Rattle.dm_estanding.specs.Wholes.{settled}
 use Rattle.dm_estanding.proofs.LawfulLemmas.{beginning-lawful}
 use Rattle.dm_edeclaration.proofs.StepLemmas.{local-later}
-use Rattle.dm_eunit.specs.Elaborated.{typed_by, ElaboratesBy, Elaborates, IsNumberedUnit}
+use Rattle.dm_reading.specs.Elaborated.{ElaboratesBy, Elaborates, IsNumberedUnit}
+use Rattle.dm_eunit.specs.Elaborated.{typed_by}
 use Rattle.dm_eunit.specs.Functions.{external_over, ExternalFits, externals_over, ExternalsFit}
 use Rattle.dm_eunit.proofs.SameLemmas.{externals-same}
 
@@ -105,10 +107,6 @@ typed_unit_of declared all = record { declared = declared; externals = all }
 abbrev declared_in : Label → List Declarator
 declared_in (label.declare n declarators) = declarators
 declared_in other = []
-
-listed-trees : (all : List Tree) → listed (trees all) ≡ all
-listed-trees [] = refl
-listed-trees (first ∷ others) = ap (λ rest. first ∷ rest) (listed-trees others)
 
 pass-all : (n : ℕ) (locals : List Local) → list_all (are_known_in_local n) locals ≡ true → all_pass (map (are_known_in_local n) locals) ≡ true
 pass-all n [] h = refl

@@ -2,6 +2,7 @@
 use Rattle.std.proofs.Common.{◌≡◌, ℕ, List, [], ◌∷◌, ◌++◌, map, length, Option, Some, None, Bor, refl, ap, sym, subst, arith, ◌∙◌}
 use Rattle.dm_type.specs.CTypes.{CType}
 use Rattle.dm_type.specs.Tables.{Table, no_type, type_of}
+use Rattle.dm_tree.proofs.ListLemmas.{listed-trees}
 use Rattle.dm_tree.proofs.ViewLemmas.{view-core}
 use Rattle.dm_tree.specs.declared.tree.Core.{Core, out-Core}
 use Rattle.dm_tree.specs.declared.tree.Form.{Form}
@@ -25,7 +26,7 @@ use Rattle.dm_frame.specs.Forms.{IsBegunForm, IsPlain}
 use Rattle.dm_frame.specs.Frames.{tasks_of, FrameFits}
 use Rattle.dm_frame.specs.Tasks.{declares_local, view_of_begun, view_of_loop, view_of_tasks, view_of_use, LoopFits, TasksFit}
 use Rattle.dm_program.proofs.FormLemmas.{opened-Block, opened-Break, opened-Case, opened-Continue, opened-Declare, opened-Default, opened-Do, opened-For, opened-Full, opened-If, opened-Return, opened-Switch, opened-While}
-use Rattle.dm_program.proofs.InitialLemmas.{item-Declare, listed-trees}
+use Rattle.dm_program.proofs.InitialLemmas.{item-Declare}
 use Rattle.dm_program.proofs.SortLemmas.{Sorted, is-Block, is-Declare, is-Full, is-If, is-Switch, is-Case, is-Default, is-While, is-Do, is-For, is-Break, is-Continue, is-Return, is-inert, sorted}
 use Rattle.dm_frame.proofs.KeptLemmas.{kept-whole}
 
@@ -142,7 +143,7 @@ module _ (program : Program) (names : ℕ → ℕ) (objects : Objects) (rest : L
   pub switch-meant : (operand : Tree) (items : List Tree)
       → onward objects (evaluation operand (states.selects items) ∷ states.ends_switch objects ∷ rest) memory
       ≡ begin_form program names objects rest memory label.switch (listed (trees (operand ∷ items)))
-  switch-meant operand items = ap (λ all. onward objects (evaluation operand (states.selects all) ∷ states.ends_switch objects ∷ rest) memory) (sym (listed-trees no_type items))
+  switch-meant operand items = ap (λ all. onward objects (evaluation operand (states.selects all) ∷ states.ends_switch objects ∷ rest) memory) (sym (listed-trees items))
 
   pub return-meant : (value : Option Tree) → returning objects memory value ≡ begin_form program names objects rest memory label.return (listed (trees (if_there value)))
   return-meant None = refl

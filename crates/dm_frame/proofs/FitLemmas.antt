@@ -6,6 +6,7 @@ use Rattle.std.proofs.lemmas.Option.{none-some}
 use Rattle.std.specs.List.{list_all}
 use Rattle.dm_type.specs.CTypes.{CType}
 use Rattle.dm_type.specs.Tables.{Table}
+use Rattle.dm_tree.proofs.ListLemmas.{listed-trees}
 use Rattle.dm_tree.proofs.ViewLemmas.{known-form, view-core}
 use Rattle.dm_tree.specs.declared.tree.Core.{Core, out-Core}
 use Rattle.dm_tree.specs.declared.tree.Core as q
@@ -22,7 +23,7 @@ use Rattle.dm_tree.specs.TypeNumbers.{all_pass, are_known, are_known_in_form, ar
 use Rattle.dm_tree.specs.Views.{Opened, OpenedInitial, OpenedLocal, opened, opened_form, view, view_of_local, form_layer, initial_layer, core_layer, local_layer, if_there, items_of, expressions_of_items, expressions_of_locals}
 use Rattle.dm_meaning.specs.Wholes.{all_expressions, are_whole, is_expression, is_whole, is_whole_start, loop_whole, AreWhole, AreWholeInitials, AreWholeLocals}
 use Rattle.dm_program.proofs.FormLemmas.{known-Block, known-Case, known-Declare, known-Default, known-Do, known-For, known-Full, known-If, known-Return, known-Switch, known-While, opened-Block, opened-Case, opened-Declare, opened-Default, opened-Do, opened-For, opened-Full, opened-If, opened-Return, opened-Switch, opened-While}
-use Rattle.dm_program.proofs.InitialLemmas.{listed-trees, local-some}
+use Rattle.dm_program.proofs.InitialLemmas.{local-some}
 use Rattle.dm_program.specs.Initials.{view_of_initial, are_known_in_initial}
 use Rattle.dm_frame.specs.Forms.{is_whole_form, FormFits, IsInside}
 use Rattle.dm_frame.specs.Tasks.{initials_at, ExpressionFits, FitsIfThere, InitialFits, InitialsFit, LocalFits, LocalsFit, StartFits, TreeFits, TreesFit}
@@ -149,7 +150,7 @@ module _ (table : Table) where
       let before = map (view types) lengths in
       let behind = expressions_of_locals (map (view_of_local types) locals) in
       (and_parts _ _ (sym (list_all-append is_expression before behind)
-      ∙ (sym (ap all_expressions (listed-trees types (before ++ behind))) ∙ (sym (ap is_whole_form (opened-Declare types lengths locals)) ∙ fits.1 types)))).1)
+      ∙ (sym (ap all_expressions (listed-trees (before ++ behind))) ∙ (sym (ap is_whole_form (opened-Declare types lengths locals)) ∙ fits.1 types)))).1)
 
   pub fits-Full : (a : Core) → FormFits table (form.Full a) → ExpressionFits table a
   fits-Full a fits = (

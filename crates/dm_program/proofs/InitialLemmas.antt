@@ -2,6 +2,7 @@
 use Rattle.std.proofs.Common.{◌≡◌, ℕ, ◌+◌, Bool, List, [], ◌∷◌, ◌++◌, map, length, take, drop, Option, Some, None, length-append, refl, ap, sym, subst, ◌∙◌}
 use Rattle.std.proofs.Math.Seq.{drop-append_seam, take-append_seam}
 use Rattle.dm_type.specs.Tables.{Table, type_of}
+use Rattle.dm_tree.proofs.ListLemmas.{listed-trees}
 use Rattle.dm_tree.proofs.ViewLemmas.{view-core}
 use Rattle.dm_tree.specs.declared.tree.Core.{Core, out-Core}
 use Rattle.dm_tree.specs.declared.tree.Form.{Form}
@@ -88,10 +89,6 @@ module _ (table : Table) where
       ap (λ expressions. declares one.declarator expressions ∷ declarator_tasks (declarators_of (map (view_of_local table) locals)) (drop (expressions_of one.declarator.initialiser) (one.expressions ++ others))) front
       ∙ (ap (λ expressions. declares_one one ∷ declarator_tasks (declarators_of (map (view_of_local table) locals)) expressions) back
       ∙ ap (λ tasks. declares_one one ∷ tasks) (locals-tasks locals))
-
-  pub listed-trees : (all : List Tree) → listed (trees all) ≡ all
-  listed-trees [] = refl
-  listed-trees (first ∷ rest) = ap (λ others. first ∷ others) (listed-trees rest)
 
   -- a declaration as an item of a block
   pub item-Declare : (core : Core) (lengths : List Core) (locals : List Local) → (out-Core core).form ≡ form.Declare lengths locals

@@ -17,7 +17,7 @@ use Rattle.dm_tree.specs.Views.{Opened, OpenedInitial, OpenedLocal, opened, open
 use Rattle.dm_meaning.specs.Wholes.{is_whole, are_whole}
 use Rattle.dm_program.specs.Functions.{IsItems}
 use Rattle.dm_program.proofs.FormLemmas.{opened-Block, known-Block}
-use Rattle.dm_program.proofs.InitialLemmas.{listed-trees}
+use Rattle.dm_tree.proofs.ListLemmas.{listed-trees}
 
 module _ (table : Table) where
   abbrev Layer : Type 0
@@ -54,7 +54,7 @@ view-block table body items is =
 
 pub block-items : (body : Core) (items : List Core) → (out-Core body).form ≡ form.Block items → IsItems body items
 block-items body items is = record {
-  same = λ table e. sym (ap parts_of (view-block table body items is) ∙ listed-trees table (map (view table) items));
+  same = λ table e. sym (ap parts_of (view-block table body items is) ∙ listed-trees (map (view table) items));
   known = λ n h. sym (known-Block n items) ∙ ap (are_known_in_form n) (sym is) ∙ known-form n body h;
   whole = λ h types. sym (whole-each (map (view types) items)) ∙ ap is_whole (sym (view-block types body items is)) ∙ h types;
 }

@@ -7,6 +7,7 @@ use Rattle.std.proofs.Math.Seq.{drop-append_seam, take-append_seam}
 use Rattle.std.proofs.lemmas.Bool.{and_parts, and_from}
 use Rattle.std.proofs.lemmas.Option.{slice_get-map, slice_get_within}
 use Rattle.dm_type.specs.Tables.{Table, no_type}
+use Rattle.dm_tree.proofs.ListLemmas.{listed-trees}
 use Rattle.dm_tree.proofs.ViewLemmas.{view-core, known-form}
 use Rattle.dm_tree.specs.declared.tree.Core.{Core, out-Core}
 use Rattle.dm_tree.specs.declared.tree.Form.{Form}
@@ -31,7 +32,7 @@ use Rattle.dm_program.specs.Gathering.{as_local, seen, IsStaticKnown, local_from
 use Rattle.dm_program.specs.Initials.{view_of_initial, are_known_in_initial}
 use Rattle.dm_program.specs.Statics.{static_of}
 use Rattle.dm_program.proofs.FormLemmas.{opened-Block, opened-Declare, opened-Full, opened-If, opened-Switch, opened-Case, opened-Default, opened-While, opened-Do, opened-For, opened-Return, known-Block, known-Declare, known-Full, known-If, known-Switch, known-Case, known-Default, known-While, known-Do, known-For, known-Return}
-use Rattle.dm_program.proofs.InitialLemmas.{listed-trees, local-counted}
+use Rattle.dm_program.proofs.InitialLemmas.{local-counted}
 
 -- ---- one after the other
 
@@ -272,7 +273,7 @@ declare-gathers a b one lengths locals is g =
     let behind = expressions_of_locals (map (view_of_local table) locals) in
     let declarators = declarators_of (map (view_of_local table) locals) in
     sym (locals-with table locals) ∙ ap (with_expressions declarators) (sym (drop-append_seam before behind))
-    ∙ ap (λ all. with_expressions declarators (drop (length before) all)) (sym (listed-trees table (before ++ behind))))
+    ∙ ap (λ all. with_expressions declarators (drop (length before) all)) (sym (listed-trees (before ++ behind))))
   where
     each : (n : ℕ) (all : List Local) → all_pass (map (are_known_in_local n) all) ≡ true → list_all (are_known_in_local n) all ≡ true
     each n [] h = refl

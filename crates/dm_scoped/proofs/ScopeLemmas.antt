@@ -6,7 +6,8 @@ use Rattle.std.specs.Cmp.Lexicographic.{slice_cmp}
 use Rattle.std.specs.Ordering.{nat_cmp, eq_by_cmp}
 use Rattle.std.specs.FinMap as map
 use Rattle.dm_type.specs.TableLaws.{injected}
-use Rattle.dm_scope.specs.Scopes.{Numbers, Scopes, or_else, number_of, declared as declared_in}
+use Rattle.dm_name_map.specs.Numbers.{Numbers}
+use Rattle.dm_scope.specs.Scopes.{Scopes, or_else, number_of, declared as declared_in}
 use Rattle.dm_meaning.specs.Statements.{is_automatic_sort}
 use Rattle.dm_tree.specs.Units.{Declaration}
 

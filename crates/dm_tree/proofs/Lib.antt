@@ -1,3 +1,4 @@
 pub mod Rows
 pub mod ViewLemmas
 pub mod ExpressionLemmas
+pub mod ListLemmas

@@ -4,6 +4,7 @@ use Rattle.std.proofs.Common.{sym, ap, subst, inl, inr, ⊎_elim}
 use Rattle.dm_int.specs.declared.Kind.TheVariants as k
 use Rattle.dm_type.specs.CTypes.{CType, CTypes, void, integer, pointer, struct, function as function_type, no_types, more_types, bare}
 use Rattle.dm_syn.specs.Trees.{Expr}
+use Rattle.dm_tree.proofs.ListLemmas.{listed-trees}
 use Rattle.dm_tree.specs.Trees.{Tree, node, no_trees, more_trees, label_of, kind_of, listed, trees}
 use Rattle.dm_tree.specs.Trees as label
 use Rattle.dm_tree.specs.Scenes.{target, is_void, are_alike, IsConstant}
@@ -64,10 +65,6 @@ assigned-fits known type tree sound proper h =
     (assigned-becomes known tree (bare type) h)
 
 -- ---- calls
-
-pub listed-trees : (all : List Tree) → listed (trees all) ≡ all
-listed-trees [] = refl
-listed-trees (first ∷ rest) = ap (λ others. first ∷ others) (listed-trees rest)
 
 sound-trees : (known : Known) (all : List Tree) → AreSound known all → AreWellTyped (scene_of known) (trees all)
 sound-trees known [] sound = tt

@@ -8,7 +8,7 @@ use Rattle.dm_meaning.specs.Choices.{in_order}
 use Rattle.dm_meaning.specs.Statements.{begin_for, begin_form, loop_with}
 use Rattle.dm_program.specs.Sources.{meant}
 use Rattle.dm_program.proofs.FormLemmas.{opened-Block, opened-For}
-use Rattle.dm_program.proofs.InitialLemmas.{listed-trees}
+use Rattle.dm_tree.proofs.ListLemmas.{listed-trees}
 use Rattle.dm_frame.specs.Frames.{tasks_of}
 use Rattle.dm_frame.specs.Tasks.{tree_or_none, view_of_loop, ExpressionFits, StartFits, TreeFits, TreesFit}
 use Rattle.dm_frame.proofs.BlockLemmas.{for-parts, statement-form}
@@ -48,7 +48,7 @@ returns-in_ok-begin_block-in-Block-clause-left c =
     record {
       same = left.same
           ∙ (ap (λ (items : List Core). begin_form program (in_order memory) start.objects (tasks_of table start) memory block (map (view table) items)) c.items.ensures
-          ∙ (ap (begin_form program (in_order memory) start.objects (tasks_of table start) memory block) (sym (listed-trees table (map (view table) c.in-Block.items)))
+          ∙ (ap (begin_form program (in_order memory) start.objects (tasks_of table start) memory block) (sym (listed-trees (map (view table) c.in-Block.items)))
           ∙ statement-form program (in_order memory) start.objects (tasks_of table start) memory table c.unlabelled-statement.result.now (view table c.args.tree.now) _ (c.unlabelled-statement.ensures.same table)
           (ap (opened_form table) c.in-Block.is ∙ opened-Block table c.in-Block.items)));
       frame_fits = left.frame_fits;
