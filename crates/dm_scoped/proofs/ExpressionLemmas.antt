@@ -225,3 +225,279 @@ derived-gives seen known type [] sees = stays seen Any known type sees tt
 derived-gives seen known type (step ∷ steps) sees =
     after-gives seen Any Any known (stepped known type step) (λ behind made. derived behind made steps) (stepped-gives seen known sees type step)
     (λ behind made more any. derived-gives seen behind made steps more.sees)
+
+module _ (seen : ℕ → Bool) (setting : Setting) (known : Known) (sees : Sees known.declared seen known.scopes) where
+  pub new-step : (tag : Option ℕ) → Step seen known (new_struct setting known tag)
+  new-step None = step-none seen known sees
+  new-step (Some at) =
+      declaring-step seen known (tag_key (spelling_at setting.source at))
+      (tag_entry (spelling_at setting.source at) (struct_type (length known.types.structs)) (place_at setting.source at)) sees (λ no. absurd (cc))
+
+  pub struct-gives : (span : Span) (tag : Option ℕ) (found : Option Declaration) → Gives seen Any known (struct_named setting known span tag found)
+  struct-gives span tag None = gives-so seen Any known (new_struct setting known tag) _ (new-step tag) tt
+  struct-gives span tag (Some entry) = obeys-gives seen Any known (is_some (number_if_struct entry.kind)) 4 span.first _ (stays seen Any known _ sees tt)
+
+  -- a struct whose members follow
+  struct-step : (tag : Option ℕ) (found : Option Declaration) → Step seen known (with_new_struct setting known tag found)
+  struct-step tag None = new-step tag
+  struct-step tag (Some entry) = step-none seen known sees
+
+  pub begun-step : (tag : Option ℕ) (found : Option Declaration) (number : Option ℕ) → Step seen known (beginning (with_new_struct setting known tag found) number)
+  begun-step tag found None = struct-step tag found
+  begun-step tag found (Some at) = let step = struct-step tag found in record { grown = step.grown; sees = step.sees; depth = step.depth }
+
+  pub ended-gives : (span : Span) (number : Option ℕ) (begun : List ℕ) (members : List TypedMember) → Gives seen Any known (struct_ended known span number begun members)
+  ended-gives span None begun members = broken-gives seen Any known 4 span.first
+  ended-gives span (Some at) begun [] = broken-gives seen Any known 5 span.first
+  ended-gives span (Some at) begun (first ∷ rest) =
+      obeys-gives seen Any known (is_some (struct_layout known.types (fields known.types (first ∷ rest)))) 5 span.first _
+      (gives-so seen Any known _ _ (let step = step-none seen known sees in record { grown = step.grown; sees = step.sees; depth = step.depth }) tt)
+
+  -- an enum whose enumerators follow
+  pub enum-step : (tag : Option ℕ) (test : Bool) → Step seen known (if test then known else tag_declared setting known tag (integer k.Int))
+  enum-step tag true = step-none seen known sees
+  enum-step tag false = tag-step seen setting known sees tag (integer k.Int)
+
+  -- a tree of a length or an enumerator value is kept
+  constant-step : (tree : Tree) → Step seen known (with_constant known tree)
+  constant-step tree = let step = step-none seen known sees in record { grown = step.grown; sees = step.sees; depth = step.depth }
+
+  pub valued-gives : (at here : ℕ) (tree : Tree) → Gives seen Any known (enumerator_valued setting known at here tree)
+  valued-gives at here tree =
+      if-gives seen Any known (constant_of known tree) 7 here _ (λ value e. obeys-gives seen Any known (is_int value) 7 here _
+      (gives-from seen Any known (with_constant known tree) (enumerator_declared setting (with_constant known tree) at value) (constant-step tree)
+      (enumerator-gives seen setting (with_constant known tree) sees at value)))
+
+  pub length-gives : (here : ℕ) (tree : Tree) → Gives seen Any known (length_of known here tree)
+  length-gives here tree =
+      if-gives seen Any known (option_and_then natural (constant_of known tree)) 5 here _ (λ n e. gives-so seen Any known (with_constant known tree) n (constant-step tree) tt)
+
+-- a parameter, in a scope where all names pass
+pub parameter-gives : (setting : Setting) (known : Known) (here : ℕ) (type : CType) (name : Option ℕ) → Sees known.declared all-pass known.scopes
+    → Gives all-pass Any known (typed_parameter setting known here type name)
+parameter-gives setting known here type name sees =
+    obeys-gives all-pass Any known (is_new_parameter setting known name) 2 _ _ (obeys-gives all-pass Any known (not (is_function type)) 5 here _ (declared name))
+  where
+    declared : (name : Option ℕ) → Gives all-pass Any known (parameter_declared setting known (adjusted type) name)
+    declared None = stays all-pass Any known _ sees tt
+    declared (Some at) =
+        gives-so all-pass Any known _ _ (declaring-step all-pass known (spelling_at setting.source at) (parameter_entry setting at (adjusted type)) sees (λ auto. refl)) tt
+
+-- the trees of a type name are a list of their own
+pub name-ends : (seen : ℕ → Bool) (known : Known) (constants : List Tree) (outcome : Outcome CType)
+    → Gives seen Any (record known { constants = [] }) outcome → Gives seen Any known (name_ended constants outcome)
+unfolding Gives
+name-ends seen known constants (given behind kind) h = (record { grown = h.0.grown; sees = h.0.sees; depth = h.0.depth }, tt)
+name-ends seen known constants (broken rule at) h = tt
+
+-- ---- the syntax
+
+module _ (setting : Setting) where
+  mutual
+    unfolding typed_within typed_values typed_name typed_specifiers words_said word_said fields_of fields_declared fields_with enumerators_of enumerator_of steps_of direct_steps parameters_of parameter_of
+
+    -- 6.5
+    pub expr-scoped : (seen : ℕ → Bool) (used : Bool) (known : Known) (outer : Span) (expr : Expr) → Sees known.declared seen known.scopes
+        → Gives seen (IsScopedIn seen) known (typed_within setting used known outer expr)
+    expr-scoped seen used known outer (tree.name span) sees = name-gives seen setting known sees (extent span outer) used (spelling_at setting.source span.first)
+    expr-scoped seen used known outer (tree.constant span) sees =
+        stays seen (IsScopedIn seen) known _ sees (constant-scoped seen setting known sees (extent span outer) (slice_get setting.source.tokens span.first))
+    expr-scoped seen used known outer (tree.literal span) sees =
+        stays seen (IsScopedIn seen) known _ sees (literal-scoped seen setting known sees (extent span outer) (spelling_at setting.source span.first))
+    expr-scoped seen used known outer (tree.paren span inner) sees = expr-scoped seen used known outer inner sees
+    expr-scoped seen used known outer (tree.index span a b) sees =
+        after-gives seen (IsScopedIn seen) (IsScopedIn seen) known (typed setting used known a) _ (expr-scoped seen used known (expr_span a) a sees) (λ then_known first step one.
+        after-gives seen (IsScopedIn seen) (IsScopedIn seen) then_known (typed setting used then_known b) _ (expr-scoped seen used then_known (expr_span b) b step.sees) (λ behind second more other.
+        index-gives seen setting behind more.sees (extent span outer) (as_value first) (as_value second)
+        (value-scoped seen setting behind more.sees first (scoped-later seen then_known.declared behind.declared first more.grown one))
+        (value-scoped seen setting behind more.sees second other)))
+    expr-scoped seen used known outer (tree.call span callee arguments) sees =
+        after-gives seen (IsScopedIn seen) (IsScopedIn seen) known (typed setting used known callee) _ (expr-scoped seen used known (expr_span callee) callee sees) (λ then_known first step one.
+        after-gives seen (AllScoped seen) (IsScopedIn seen) then_known (typed_values setting used then_known arguments) _ (values-scoped seen used then_known arguments step.sees) (λ behind values more others.
+        call-gives seen setting behind more.sees (extent span outer) callee first values (scoped-later seen then_known.declared behind.declared first more.grown one) others))
+    expr-scoped seen used known outer (tree.member span whole name) sees =
+        after-gives seen (IsScopedIn seen) (IsScopedIn seen) known (typed setting used known whole) _ (expr-scoped seen used known (expr_span whole) whole sees)
+        (λ behind made step one. member-gives seen setting behind step.sees (extent span outer) name made one)
+    expr-scoped seen used known outer (tree.arrow span operand name) sees =
+        after-gives seen (IsScopedIn seen) (IsScopedIn seen) known (typed setting used known operand) _ (expr-scoped seen used known (expr_span operand) operand sees)
+        (λ behind made step one. arrow-gives seen setting behind step.sees (extent span outer) name (as_value made) (value-scoped seen setting behind step.sees made one))
+    expr-scoped seen used known outer (tree.postfix span operand operator) sees =
+        after-gives seen (IsScopedIn seen) (IsScopedIn seen) known (typed setting used known operand) _ (expr-scoped seen used known (expr_span operand) operand sees)
+        (λ behind made step one. count-gives seen setting behind step.sees (extent span outer) operator false made one)
+    expr-scoped seen used known outer (tree.prefix span operator operand) sees =
+        after-gives seen (IsScopedIn seen) (IsScopedIn seen) known (typed setting used known operand) _ (expr-scoped seen used known (expr_span operand) operand sees)
+        (λ behind made step one. prefix-gives seen setting behind step.sees (extent span outer) operator made (symbol_at setting.source operator) one)
+    expr-scoped seen used known outer (tree.sizeof_expr span operand) sees =
+        after-gives seen (IsScopedIn seen) (IsScopedIn seen) known (typed setting false known operand) _ (expr-scoped seen false known (expr_span operand) operand sees)
+        (λ behind made step one. sizeof-gives seen setting behind step.sees (extent span outer) made one)
+    expr-scoped seen used known outer (tree.sizeof_name span name) sees =
+        after-gives seen Any (IsScopedIn seen) known (typed_name setting false known name) _ (name-scoped seen false known name sees)
+        (λ behind it step any. sizeof-name-gives seen setting behind step.sees (extent span outer) it.kind it.constants)
+    expr-scoped seen used known outer (tree.cast span name operand) sees =
+        after-gives seen Any (IsScopedIn seen) known (typed_name setting used known name) _ (name-scoped seen used known name sees) (λ then_known it step any.
+        after-gives seen (IsScopedIn seen) (IsScopedIn seen) then_known (typed setting used then_known operand) _ (expr-scoped seen used then_known (expr_span operand) operand step.sees)
+        (λ behind made more one. cast-gives seen setting behind more.sees (extent span outer) (bare it.kind) it.constants (as_value made) (value-scoped seen setting behind more.sees made one)))
+    expr-scoped seen used known outer (tree.binary span a operator b) sees =
+        after-gives seen (IsScopedIn seen) (IsScopedIn seen) known (typed setting used known a) _ (expr-scoped seen used known (expr_span a) a sees) (λ then_known first step one.
+        after-gives seen (IsScopedIn seen) (IsScopedIn seen) then_known (typed setting used then_known b) _ (expr-scoped seen used then_known (expr_span b) b step.sees) (λ behind second more other.
+        binary-gives seen setting behind more.sees (extent span outer) operator (as_value first) (as_value second) (symbol_at setting.source operator)
+        (value-scoped seen setting behind more.sees first (scoped-later seen then_known.declared behind.declared first more.grown one))
+        (value-scoped seen setting behind more.sees second other)))
+    expr-scoped seen used known outer (tree.conditional span a b c) sees =
+        after-gives seen (IsScopedIn seen) (IsScopedIn seen) known (typed setting used known a) _ (expr-scoped seen used known (expr_span a) a sees) (λ then_known first step one.
+        after-gives seen (IsScopedIn seen) (IsScopedIn seen) then_known (typed setting used then_known b) _ (expr-scoped seen used then_known (expr_span b) b step.sees) (λ then_more second more other.
+        after-gives seen (IsScopedIn seen) (IsScopedIn seen) then_more (typed setting used then_more c) _ (expr-scoped seen used then_more (expr_span c) c more.sees) (λ behind third last another.
+        choice-gives seen setting behind last.sees (extent span outer) (as_value first) (as_value second) (as_value third)
+        (value-scoped seen setting behind last.sees first
+        (scoped-later seen then_more.declared behind.declared first last.grown (scoped-later seen then_known.declared then_more.declared first more.grown one)))
+        (value-scoped seen setting behind last.sees second (scoped-later seen then_more.declared behind.declared second last.grown other))
+        (value-scoped seen setting behind last.sees third another))))
+    expr-scoped seen used known outer (tree.assign span object operator value) sees =
+        after-gives seen (IsScopedIn seen) (IsScopedIn seen) known (typed setting used known object) _ (expr-scoped seen used known (expr_span object) object sees) (λ then_known first step one.
+        after-gives seen (IsScopedIn seen) (IsScopedIn seen) then_known (typed setting used then_known value) _ (expr-scoped seen used then_known (expr_span value) value step.sees) (λ behind second more other.
+        assignment-gives seen setting behind more.sees (extent span outer) operator first (as_value second) (symbol_at setting.source operator)
+        (scoped-later seen then_known.declared behind.declared first more.grown one) (value-scoped seen setting behind more.sees second other)))
+    expr-scoped seen used known outer (tree.comma span parts) sees =
+        after-gives seen (AllScoped seen) (IsScopedIn seen) known (typed_values setting used known parts) _ (values-scoped seen used known parts sees)
+        (λ behind values step all. comma-gives seen setting behind step.sees (extent span outer) span.first values all)
+
+    values-scoped : (seen : ℕ → Bool) (used : Bool) (known : Known) (exprs : Exprs) → Sees known.declared seen known.scopes
+        → Gives seen (AllScoped seen) known (typed_values setting used known exprs)
+    values-scoped seen used known tree.no_exprs sees = stays seen (AllScoped seen) known [] sees tt
+    values-scoped seen used known (tree.more_exprs first others) sees =
+        after-gives seen (IsScopedIn seen) (AllScoped seen) known (typed setting used known first) _ (expr-scoped seen used known (expr_span first) first sees) (λ then_known made step one.
+        after-gives seen (AllScoped seen) (AllScoped seen) then_known (typed_values setting used then_known others) _ (values-scoped seen used then_known others step.sees) (λ behind values more all.
+        stays seen (AllScoped seen) behind (as_value made ∷ values) more.sees
+        (value-scoped seen setting behind more.sees made (scoped-later seen then_known.declared behind.declared made more.grown one), all)))
+
+    -- 6.7.7
+    pub name-scoped : (seen : ℕ → Bool) (used : Bool) (known : Known) (name : TypeName) → Sees known.declared seen known.scopes
+        → Gives seen Any known (typed_name setting used known name)
+    name-scoped seen used known (tree.type_name span specifiers declarator) sees =
+        let bared : Known = record known { constants = [] } in
+        name-ends seen known known.constants _
+        (after-gives seen Any Any bared (typed_specifiers setting used elsewhere false bared specifiers) _ (specifiers-scoped seen used elsewhere false bared specifiers sees) (λ then_known base step any.
+        after-gives seen Any Any then_known (steps_of setting used then_known declarator) _ (declarator-scoped seen used then_known declarator step.sees)
+        (λ behind steps more any. derived-gives seen behind base steps more.sees)))
+
+    -- 6.7
+    pub specifiers-scoped : (seen : ℕ → Bool) (used : Bool) (stands : Where) (alone : Bool) (known : Known) (specifiers : Specifiers) → Sees known.declared seen known.scopes
+        → Gives seen Any known (typed_specifiers setting used stands alone known specifiers)
+    specifiers-scoped seen used stands alone known (tree.listed span words) sees =
+        after-gives seen Any Any known (words_said setting used alone known nothing_said words) _ (words-scoped seen used alone known nothing_said words sees)
+        (λ behind said step any. said-gives seen setting behind step.sees stands span.first said)
+
+    pub words-scoped : (seen : ℕ → Bool) (used alone : Bool) (known : Known) (said : Said) (words : Words) → Sees known.declared seen known.scopes
+        → Gives seen Any known (words_said setting used alone known said words)
+    words-scoped seen used alone known said tree.no_words sees = stays seen Any known said sees tt
+    words-scoped seen used alone known said (tree.more_words first others) sees =
+        after-gives seen Any Any known (word_said setting used alone known said first) _ (word-scoped seen used alone known said first sees)
+        (λ behind so_far step any. words-scoped seen used alone behind so_far others step.sees)
+
+    word-scoped : (seen : ℕ → Bool) (used alone : Bool) (known : Known) (said : Said) (word : Specifier) → Sees known.declared seen known.scopes
+        → Gives seen Any known (word_said setting used alone known said word)
+    word-scoped seen used alone known said (tree.keyword at) sees = stays seen Any known _ sees tt
+    word-scoped seen used alone known said (tree.typedef_name at) sees =
+        if-gives seen Any known (meaning_of known (spelling_at setting.source at)) 1 at _ (λ entry e. stays seen Any known _ sees tt)
+    word-scoped seen used alone known said (tree.struct_only span tag) sees =
+        with-gives seen Any Any known _ (λ behind type. with_type type said)
+        (struct-gives seen setting known sees span tag (if alone then tag_inside setting known tag else tag_seen setting known tag)) (λ behind type step any. tt)
+    word-scoped seen used alone known said (tree.struct_with span tag members) sees =
+        let found = tag_inside setting known tag in
+        let number = struct_begun known found in
+        let begun = beginning (with_new_struct setting known tag found) number in
+        let step = begun-step seen setting known sees tag found number in
+        with-gives seen Any Any known _ (λ behind type. with_type type said)
+        (gives-from seen Any known begun (after (fields_of setting used begun [] members) (λ behind all. struct_ended behind span number known.begun all)) step
+        (after-gives seen Any Any begun (fields_of setting used begun [] members) _ (fields-scoped seen used begun [] members step.sees)
+        (λ behind all more any. ended-gives seen setting behind more.sees span number known.begun all))) (λ behind type step any. tt)
+    word-scoped seen used alone known said (tree.enum_only span tag trailing) sees =
+        with-gives seen Any Any known _ (λ behind type. with_type type said) (enum-gives seen setting known sees span (tag_seen setting known tag)) (λ behind type step any. tt)
+    word-scoped seen used alone known said (tree.enum_with span tag enumerators trailing) sees =
+        let test = is_some (tag_inside setting known tag) in
+        let begun = if test then known else tag_declared setting known tag (integer k.Int) in
+        let step = enum-step seen setting known sees tag test in
+        with-gives seen Any Any known _ (λ behind type. with_type type said)
+        (gives-from seen Any known begun _ step
+        (after-gives seen Any Any begun (enumerators_of setting used begun (negsuc 0) enumerators) _ (enumerators-scoped seen used begun (negsuc 0) enumerators step.sees)
+        (λ behind last more any. obeys-gives seen Any behind (not test) 4 span.first _ (stays seen Any behind (integer k.Int) more.sees tt)))) (λ behind type step any. tt)
+
+    -- 6.7.2.1
+    fields-scoped : (seen : ℕ → Bool) (used : Bool) (known : Known) (before : List TypedMember) (members : Members) → Sees known.declared seen known.scopes
+        → Gives seen Any known (fields_of setting used known before members)
+    fields-scoped seen used known before tree.no_members sees = stays seen Any known before sees tt
+    fields-scoped seen used known before (tree.more_members first others) sees =
+        after-gives seen Any Any known (fields_declared setting used known before first) _ (member-scoped seen used known before first sees)
+        (λ behind so_far step any. fields-scoped seen used behind so_far others step.sees)
+
+    member-scoped : (seen : ℕ → Bool) (used : Bool) (known : Known) (before : List TypedMember) (member : Member) → Sees known.declared seen known.scopes
+        → Gives seen Any known (fields_declared setting used known before member)
+    member-scoped seen used known before (tree.members span specifiers declarators) sees =
+        after-gives seen Any Any known (typed_specifiers setting used elsewhere false known specifiers) _ (specifiers-scoped seen used elsewhere false known specifiers sees)
+        (λ behind base step any. declarators-scoped seen used behind base before declarators step.sees)
+
+    declarators-scoped : (seen : ℕ → Bool) (used : Bool) (known : Known) (base : CType) (before : List TypedMember) (declarators : Declarators) → Sees known.declared seen known.scopes
+        → Gives seen Any known (fields_with setting used known base before declarators)
+    declarators-scoped seen used known base before tree.no_declarators sees = stays seen Any known before sees tt
+    declarators-scoped seen used known base before (tree.more_declarators first others) sees =
+        after-gives seen Any Any known (steps_of setting used known first) _ (declarator-scoped seen used known first sees) (λ then_known steps step any.
+        after-gives seen Any Any then_known (derived then_known base steps) _ (derived-gives seen then_known base steps step.sees) (λ then_more type more any.
+        after-gives seen Any Any then_more (typed_field setting then_more (declarator_span first).first (declarator_name first) before type) _
+        (field-gives seen setting then_more more.sees (declarator_span first).first (declarator_name first) before type)
+        (λ behind so_far last any. declarators-scoped seen used behind base so_far others last.sees)))
+
+    -- 6.7.2.2
+    enumerators-scoped : (seen : ℕ → Bool) (used : Bool) (known : Known) (last : ℤ) (enumerators : Enumerators) → Sees known.declared seen known.scopes
+        → Gives seen Any known (enumerators_of setting used known last enumerators)
+    enumerators-scoped seen used known last tree.no_enumerators sees = stays seen Any known last sees tt
+    enumerators-scoped seen used known last (tree.more_enumerators first others) sees =
+        after-gives seen Any Any known (enumerator_of setting used known last first) _ (enumerator-scoped seen used known last first sees)
+        (λ behind value step any. enumerators-scoped seen used behind value others step.sees)
+
+    enumerator-scoped : (seen : ℕ → Bool) (used : Bool) (known : Known) (last : ℤ) (enumerator : Enumerator) → Sees known.declared seen known.scopes
+        → Gives seen Any known (enumerator_of setting used known last enumerator)
+    enumerator-scoped seen used known last (tree.bare span at) sees = enumerator-gives seen setting known sees at (last +ℤ pos 1)
+    enumerator-scoped seen used known last (tree.valued span at value) sees =
+        after-gives seen (IsScopedIn seen) Any known (typed setting used known value) _ (expr-scoped seen used known (expr_span value) value sees)
+        (λ behind made step one. valued-gives seen setting behind step.sees at (expr_span value).first (as_value made))
+
+    -- 6.7.6
+    pub declarator-scoped : (seen : ℕ → Bool) (used : Bool) (known : Known) (declarator : Declarator) → Sees known.declared seen known.scopes
+        → Gives seen Any known (steps_of setting used known declarator)
+    declarator-scoped seen used known (tree.shaped span consts direct) sees =
+        with-gives seen Any Any known (direct_steps setting used known (direct_at span.first consts) direct) _
+        (direct-scoped seen used known (direct_at span.first consts) direct sees) (λ behind steps step any. tt)
+
+    pub direct-scoped : (seen : ℕ → Bool) (used : Bool) (known : Known) (here : ℕ) (direct : Direct) → Sees known.declared seen known.scopes
+        → Gives seen Any known (direct_steps setting used known here direct)
+    direct-scoped seen used known here tree.absent sees = stays seen Any known [] sees tt
+    direct-scoped seen used known here (tree.declared at) sees = stays seen Any known [] sees tt
+    direct-scoped seen used known here (tree.enclosed declarator) sees = declarator-scoped seen used known declarator sees
+    direct-scoped seen used known here (tree.array direct) sees =
+        with-gives seen Any Any known (direct_steps setting used known here direct) _ (direct-scoped seen used known here direct sees) (λ behind steps step any. tt)
+    direct-scoped seen used known here (tree.sized direct value) sees =
+        after-gives seen Any Any known (direct_steps setting used known here direct) _ (direct-scoped seen used known here direct sees) (λ then_known steps step any.
+        after-gives seen (IsScopedIn seen) Any then_known (typed setting used then_known value) _ (expr-scoped seen used then_known (expr_span value) value step.sees) (λ then_more made more one.
+        with-gives seen Any Any then_more (length_of then_more (expr_span value).first (as_value made)) _
+        (length-gives seen setting then_more more.sees (expr_span value).first (as_value made)) (λ behind n last any. tt)))
+    direct-scoped seen used known here (tree.function direct parameters) sees =
+        after-gives seen Any Any known (direct_steps setting used known here direct) _ (direct-scoped seen used known here direct sees) (λ then_known steps step any.
+        with-gives seen Any Any then_known (left then_known.scopes (parameters_of setting used (entered then_known) parameters)) _
+        (left-gives seen then_known (parameters_of setting used (entered then_known) parameters) step.sees
+        (parameters-scoped used (entered then_known) parameters (entered-sees seen then_known step.sees))) (λ behind these last any. tt))
+
+    -- 6.7.6.3
+    pub parameters-scoped : (used : Bool) (known : Known) (parameters : Parameters) → Sees known.declared all-pass known.scopes
+        → Gives all-pass Any known (parameters_of setting used known parameters)
+    parameters-scoped used known tree.no_parameters sees = stays all-pass Any known [] sees tt
+    parameters-scoped used known (tree.more_parameters first others) sees =
+        after-gives all-pass Any Any known (parameter_of setting used known first) _ (parameter-scoped used known first sees) (λ then_known made step any.
+        with-gives all-pass Any Any then_known (parameters_of setting used then_known others) _ (parameters-scoped used then_known others step.sees) (λ behind rest last any. tt))
+
+    parameter-scoped : (used : Bool) (known : Known) (parameter : Parameter) → Sees known.declared all-pass known.scopes
+        → Gives all-pass Any known (parameter_of setting used known parameter)
+    parameter-scoped used known (tree.parameter span specifiers declarator) sees =
+        after-gives all-pass Any Any known (typed_specifiers setting used elsewhere false known specifiers) _ (specifiers-scoped all-pass used elsewhere false known specifiers sees) (λ then_known base step any.
+        after-gives all-pass Any Any then_known (steps_of setting used then_known declarator) _ (declarator-scoped all-pass used then_known declarator step.sees) (λ then_more steps more any.
+        after-gives all-pass Any Any then_more (derived then_more base steps) _ (derived-gives all-pass then_more base steps more.sees)
+        (λ behind type last any. parameter-gives setting behind (parameter_at span declarator) type (declarator_name declarator) last.sees)))

@@ -1,2 +1,7 @@
 pub mod OverLemmas
 pub mod ScopeLemmas
+pub mod StepLemmas
+pub mod ExpressionLemmas
+pub mod StandingLemmas
+pub mod InitialiserLemmas
+pub mod DeclarationLemmas
