@@ -120,6 +120,22 @@ pub local-later : (seen : ℕ → Bool) (old new : List Declaration) (local : Lo
 local-later seen old new local grown h =
     (every-later seen old new local.expressions grown h.0, h.1, has-later old new seen local.declarator.declared grown h.2)
 
+-- all declarators of a declaration
+abbrev pub behind_all : ((ℕ → Bool) → ℕ → ℕ → Bool) → (ℕ → Bool) → List Local → ℕ → Bool
+behind_all next seen [] = seen
+behind_all next seen (first ∷ others) = behind_all next (next seen first.declarator.declared) others
+
+abbrev pub AreFine : ((ℕ → Bool) → ℕ → ℕ → Bool) → (ℕ → Bool) → List Declaration → List Local → Type 0
+AreFine next seen declared [] = Unit {0}
+AreFine next seen declared (first ∷ others) =
+    IsScopedLocal (next seen first.declarator.declared) declared first × AreFine next (next seen first.declarator.declared) declared others
+
+abbrev pub behind_declaration : ((ℕ → Bool) → ℕ → ℕ → Bool) → (ℕ → Bool) → Declared → ℕ → Bool
+behind_declaration next seen one = behind_all next seen one.locals
+
+abbrev pub IsFineDeclaration : ((ℕ → Bool) → ℕ → ℕ → Bool) → (ℕ → Bool) → List Declaration → Declared → Type 0
+IsFineDeclaration next seen declared one = AreFine next seen declared one.locals
+
 module _ (setting : Setting) (depth : ℕ) (next : (ℕ → Bool) → ℕ → ℕ → Bool) (extends : Extends setting depth next) where
   abbrev behind : (ℕ → Bool) → Local → ℕ → Bool
   behind seen local = next seen local.declarator.declared
@@ -224,38 +240,24 @@ module _ (setting : Setting) (depth : ℕ) (next : (ℕ → Bool) → ℕ → �
 
   -- ---- all declarators
 
-  abbrev pub behind_all : (ℕ → Bool) → List Local → ℕ → Bool
-  behind_all seen [] = seen
-  behind_all seen (first ∷ others) = behind_all (next seen first.declarator.declared) others
-
-  abbrev pub AreFine : (ℕ → Bool) → List Declaration → List Local → Type 0
-  AreFine seen declared [] = Unit {0}
-  AreFine seen declared (first ∷ others) = IsScopedLocal (next seen first.declarator.declared) declared first × AreFine (next seen first.declarator.declared) declared others
-
   items-lead : (seen : ℕ → Bool) (said : Specified) (s : Standing) (items : List Item) → Holds seen s → length s.known.scopes ≡ depth
-      → Leads (behind_all seen) (AreFine seen) s (typed_items setting said s items)
-  items-lead seen said s [] holds deep = leads-so (behind_all seen) (AreFine seen) s s [] (moves-none seen s holds) tt
+      → Leads (behind_all next seen) (AreFine next seen) s (typed_items setting said s items)
+  items-lead seen said s [] holds deep = leads-so (behind_all next seen) (AreFine next seen) s s [] (moves-none seen s holds) tt
   items-lead seen said s (item ∷ items) holds deep =
-      further-leads (behind seen) (Fine seen) (behind_all seen) (AreFine seen) s (typed_item setting said s item) _ (item-leads seen said s item holds deep) (λ t first moved fine.
+      further-leads (behind seen) (Fine seen) (behind_all next seen) (AreFine next seen) s (typed_item setting said s item) _ (item-leads seen said s item holds deep) (λ t first moved fine.
       let inner = behind seen first in
-      further-leads (behind_all inner) (AreFine inner) (behind_all seen) (AreFine seen) t (typed_items setting said t items) _
+      further-leads (behind_all next inner) (AreFine next inner) (behind_all next seen) (AreFine next seen) t (typed_items setting said t items) _
       (items-lead inner said t items moved.holds (moved.depth ∙ deep)) (λ u others went all.
-      leads-so (behind_all seen) (AreFine seen) u u (first ∷ others) (moves-none (behind_all inner others) u went.holds)
+      leads-so (behind_all next seen) (AreFine next seen) u u (first ∷ others) (moves-none (behind_all next inner others) u went.holds)
       (local-later inner t.known.declared u.known.declared first went.grown fine, all)))
 
-  abbrev pub behind_declaration : (ℕ → Bool) → Declared → ℕ → Bool
-  behind_declaration seen one = behind_all seen one.locals
-
-  abbrev pub IsFineDeclaration : (ℕ → Bool) → List Declaration → Declared → Type 0
-  IsFineDeclaration seen declared one = AreFine seen declared one.locals
-
   pub declaration-leads : (seen : ℕ → Bool) (s : Standing) (declaration : tree.Declaration) → Holds seen s → length s.known.scopes ≡ depth
-      → Leads (behind_declaration seen) (IsFineDeclaration seen) s (typed_declaration setting s declaration)
+      → Leads (behind_declaration next seen) (IsFineDeclaration next seen) s (typed_declaration setting s declaration)
   declaration-leads seen s (tree.declaring span specifiers items) holds deep =
-      collecting-leads seen Any (behind_declaration seen) (IsFineDeclaration seen) s _ _ holds (specified-gives setting seen of_declaration (is_alone specifiers items) s.known specifiers holds.sees)
+      collecting-leads seen Any (behind_declaration next seen) (IsFineDeclaration next seen) s _ _ holds (specified-gives setting seen of_declaration (is_alone specifiers items) s.known specifiers holds.sees)
       (λ t constants said moved any.
-      further-leads (behind_all seen) (AreFine seen) (behind_declaration seen) (IsFineDeclaration seen) t (typed_items setting said t items) _
+      further-leads (behind_all next seen) (AreFine next seen) (behind_declaration next seen) (IsFineDeclaration next seen) t (typed_items setting said t items) _
       (items-lead seen said t items moved.holds (moved.depth ∙ deep)) (λ u locals went all.
-      keeps-leads (behind_declaration seen) (IsFineDeclaration seen) u _ 3 said.first _
-      (leads-so (behind_declaration seen) (IsFineDeclaration seen) u u (record { constants = constants ++ constants_of locals; locals = locals })
-      (moves-none (behind_all seen locals) u went.holds) all)))
+      keeps-leads (behind_declaration next seen) (IsFineDeclaration next seen) u _ 3 said.first _
+      (leads-so (behind_declaration next seen) (IsFineDeclaration next seen) u u (record { constants = constants ++ constants_of locals; locals = locals })
+      (moves-none (behind_all next seen locals) u went.holds) all)))

@@ -62,7 +62,7 @@ module _ (seen : ℕ → Bool) (setting : Setting) (known : Known) (sees : Sees 
   index-scoped span a b type None h g = h
   index-scoped span a b type (Some to) h g =
       made-scoped seen known.declared setting span label.follow to (made setting.source span (label.binary o.Add) type (a ∷ b ∷ []) ∷ []) refl
-      (made-scoped seen known.declared setting span (label.binary o.Add) type (a ∷ b ∷ []) refl (h, g, tt), tt)
+      (made-scoped seen known.declared setting span (label.binary o.Add) type (a ∷ b ∷ []) refl (h, (g, tt)), tt)
 
   pub index-gives : (span : Extent) (a b : Tree) → P a → P b → Fine (typed_index setting known span a b)
   index-gives span a b h g =
@@ -74,11 +74,11 @@ module _ (seen : ℕ → Bool) (setting : Setting) (known : Known) (sees : Sees 
       if-gives seen (IsScopedIn seen) known (member_by_name known (spelling_at setting.source name) whole) 12 span.inner.first _
       (λ it e. there span (label.member it.0) it.1 (whole ∷ []) (made-scoped seen known.declared setting span (label.member it.0) it.1 (whole ∷ []) refl (h, tt)))
 
-  pub arrow-gives : (span : Extent) (name : ℕ) (pointing : Tree) → P pointing → Fine (typed_arrow setting known span name pointing)
-  arrow-gives span name pointing h =
-      if-gives seen (IsScopedIn seen) known (complete_target known (kind_of pointing)) 12 span.inner.first _
-      (λ to e. member-gives span name (made setting.source span label.follow to (pointing ∷ []))
-      (made-scoped seen known.declared setting span label.follow to (pointing ∷ []) refl (h, tt)))
+  pub arrow-gives : (span : Extent) (name : ℕ) (pointer : Tree) → P pointer → Fine (typed_arrow setting known span name pointer)
+  arrow-gives span name it h =
+      if-gives seen (IsScopedIn seen) known (complete_target known (kind_of it)) 12 span.inner.first _
+      (λ to e. member-gives span name (made setting.source span label.follow to (it ∷ []))
+      (made-scoped seen known.declared setting span label.follow to (it ∷ []) refl (h, tt)))
 
   pub count-gives : (span : Extent) (operator : ℕ) (before : Bool) (operand : Tree) → P operand → Fine (typed_count setting known span operator before operand)
   count-gives span operator before operand h =
@@ -130,7 +130,7 @@ module _ (seen : ℕ → Bool) (setting : Setting) (known : Known) (sees : Sees 
       if-gives seen (IsScopedIn seen) known (operated known op a b) (rule_of op) span.inner.first _
       (λ it e. let parts = pair-of P (operated known op a b) it e (operated-kept P (scoped-kept seen known.declared) known a b h g op) in
       there span (label.binary op) it.kind (it.left ∷ it.right ∷ [])
-      (made-scoped seen known.declared setting span (label.binary op) it.kind (it.left ∷ it.right ∷ []) refl (parts.0, parts.1, tt)))
+      (made-scoped seen known.declared setting span (label.binary op) it.kind (it.left ∷ it.right ∷ []) refl (parts.0, (parts.1, tt))))
 
   logic-gives : (span : Extent) (form : Label) (a b : Tree) → P (made setting.source span form (integer k.Int) (a ∷ b ∷ [])) → Fine (typed_logic setting known span form a b)
   logic-gives span form a b h =
@@ -138,9 +138,9 @@ module _ (seen : ℕ → Bool) (setting : Setting) (known : Known) (sees : Sees 
 
   pub binary-gives : (span : Extent) (operator : ℕ) (a b : Tree) (it : Symbol) → P a → P b → Fine (typed_binary setting known span operator a b it)
   binary-gives span operator a b symbol.And h g =
-      logic-gives span label.both a b (made-scoped seen known.declared setting span label.both (integer k.Int) (a ∷ b ∷ []) refl (h, g, tt))
+      logic-gives span label.both a b (made-scoped seen known.declared setting span label.both (integer k.Int) (a ∷ b ∷ []) refl (h, (g, tt)))
   binary-gives span operator a b symbol.Or h g =
-      logic-gives span label.either a b (made-scoped seen known.declared setting span label.either (integer k.Int) (a ∷ b ∷ []) refl (h, g, tt))
+      logic-gives span label.either a b (made-scoped seen known.declared setting span label.either (integer k.Int) (a ∷ b ∷ []) refl (h, (g, tt)))
   binary-gives span operator a b it h g = operation-gives span a b (option_and_then operator_of_row (row_at setting.source operator)) h g
 
   pub choice-gives : (span : Extent) (condition a b : Tree) → P condition → P a → P b → Fine (typed_choice setting known span condition a b)
@@ -149,13 +149,13 @@ module _ (seen : ℕ → Bool) (setting : Setting) (known : Known) (sees : Sees 
       (if-gives seen (IsScopedIn seen) known (arms known a b) 27 span.inner.first _
       (λ it e. let parts = pair-of P (arms known a b) it e (arms-kept P (scoped-kept seen known.declared) known a b h g) in
       there span label.choose it.kind (condition ∷ it.left ∷ it.right ∷ [])
-      (made-scoped seen known.declared setting span label.choose it.kind (condition ∷ it.left ∷ it.right ∷ []) refl (c, parts.0, parts.1, tt))))
+      (made-scoped seen known.declared setting span label.choose it.kind (condition ∷ it.left ∷ it.right ∷ []) refl (c, (parts.0, (parts.1, tt))))))
 
   store-gives : (span : Extent) (object value : Tree) → P object → P value → Fine (typed_store setting known span object value)
   store-gives span object value h g =
       obeys-gives seen (IsScopedIn seen) known (is_modifiable known object && is_assignable known value (kind_of object)) 28 span.inner.first _
       (there span label.store _ (object ∷ as_type (kind_of object) value ∷ [])
-      (made-scoped seen known.declared setting span label.store _ (object ∷ as_type (kind_of object) value ∷ []) refl (h, as-type-scoped (kind_of object) value g, tt)))
+      (made-scoped seen known.declared setting span label.store _ (object ∷ as_type (kind_of object) value ∷ []) refl (h, (as-type-scoped (kind_of object) value g, tt))))
 
   update-gives : (span : Extent) (object value : Tree) (found : Option Op) → P object → P value → Fine (typed_update setting known span object value found)
   update-gives span object value None h g = broken-gives seen (IsScopedIn seen) known 29 span.inner.first
@@ -163,7 +163,7 @@ module _ (seen : ℕ → Bool) (setting : Setting) (known : Known) (sees : Sees 
       if-gives seen (IsScopedIn seen) known (updated known op object value) 29 span.inner.first _
       (λ it e. there span (label.update op it.0) _ (object ∷ it.1 ∷ [])
       (made-scoped seen known.declared setting span (label.update op it.0) _ (object ∷ it.1 ∷ []) refl
-      (h, updated-of P (updated known op object value) it e (updated-kept P (scoped-kept seen known.declared) known op object value g), tt)))
+      (h, (updated-of P (updated known op object value) it e (updated-kept P (scoped-kept seen known.declared) known op object value g), tt))))
 
   pub assignment-gives : (span : Extent) (operator : ℕ) (object value : Tree) (it : Symbol) → P object → P value → Fine (typed_assignment setting known span operator object value it)
   assignment-gives span operator object value symbol.Equals h g = store-gives span object value h g
@@ -182,18 +182,13 @@ module _ (seen : ℕ → Bool) (setting : Setting) (known : Known) (sees : Sees 
   comma-scoped span first [] h g = h
   comma-scoped span first (second ∷ others) h g =
       comma-scoped span (made setting.source span label.comma (kind_of second) (first ∷ second ∷ [])) others
-      (made-scoped seen known.declared setting span label.comma (kind_of second) (first ∷ second ∷ []) refl (h, g.0, tt)) g.1
+      (made-scoped seen known.declared setting span label.comma (kind_of second) (first ∷ second ∷ []) refl (h, (g.0, tt))) g.1
 
   pub comma-gives : (span : Extent) (at : ℕ) (values : List Tree) → Every P values → Fine (if_given (comma_of setting span values) 1 at (λ made. given known made))
   comma-gives span at [] h = broken-gives seen (IsScopedIn seen) known 1 at
   comma-gives span at (first ∷ others) h = stays seen (IsScopedIn seen) known _ sees (comma-scoped span first others h.0 h.1)
 
-  -- ---- types
-
-  stepped-gives : (type : CType) (step : Made) → Gives seen Any known (stepped known type step)
-  stepped-gives type (pointing at const) = obeys-gives seen Any known (not (is_function type)) 5 at _ (stays seen Any known _ sees tt)
-  stepped-gives type (arraying at n) = obeys-gives seen Any known (is_complete known type && length_fits known type n) 5 at _ (stays seen Any known _ sees tt)
-  stepped-gives type (calling at parameters) = obeys-gives seen Any known (is_result known type) 5 at _ (stays seen Any known _ sees tt)
+  -- ---- specifiers
 
   pub said-gives : (stands : Where) (here : ℕ) (said : Said) → Gives seen Any known (typed_said known stands here said)
   said-gives stands here said =
@@ -219,7 +214,12 @@ module _ (seen : ℕ → Bool) (setting : Setting) (known : Known) (sees : Sees 
   field-gives here name before kind =
       obeys-gives seen Any known (is_complete known kind) 5 here _ (obeys-gives seen Any known _ 6 _ _ (stays seen Any known _ sees tt))
 
--- all steps of a declarator
+-- the steps of a declarator
+stepped-gives : (seen : ℕ → Bool) (known : Known) → Sees known.declared seen known.scopes → (type : CType) (step : Made) → Gives seen Any known (stepped known type step)
+stepped-gives seen known sees type (pointing at const) = obeys-gives seen Any known (not (is_function type)) 5 at _ (stays seen Any known _ sees tt)
+stepped-gives seen known sees type (arraying at n) = obeys-gives seen Any known (is_complete known type && length_fits known type n) 5 at _ (stays seen Any known _ sees tt)
+stepped-gives seen known sees type (calling at parameters) = obeys-gives seen Any known (is_result known type) 5 at _ (stays seen Any known _ sees tt)
+
 pub derived-gives : (seen : ℕ → Bool) (known : Known) (type : CType) (steps : List Made) → Sees known.declared seen known.scopes → Gives seen Any known (derived known type steps)
 derived-gives seen known type [] sees = stays seen Any known type sees tt
 derived-gives seen known type (step ∷ steps) sees =
@@ -228,10 +228,9 @@ derived-gives seen known type (step ∷ steps) sees =
 
 module _ (seen : ℕ → Bool) (setting : Setting) (known : Known) (sees : Sees known.declared seen known.scopes) where
   pub new-step : (tag : Option ℕ) → Step seen known (new_struct setting known tag)
-  new-step None = step-none seen known sees
+  new-step None = let step = step-none seen known sees in record { grown = step.grown; sees = step.sees; depth = step.depth }
   new-step (Some at) =
-      declaring-step seen known (tag_key (spelling_at setting.source at))
-      (tag_entry (spelling_at setting.source at) (struct_type (length known.types.structs)) (place_at setting.source at)) sees (λ no. absurd (cc))
+      let step = tag-step seen setting known sees (Some at) (struct_type (length known.types.structs)) in record { grown = step.grown; sees = step.sees; depth = step.depth }
 
   pub struct-gives : (span : Span) (tag : Option ℕ) (found : Option Declaration) → Gives seen Any known (struct_named setting known span tag found)
   struct-gives span tag None = gives-so seen Any known (new_struct setting known tag) _ (new-step tag) tt

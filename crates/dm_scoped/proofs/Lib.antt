@@ -5,3 +5,4 @@ pub mod ExpressionLemmas
 pub mod StandingLemmas
 pub mod InitialiserLemmas
 pub mod DeclarationLemmas
+pub mod StatementLemmas

@@ -120,11 +120,11 @@ module _ (P : Tree → Type 0) (kept : IsKept P) where
     equated-kept =
         let left : IfPair P (Some (pair (as_type (kind_of b) a) b (integer k.Int))) = some-pair (as_type (kind_of b) a) b _ (type-kept (kind_of b) a h) g in
         let right : IfPair P (Some (pair a (as_type (kind_of a) b) (integer k.Int))) = some-pair a (as_type (kind_of a) b) _ h (type-kept (kind_of a) b g) in
-        if-pair _ (Some (pair a b (integer k.Int))) _ (some-pair a b _ h g)
-        (if-pair _ (Some (pair a (as_type (kind_of a) b) (integer k.Int))) _ right
-        (if-pair _ (Some (pair (as_type (kind_of b) a) b (integer k.Int))) _ left
-        (if-pair _ (Some (pair a (as_type (kind_of a) b) (integer k.Int))) _ right
-        (if-pair _ (Some (pair (as_type (kind_of b) a) b (integer k.Int))) None left none-pair))))
+        if-pair (point_alike (kind_of a) (kind_of b)) (Some (pair a b (integer k.Int))) _ (some-pair a b _ h g)
+        (if-pair (is_pointer (kind_of a) && is_null known b) (Some (pair a (as_type (kind_of a) b) (integer k.Int))) _ right
+        (if-pair (is_pointer (kind_of b) && is_null known a) (Some (pair (as_type (kind_of b) a) b (integer k.Int))) _ left
+        (if-pair (is_void_pointer (kind_of a) && is_pointer (kind_of b)) (Some (pair a (as_type (kind_of a) b) (integer k.Int))) _ right
+        (if-pair (is_pointer (kind_of a) && is_void_pointer (kind_of b)) (Some (pair (as_type (kind_of b) a) b (integer k.Int))) None left none-pair))))
 
     others-kept : (op : Op) → IfPair P (of_others known op a b)
     others-kept o.Add = pointed-kept o.Add

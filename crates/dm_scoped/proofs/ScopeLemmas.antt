@@ -79,9 +79,12 @@ pub sees-first : (declared : List Declaration) (seen : ℕ → Bool) (scope : Nu
 unfolding Sees
 sees-first declared seen scope scopes h = h.0
 
+abbrev nothing : Numbers
+nothing = map.empty
+
 pub empty-sees : (declared : List Declaration) (seen : ℕ → Bool) → SeesIn declared seen map.empty
 unfolding SeesIn
-empty-sees declared seen name d e = let none : map.get {R = slice_cmp nat_cmp} {X = ℕ} map.empty name ≡ None = map.get-empty (slice_cmp nat_cmp) name in absurd (cc)
+empty-sees declared seen name d e = let none : map.get nothing name ≡ None = map.get-empty (slice_cmp nat_cmp) name in absurd (cc)
 
 pub in-changes : (old new : List Declaration) (seen more : ℕ → Bool) (scope : Numbers) → Grown old new → IsWider seen more → SeesIn old seen scope → SeesIn new more scope
 unfolding SeesIn
@@ -100,11 +103,12 @@ pub found-has : (declared : List Declaration) (seen : ℕ → Bool) (scopes : Sc
     → Has declared seen d
 unfolding Sees SeesIn
 found-has declared seen [] name d h e = absurd (cc)
-found-has declared seen (scope ∷ scopes) name d h e = by-found (map.get scope name) refl e
+found-has declared seen (scope ∷ scopes) name d h e = by-found (λ outside. found-has declared seen scopes name d h.1 outside) (map.get scope name) refl e
   where
-    by-found : (found : Option ℕ) → map.get scope name ≡ found → or_else found (number_of scopes name) ≡ Some d → Has declared seen d
-    by-found None is e = found-has declared seen scopes name d h.1 e
-    by-found (Some n) is e = h.0 name d (is ∙ e)
+    by-found : (number_of scopes name ≡ Some d → Has declared seen d) → (found : Option ℕ) → map.get scope name ≡ found → or_else found (number_of scopes name) ≡ Some d
+        → Has declared seen d
+    by-found outside None is e = outside e
+    by-found outside (Some n) is e = h.0 name d (is ∙ e)
 
 -- one name more
 pub in-with : (declared : List Declaration) (seen : ℕ → Bool) (scope : Numbers) (name : List ℕ) (d : ℕ) → SeesIn declared seen scope → Has declared seen d

@@ -65,11 +65,13 @@ static-has declared seen d is = record { entry = is.entry; at = is.at; is_seen =
 shared-in : (declared all : List Declaration) (name : List ℕ) (linked : List Linked) (d : ℕ) → AreStatic declared linked → number_linked name all linked ≡ Some d → IsStatic declared d
 unfolding AreStatic
 shared-in declared all name [] d h e = absurd (cc)
-shared-in declared all name (one ∷ others) d h e = by-test (is_called name (slice_get all one.number)) e
+shared-in declared all name (one ∷ others) d h e =
+    by-test (λ later. shared-in declared all name others d h.1 later) (is_called name (slice_get all one.number)) e
   where
-    by-test : (test : Bool) → (if test then Some one.number else number_linked name all others) ≡ Some d → IsStatic declared d
-    by-test true e = subst (IsStatic declared) (injected one.number d e) h.0
-    by-test false e = shared-in declared all name others d h.1 e
+    by-test : (number_linked name all others ≡ Some d → IsStatic declared d) → (test : Bool) → (if test then Some one.number else number_linked name all others) ≡ Some d
+        → IsStatic declared d
+    by-test later true e = subst (IsStatic declared) (injected one.number d e) h.0
+    by-test later false e = later e
 
 -- ---- standings
 

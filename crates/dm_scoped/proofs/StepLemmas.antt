@@ -3,6 +3,7 @@ use Rattle.std.specs.Prelude.{◌≡◌, ℕ, Bool, true, false, ◌&&◌, not, 
 use Rattle.std.proofs.Common.{sym, ap, ◌∙◌, subst}
 use Rattle.std.specs.FinMap as map
 use Rattle.dm_type.specs.CTypes.{CType}
+use Rattle.dm_type.specs.TableLaws.{injected}
 use Rattle.dm_scope.specs.Scopes.{Scopes, number_of, declared as declared_in}
 use Rattle.dm_tree.specs.declared.unit.Sort.{Sort}
 use Rattle.dm_tree.specs.declared.unit.Sort.TheVariants.{Object, Function, Typedef, Enumerator, Tag}
@@ -231,16 +232,19 @@ left-gives seen known (broken rule at) sees h = tt
 
 -- ---- names
 
+first-of : (one form : Label) (type kind : CType) → ◌≡◌ {A = Option (Label × CType)} (Some (one, type)) (Some (form, kind)) → one ≡ form
+first-of one form type kind e = ap (λ (it : Label × CType). it.0) (injected (one, type) (form, kind) e)
+
 named-leaf : (automatic : ℕ → Bool) (scope : Scope) (sort : Sort) (d : ℕ) (type kind : CType) (form : Label) → automatic d ≡ is_automatic_sort sort
     → (is_automatic_sort sort ≡ true → is_in_scope scope d ≡ true) → named_by_sort sort d type ≡ Some (form, kind) → names_in_scope automatic scope form ≡ true
 named-leaf automatic scope (Object true) d type kind form fits is e =
-    subst (λ it. names_in_scope automatic scope it ≡ true) (let same : label.object d ≡ form = cc in same) (rw fits refl)
+    subst (λ it. names_in_scope automatic scope it ≡ true) (first-of (label.object d) form _ kind e) (rw fits refl)
 named-leaf automatic scope (Object false) d type kind form fits is e =
-    subst (λ it. names_in_scope automatic scope it ≡ true) (let same : label.object d ≡ form = cc in same) (rw fits (is refl))
+    subst (λ it. names_in_scope automatic scope it ≡ true) (first-of (label.object d) form _ kind e) (rw fits (is refl))
 named-leaf automatic scope Function d type kind form fits is e =
-    subst (λ it. names_in_scope automatic scope it ≡ true) (let same : label.function d ≡ form = cc in same) refl
+    subst (λ it. names_in_scope automatic scope it ≡ true) (first-of (label.function d) form _ kind e) refl
 named-leaf automatic scope (Enumerator value) d type kind form fits is e =
-    subst (λ it. names_in_scope automatic scope it ≡ true) (let same : label.enumerator d ≡ form = cc in same) refl
+    subst (λ it. names_in_scope automatic scope it ≡ true) (first-of (label.enumerator d) form _ kind e) refl
 named-leaf automatic scope Typedef d type kind form fits is e = absurd (cc)
 named-leaf automatic scope Tag d type kind form fits is e = absurd (cc)
 

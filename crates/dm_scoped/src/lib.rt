@@ -1,13 +1,6 @@
-// A library with one function.
+//! In a typed unit, names of automatic objects stand in the scopes of their declarations (ISO/IEC 9899:2011, 6.2.1, 6.2.4).
 #![tactic(auto)]
 
-ghost use Rattle.std.specs.Prelude.{◌≡◌};
-ghost use Rattle.dm_scoped.specs.Echo.{echo_of};
+mod laws;
 
-// The `ensures` clause is the contract: what `echo` returns is `echo_of` of its argument, a definition
-// in `specs/Echo.antt`, which a caller's clause can cite too.
-pub fn echo(x: usize) -> usize
-    ensures { result ≡ echo_of x }
-{
-    x
-}
+pub use laws::{automatic_objects_are_in_blocks, units_are_scoped};
