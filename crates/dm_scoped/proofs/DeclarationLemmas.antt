@@ -68,7 +68,7 @@ file-fixed extern false before = linked-fixed extern false (linkage_before befor
 file-fixed unsaid false before = refl
 
 -- an automatic object is declared in a block, without `static` and `extern`
-pub automatic-unsaid : (storage : Storage) (is_function in_file : Bool) (before : Option Declaration)
+automatic-unsaid : (storage : Storage) (is_function in_file : Bool) (before : Option Declaration)
     → is_automatic_sort (sort_of storage is_function (linkage_of storage is_function in_file before)) ≡ true → (storage ≡ unsaid) × (in_file ≡ false)
 automatic-unsaid storage is_function true before h = absurd (let no : true ≡ false = sym h ∙ file-fixed storage is_function before in cc)
 automatic-unsaid unsaid is_function false before h = (refl, refl)
@@ -78,7 +78,7 @@ automatic-unsaid extern is_function false before h =
 automatic-unsaid static true false before h = absurd (cc)
 automatic-unsaid static false false before h = absurd (cc)
 
-entry-linked : (setting : Setting) (known : Known) (storage : Storage) (at : ℕ) (kind : CType) → has_linkage (entry_of setting known storage at kind).linkage ≡ true
+pub entry-linked : (setting : Setting) (known : Known) (storage : Storage) (at : ℕ) (kind : CType) → has_linkage (entry_of setting known storage at kind).linkage ≡ true
     → is_automatic_sort (entry_of setting known storage at kind).sort ≡ false
 entry-linked setting known storage at kind h =
     linked-fixed storage (is_function kind) (linkage_of storage (is_function kind) (is_file_scope known.scopes) (meaning_of known (spelling_at setting.source at))) h
@@ -93,6 +93,11 @@ pub entry-in-file : (setting : Setting) (known : Known) (storage : Storage) (at 
 entry-in-file setting known storage at kind h =
     subst (λ test. is_automatic_sort (sort_of storage (is_function kind) (linkage_of storage (is_function kind) test (meaning_of known (spelling_at setting.source at)))) ≡ false)
     (sym (one-scope known.scopes h)) (file-fixed storage (is_function kind) (meaning_of known (spelling_at setting.source at)))
+
+pub entry-unsaid : (setting : Setting) (known : Known) (storage : Storage) (at : ℕ) (kind : CType) → is_automatic_sort (entry_of setting known storage at kind).sort ≡ true
+    → (storage ≡ unsaid) × (is_file_scope known.scopes ≡ false)
+entry-unsaid setting known storage at kind h =
+    automatic-unsaid storage (is_function kind) (is_file_scope known.scopes) (meaning_of known (spelling_at setting.source at)) h
 
 -- ---- specifiers
 

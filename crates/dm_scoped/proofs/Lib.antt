@@ -6,3 +6,5 @@ pub mod StandingLemmas
 pub mod InitialiserLemmas
 pub mod DeclarationLemmas
 pub mod StatementLemmas
+pub mod HeadingLemmas
+pub mod UnitLemmas

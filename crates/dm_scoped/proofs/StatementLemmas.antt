@@ -39,15 +39,15 @@ use Rattle.dm_scoped.proofs.DeclarationLemmas.{Extends, IsScopedLocal, behind_al
 abbrev pub also : (ℕ → Bool) → ℕ → ℕ → Bool
 also seen n d = (n == d) || seen d
 
-or-right : (one other : Bool) → other ≡ true → (one || other) ≡ true
+pub or-right : (one other : Bool) → other ≡ true → (one || other) ≡ true
 or-right true other h = refl
 or-right false other h = h
 
-or-left : (one other : Bool) → one ≡ true → (one || other) ≡ true
+pub or-left : (one other : Bool) → one ≡ true → (one || other) ≡ true
 or-left true other h = refl
 or-left false other h = absurd (cc)
 
-or-swap : (one other more : Bool) → (one || (other || more)) ≡ true → ((other || one) || more) ≡ true
+pub or-swap : (one other more : Bool) → (one || (other || more)) ≡ true → ((other || one) || more) ≡ true
 or-swap true true more h = refl
 or-swap true false more h = refl
 or-swap false true more h = refl
@@ -170,7 +170,7 @@ in-order automatic seen declared scope (first ∷ others) fits covers h =
     both-true (is_scoped automatic scope first) _ (h.0 automatic scope fits covers)
     (in-order automatic (with_tree seen first) declared (declared_by first ++ scope) others fits (covers-tree seen scope first covers) h.1)
 
-block-scoped : (setting : Setting) (seen : ℕ → Bool) (declared : List Declaration) (span : Span) (list : List Tree) → AreScopedItems seen declared list
+pub block-scoped : (setting : Setting) (seen : ℕ → Bool) (declared : List Declaration) (span : Span) (list : List Tree) → AreScopedItems seen declared list
     → IsScopedIn seen declared (statement setting span label.block list)
 unfolding IsScopedIn
 block-scoped setting seen declared span list h automatic scope fits covers = in-order automatic seen declared scope list fits covers h
@@ -182,7 +182,7 @@ for-scoped setting seen declared span first second third list h automatic scope 
 
 -- ---- progress
 
-leads-wider : {A : Type 0} (one more : A → ℕ → Bool) (P : List Declaration → A → Type 0) (s : Standing) (progress : Progress A) → ((it : A) → IsWider (one it) (more it))
+pub leads-wider : {A : Type 0} (one more : A → ℕ → Bool) (P : List Declaration → A → Type 0) (s : Standing) (progress : Progress A) → ((it : A) → IsWider (one it) (more it))
     → Leads one P s progress → Leads more P s progress
 unfolding Leads
 leads-wider one more P s (goes_on t it) wider h =
@@ -190,14 +190,14 @@ leads-wider one more P s (goes_on t it) wider h =
 leads-wider one more P s (stops rule at) wider h = tt
 
 -- what is there already
-there : {A : Type 0} (seen : ℕ → Bool) (more : A → ℕ → Bool) (P : List Declaration → A → Type 0) (s : Standing) (it : A) → IsWider seen (more it) → Holds seen s
+pub there : {A : Type 0} (seen : ℕ → Bool) (more : A → ℕ → Bool) (P : List Declaration → A → Type 0) (s : Standing) (it : A) → IsWider seen (more it) → Holds seen s
     → P s.known.declared it → Leads more P s (goes_on s it)
 there seen more P s it wider holds h = leads-so more P s s it (moves-none (more it) s (holds-wider seen (more it) s wider holds)) h
 
-abbrev same : {A : Type 0} → (ℕ → Bool) → A → ℕ → Bool
+abbrev pub same : {A : Type 0} → (ℕ → Bool) → A → ℕ → Bool
 same seen it = seen
 
-abbrev anything : {A : Type 0} → A → ℕ → Bool
+abbrev pub anything : {A : Type 0} → A → ℕ → Bool
 anything it = all-pass
 
 -- a part that is a scope of its own
@@ -207,7 +207,7 @@ scope-leads seen P s next lasting holds step =
     closed-leads seen anything P s map.empty (next (opened map.empty s)) lasting holds
     (step (opened map.empty s) (opened-holds seen seen s map.empty (λ d h. h) (empty-sees s.known.declared seen) holds))
 
-tree-lasts : (seen : ℕ → Bool) → IsLasting (IsScopedIn seen)
+pub tree-lasts : (seen : ℕ → Bool) → IsLasting (IsScopedIn seen)
 tree-lasts seen old new tree grown h = scoped-later seen old new tree grown h
 
 -- ---- expressions in statements
