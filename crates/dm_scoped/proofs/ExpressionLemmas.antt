@@ -128,7 +128,7 @@ module _ (seen : ℕ → Bool) (setting : Setting) (known : Known) (sees : Sees 
   operation-gives span a b None h g = broken-gives seen (IsScopedIn seen) known 19 span.inner.first
   operation-gives span a b (Some op) h g =
       if-gives seen (IsScopedIn seen) known (operated known op a b) (rule_of op) span.inner.first _
-      (λ it e. let parts = pair-of P (operated known op a b) it e (operated-kept P (scoped-kept seen known.declared) known a b h g op) in
+      (λ it e. let parts = pair-of P P (operated known op a b) it e (operated-kept P P (scoped-kept seen known.declared) (scoped-kept seen known.declared) known a b h g op) in
       there span (label.binary op) it.kind (it.left ∷ it.right ∷ [])
       (made-scoped seen known.declared setting span (label.binary op) it.kind (it.left ∷ it.right ∷ []) refl (parts.0, (parts.1, tt))))
 
@@ -147,7 +147,7 @@ module _ (seen : ℕ → Bool) (setting : Setting) (known : Known) (sees : Sees 
   choice-gives span condition a b c h g =
       obeys-gives seen (IsScopedIn seen) known (is_scalar (kind_of condition)) 27 span.inner.first _
       (if-gives seen (IsScopedIn seen) known (arms known a b) 27 span.inner.first _
-      (λ it e. let parts = pair-of P (arms known a b) it e (arms-kept P (scoped-kept seen known.declared) known a b h g) in
+      (λ it e. let parts = pair-of P P (arms known a b) it e (arms-kept P P (scoped-kept seen known.declared) (scoped-kept seen known.declared) known a b h g) in
       there span label.choose it.kind (condition ∷ it.left ∷ it.right ∷ [])
       (made-scoped seen known.declared setting span label.choose it.kind (condition ∷ it.left ∷ it.right ∷ []) refl (c, (parts.0, (parts.1, tt))))))
 

@@ -8,3 +8,5 @@ pub mod DeclarationLemmas
 pub mod StatementLemmas
 pub mod HeadingLemmas
 pub mod UnitLemmas
+pub mod SpanLemmas
+pub mod CollectLemmas

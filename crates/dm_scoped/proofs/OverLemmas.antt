@@ -29,9 +29,9 @@ Every P [] = Unit {0}
 Every P (tree ∷ trees) = P tree × Every P trees
 
 -- and of what a rule gives
-unfoldable pub IfPair : (Tree → Type 0) → Option Pair → Type 0
-IfPair P None = Unit {0}
-IfPair P (Some it) = P it.left × P it.right
+unfoldable pub IfPair : (Tree → Type 0) → (Tree → Type 0) → Option Pair → Type 0
+IfPair P Q None = Unit {0}
+IfPair P Q (Some it) = P it.left × Q it.right
 
 unfoldable pub IfSigned : (Tree → Type 0) → Option (Tree × CType) → Type 0
 IfSigned P None = Unit {0}
@@ -49,9 +49,9 @@ unfoldable pub IfUpdated : (Tree → Type 0) → Option (CType × Tree) → Type
 IfUpdated P None = Unit {0}
 IfUpdated P (Some it) = P it.1
 
-pub pair-of : (P : Tree → Type 0) (found : Option Pair) (it : Pair) → found ≡ Some it → IfPair P found → P it.left × P it.right
+pub pair-of : (P Q : Tree → Type 0) (found : Option Pair) (it : Pair) → found ≡ Some it → IfPair P Q found → P it.left × Q it.right
 unfolding IfPair
-pair-of P found it e h = subst (IfPair P) e h
+pair-of P Q found it e h = subst (IfPair P Q) e h
 
 pub signed-of : (P : Tree → Type 0) (found : Option (Tree × CType)) (it : Tree × CType) → found ≡ Some it → IfSigned P found → P it.0
 unfolding IfSigned
@@ -83,89 +83,6 @@ module _ (P : Tree → Type 0) (kept : IsKept P) where
       by-test : (test : Bool) → P (if test then tree else over convert (bare kind) tree)
       by-test true = h
       by-test false = kept.convert_kept (bare kind) tree h
-
-  -- ---- binary operators
-
-  if-pair : (test : Bool) (one other : Option Pair) → IfPair P one → IfPair P other → IfPair P (if test then one else other)
-  if-pair true one other h g = h
-  if-pair false one other h g = g
-
-  some-pair : (a b : Tree) (kind : CType) → P a → P b → IfPair P (Some (pair a b kind))
-  unfolding IfPair
-  some-pair a b kind h g = (h, g)
-
-  none-pair : IfPair P None
-  unfolding IfPair
-  none-pair = tt
-
-  module _ (known : Known) (a b : Tree) (h : P a) (g : P b) where
-    integers-kept : (op : Op) (left right : Kind) → IfPair P (Some (of_integers op left right a b))
-    integers-kept op left right = by-test (is_shift op)
-      where
-        by-test : (test : Bool) → IfPair P (Some (if test then pair (promoted left a) (promoted right b) (integer (promote left)) else of_kind op (common left right) a b))
-        by-test true = some-pair (promoted left a) (promoted right b) _ (type-kept (integer (promote left)) a h) (type-kept (integer (promote right)) b g)
-        by-test false = some-pair (as_kind (common left right) a) (as_kind (common left right) b) _ (type-kept (integer (common left right)) a h) (type-kept (integer (common left right)) b g)
-
-    pointed-kept : (op : Op) → IfPair P (of_pointer_and_integer known op a b)
-    pointed-kept o.Add =
-        if-pair _ (Some (pair a b (kind_of a))) _ (some-pair a b _ h g) (if-pair _ (Some (pair a b (kind_of b))) None (some-pair a b _ h g) none-pair)
-    pointed-kept o.Sub =
-        if-pair _ (Some (pair a b (kind_of a))) _ (some-pair a b _ h g) (if-pair _ (Some (pair a b (integer k.Long))) None (some-pair a b _ h g) none-pair)
-    pointed-kept op = none-pair
-
-    ordered-kept : IfPair P (ordered a b)
-    ordered-kept = if-pair _ (Some (pair a b (integer k.Int))) None (some-pair a b _ h g) none-pair
-
-    equated-kept : IfPair P (equated known a b)
-    equated-kept =
-        let left : IfPair P (Some (pair (as_type (kind_of b) a) b (integer k.Int))) = some-pair (as_type (kind_of b) a) b _ (type-kept (kind_of b) a h) g in
-        let right : IfPair P (Some (pair a (as_type (kind_of a) b) (integer k.Int))) = some-pair a (as_type (kind_of a) b) _ h (type-kept (kind_of a) b g) in
-        if-pair (point_alike (kind_of a) (kind_of b)) (Some (pair a b (integer k.Int))) _ (some-pair a b _ h g)
-        (if-pair (is_pointer (kind_of a) && is_null known b) (Some (pair a (as_type (kind_of a) b) (integer k.Int))) _ right
-        (if-pair (is_pointer (kind_of b) && is_null known a) (Some (pair (as_type (kind_of b) a) b (integer k.Int))) _ left
-        (if-pair (is_void_pointer (kind_of a) && is_pointer (kind_of b)) (Some (pair a (as_type (kind_of a) b) (integer k.Int))) _ right
-        (if-pair (is_pointer (kind_of a) && is_void_pointer (kind_of b)) (Some (pair (as_type (kind_of b) a) b (integer k.Int))) None left none-pair))))
-
-    others-kept : (op : Op) → IfPair P (of_others known op a b)
-    others-kept o.Add = pointed-kept o.Add
-    others-kept o.Sub = pointed-kept o.Sub
-    others-kept o.Less = ordered-kept
-    others-kept o.Greater = ordered-kept
-    others-kept o.LessEq = ordered-kept
-    others-kept o.GreaterEq = ordered-kept
-    others-kept o.Equal = equated-kept
-    others-kept o.NotEqual = equated-kept
-    others-kept op = none-pair
-
-    kinds-kept : (op : Op) (left right : Option Kind) → IfPair P (of_kinds known op a b left right)
-    kinds-kept op (Some left) (Some right) = integers-kept op left right
-    kinds-kept op (Some left) None = others-kept op
-    kinds-kept op None right = others-kept op
-
-    pub operated-kept : (op : Op) → IfPair P (operated known op a b)
-    operated-kept op = kinds-kept op (integer_kind (kind_of a)) (integer_kind (kind_of b))
-
-    -- ---- ?:
-
-    as-both : (kind : CType) → IfPair P (Some (both_as a b kind))
-    as-both kind = some-pair (as_type kind a) (as_type kind b) kind (type-kept kind a h) (type-kept kind b g)
-
-    mapped-both : (found : Option CType) → IfPair P (option_map (both_as a b) found)
-    mapped-both None = none-pair
-    mapped-both (Some kind) = as-both kind
-
-    arms-of-types : (left right : CType) → IfPair P (arms_of_types known a b left right)
-    arms-of-types void void = as-both void
-    arms-of-types (struct m) (struct n) = if-pair _ (Some (pair a b (struct m))) None (some-pair a b _ h g) none-pair
-    arms-of-types left right = mapped-both (arms_by_targets known a b (target left) (target right))
-
-    arms-of-kinds : (left right : Option Kind) → IfPair P (arms_of_kinds known a b left right)
-    arms-of-kinds (Some left) (Some right) = as-both (integer (common left right))
-    arms-of-kinds (Some left) None = arms-of-types (kind_of a) (kind_of b)
-    arms-of-kinds None right = arms-of-types (kind_of a) (kind_of b)
-
-    pub arms-kept : IfPair P (arms known a b)
-    arms-kept = arms-of-kinds (integer_kind (kind_of a)) (integer_kind (kind_of b))
 
   -- ---- unary operators
 
@@ -243,3 +160,87 @@ module _ (P : Tree → Type 0) (kept : IsKept P) where
           → IfUpdated P (if test then updated_by known op (bare (kind_of written)) value (integer_kind (kind_of written)) (integer_kind (kind_of value)) else None)
       by-test true = updated-by-kinds known op (bare (kind_of written)) value h (integer_kind (kind_of written)) (integer_kind (kind_of value))
       by-test false = tt
+
+-- ---- binary operators
+
+module _ (P Q : Tree → Type 0) (kept : IsKept P) (also_kept : IsKept Q) where
+  if-pair : (test : Bool) (one other : Option Pair) → IfPair P Q one → IfPair P Q other → IfPair P Q (if test then one else other)
+  if-pair true one other h g = h
+  if-pair false one other h g = g
+
+  some-pair : (a b : Tree) (kind : CType) → P a → Q b → IfPair P Q (Some (pair a b kind))
+  unfolding IfPair
+  some-pair a b kind h g = (h, g)
+
+  none-pair : IfPair P Q None
+  unfolding IfPair
+  none-pair = tt
+
+  module _ (known : Known) (a b : Tree) (h : P a) (g : Q b) where
+    integers-kept : (op : Op) (left right : Kind) → IfPair P Q (Some (of_integers op left right a b))
+    integers-kept op left right = by-test (is_shift op)
+      where
+        by-test : (test : Bool) → IfPair P Q (Some (if test then pair (promoted left a) (promoted right b) (integer (promote left)) else of_kind op (common left right) a b))
+        by-test true = some-pair (promoted left a) (promoted right b) _ (type-kept P kept (integer (promote left)) a h) (type-kept Q also_kept (integer (promote right)) b g)
+        by-test false = some-pair (as_kind (common left right) a) (as_kind (common left right) b) _ (type-kept P kept (integer (common left right)) a h) (type-kept Q also_kept (integer (common left right)) b g)
+
+    pointed-kept : (op : Op) → IfPair P Q (of_pointer_and_integer known op a b)
+    pointed-kept o.Add =
+        if-pair _ (Some (pair a b (kind_of a))) _ (some-pair a b _ h g) (if-pair _ (Some (pair a b (kind_of b))) None (some-pair a b _ h g) none-pair)
+    pointed-kept o.Sub =
+        if-pair _ (Some (pair a b (kind_of a))) _ (some-pair a b _ h g) (if-pair _ (Some (pair a b (integer k.Long))) None (some-pair a b _ h g) none-pair)
+    pointed-kept op = none-pair
+
+    ordered-kept : IfPair P Q (ordered a b)
+    ordered-kept = if-pair _ (Some (pair a b (integer k.Int))) None (some-pair a b _ h g) none-pair
+
+    equated-kept : IfPair P Q (equated known a b)
+    equated-kept =
+        let left : IfPair P Q (Some (pair (as_type (kind_of b) a) b (integer k.Int))) = some-pair (as_type (kind_of b) a) b _ (type-kept P kept (kind_of b) a h) g in
+        let right : IfPair P Q (Some (pair a (as_type (kind_of a) b) (integer k.Int))) = some-pair a (as_type (kind_of a) b) _ h (type-kept Q also_kept (kind_of a) b g) in
+        if-pair (point_alike (kind_of a) (kind_of b)) (Some (pair a b (integer k.Int))) _ (some-pair a b _ h g)
+        (if-pair (is_pointer (kind_of a) && is_null known b) (Some (pair a (as_type (kind_of a) b) (integer k.Int))) _ right
+        (if-pair (is_pointer (kind_of b) && is_null known a) (Some (pair (as_type (kind_of b) a) b (integer k.Int))) _ left
+        (if-pair (is_void_pointer (kind_of a) && is_pointer (kind_of b)) (Some (pair a (as_type (kind_of a) b) (integer k.Int))) _ right
+        (if-pair (is_pointer (kind_of a) && is_void_pointer (kind_of b)) (Some (pair (as_type (kind_of b) a) b (integer k.Int))) None left none-pair))))
+
+    others-kept : (op : Op) → IfPair P Q (of_others known op a b)
+    others-kept o.Add = pointed-kept o.Add
+    others-kept o.Sub = pointed-kept o.Sub
+    others-kept o.Less = ordered-kept
+    others-kept o.Greater = ordered-kept
+    others-kept o.LessEq = ordered-kept
+    others-kept o.GreaterEq = ordered-kept
+    others-kept o.Equal = equated-kept
+    others-kept o.NotEqual = equated-kept
+    others-kept op = none-pair
+
+    kinds-kept : (op : Op) (left right : Option Kind) → IfPair P Q (of_kinds known op a b left right)
+    kinds-kept op (Some left) (Some right) = integers-kept op left right
+    kinds-kept op (Some left) None = others-kept op
+    kinds-kept op None right = others-kept op
+
+    pub operated-kept : (op : Op) → IfPair P Q (operated known op a b)
+    operated-kept op = kinds-kept op (integer_kind (kind_of a)) (integer_kind (kind_of b))
+
+    -- ---- ?:
+
+    as-both : (kind : CType) → IfPair P Q (Some (both_as a b kind))
+    as-both kind = some-pair (as_type kind a) (as_type kind b) kind (type-kept P kept kind a h) (type-kept Q also_kept kind b g)
+
+    mapped-both : (found : Option CType) → IfPair P Q (option_map (both_as a b) found)
+    mapped-both None = none-pair
+    mapped-both (Some kind) = as-both kind
+
+    arms-of-types : (left right : CType) → IfPair P Q (arms_of_types known a b left right)
+    arms-of-types void void = as-both void
+    arms-of-types (struct m) (struct n) = if-pair _ (Some (pair a b (struct m))) None (some-pair a b _ h g) none-pair
+    arms-of-types left right = mapped-both (arms_by_targets known a b (target left) (target right))
+
+    arms-of-kinds : (left right : Option Kind) → IfPair P Q (arms_of_kinds known a b left right)
+    arms-of-kinds (Some left) (Some right) = as-both (integer (common left right))
+    arms-of-kinds (Some left) None = arms-of-types (kind_of a) (kind_of b)
+    arms-of-kinds None right = arms-of-types (kind_of a) (kind_of b)
+
+    pub arms-kept : IfPair P Q (arms known a b)
+    arms-kept = arms-of-kinds (integer_kind (kind_of a)) (integer_kind (kind_of b))
