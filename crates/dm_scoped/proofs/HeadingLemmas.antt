@@ -205,7 +205,7 @@ then-calling seen setting nearest known these mine here (given behind steps) h o
           inner,
           typed,
           subst (λ (it : Known). parameters_of setting true (entered it) these ≡ given inner typed) is.1
-          (subst (λ it. parameters_of setting true (entered behind) it ≡ given inner typed) same e),
+              (subst (λ it. parameters_of setting true (entered behind) it ≡ given inner typed) same e),
           grown-itself inner.declared,
         )
     nearest-own is (broken rule at) e = tt
@@ -279,8 +279,8 @@ module _ (setting : Setting) (known : Known) (sees : Sees known.declared none-pa
           by-type (given last kind) g = (
             step-through none-pass known behind last h.0 g.0,
             in-changes inside.declared last.declared (with_owns none-pass typed) (is_in_scope (numbers_of (without_void typed))) (innermost inside.scopes)
-            (grown-through inside.declared behind.declared last.declared (kept behind steps e) g.0.grown)
-            (λ d is. subst (λ numbers. is_in_scope numbers d ≡ true) (sym (void-alone typed)) (or-false (is_in_scope (numbers_of typed) d) (owns-in none-pass typed d is))) stands,
+                (grown-through inside.declared behind.declared last.declared (kept behind steps e) g.0.grown)
+                (λ d is. subst (λ numbers. is_in_scope numbers d ≡ true) (sym (void-alone typed)) (or-false (is_in_scope (numbers_of typed) d) (owns-in none-pass typed d is))) stands,
           )
           by-type (broken rule at) g = tt
       by-steps (broken rule at) e h = tt

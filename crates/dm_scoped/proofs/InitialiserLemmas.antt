@@ -140,6 +140,6 @@ module _ (setting : Setting) where
         (initialisers-scoped seen fixed then_known type span (n + 1) others step.sees)
         (λ behind rest more g. stays seen (AreScopedInitials seen) behind (with_first made rest) more.sees (
           every-append (IsScopedIn seen behind.declared) made.expressions rest.expressions
-          (every-later seen then_known.declared behind.declared made.expressions more.grown h.0) g.0,
+              (every-later seen then_known.declared behind.declared made.expressions more.grown h.0) g.0,
           length-append made.expressions rest.expressions ∙ ap (λ k. k + length rest.expressions) h.1 ∙ ap (λ k. expressions_in made.form + k) g.1,
         )))

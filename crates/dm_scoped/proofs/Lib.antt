@@ -10,3 +10,7 @@ pub mod HeadingLemmas
 pub mod UnitLemmas
 pub mod SpanLemmas
 pub mod CollectLemmas
+pub mod SpanFormLemmas
+pub mod SpanExpressionLemmas
+pub mod SpanStatementLemmas
+pub mod SpanUnitLemmas

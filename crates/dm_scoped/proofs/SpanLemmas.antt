@@ -164,7 +164,7 @@ row-inside spans at from behind (one ∷ others) rest below low high short h g =
       omega (arith, below, begins),
       omega (arith, begins, ends, short, some),
       row-inside spans (spans_of one).outer.after (spans_of one).outer.after behind others rest (omega arith) (omega (arith, low, below, begins, some)) high
-      (omega (arith, short, begins, some)) h.2 g,
+          (omega (arith, short, begins, some)) h.2 g,
     )
 
 -- ---- arguments

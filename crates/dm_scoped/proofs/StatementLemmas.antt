@@ -342,9 +342,10 @@ module _ (setting : Setting) where
         further-leads (same seen) (IsScopedIn seen) anything (IsScopedIn seen) t _ _ (as-part seen t (λ part. typed_stmt setting within part body) moved.holds (λ part here. stmt-leads seen within part body here)) (λ u first went g.
         further-leads (same seen) (IsScopedIn seen) anything (IsScopedIn seen) u _ _ (as-part seen u (λ part. typed_stmt setting within part other) went.holds (λ part here. stmt-leads seen within part other here)) (λ v second gone f.
         made-leads seen v span label.if_statement (value ∷ first ∷ second ∷ []) gone.holds
-        (made-scoped seen v.known.declared setting (extent span span) label.if_statement void (value ∷ first ∷ second ∷ []) refl
-        (scoped-later seen u.known.declared v.known.declared value gone.grown (scoped-later seen t.known.declared u.known.declared value went.grown h),
-        (scoped-later seen u.known.declared v.known.declared first gone.grown g, (f, tt))))))))
+        (made-scoped seen v.known.declared setting (extent span span) label.if_statement void (value ∷ first ∷ second ∷ []) refl (
+          scoped-later seen u.known.declared v.known.declared value gone.grown (scoped-later seen t.known.declared u.known.declared value went.grown h),
+          (scoped-later seen u.known.declared v.known.declared first gone.grown g, (f, tt)),
+        ))))))
     stmt-leads seen within s (tree.switch span operand items) holds =
         scope-leads seen (IsScopedIn seen) s _ (tree-lasts seen) holds (λ inside stands.
         typing-leads seen (IsScopedSubject seen) anything (IsScopedIn seen) inside (typed_subject setting inside.known operand) _ stands (subject-gives setting seen inside.known stands.sees operand) (λ t one moved h.

@@ -232,7 +232,7 @@ left-gives seen known (broken rule at) sees h = tt
 
 -- ---- names
 
-first-of : (one form : Label) (type kind : CType) → ◌≡◌ {A = Option (Label × CType)} (Some (one, type)) (Some (form, kind)) → one ≡ form
+pub first-of : (one form : Label) (type kind : CType) → ◌≡◌ {A = Option (Label × CType)} (Some (one, type)) (Some (form, kind)) → one ≡ form
 first-of one form type kind e = ap (λ (it : Label × CType). it.0) (injected (one, type) (form, kind) e)
 
 named-leaf : (automatic : ℕ → Bool) (scope : Scope) (sort : Sort) (d : ℕ) (type kind : CType) (form : Label) → automatic d ≡ is_automatic_sort sort
