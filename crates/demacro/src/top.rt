@@ -52,7 +52,7 @@ pub fn run<F: Folder, S: Sink>(alloc: Global, words: &[String], folder: &mut F, 
         → ¬ Rose (F.faults folder.old) (F.faults folder.new) → ¬ Rose (S.faults out.old) (S.faults out.new)
         → (result ≡ 0) ⊎ (result ≡ 8) }
 
-    // Where the words are good, the project has the unit, its input is there, it has typings with a `main` and nothing fails,
+    // Where the words are good, the project has the unit, its input is there, it has a typing with a `main` and nothing fails,
     // its run is put.
     ensures complete_program { (request : RunRequest) → AsksToRun (map string_bytes words.now) request
         → HoldsProgramOf (F.files folder.old) request

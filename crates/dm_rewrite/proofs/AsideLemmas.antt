@@ -19,7 +19,7 @@ use Rattle.dm_rewrite.proofs.SettleLemmas.{went, failed, Beside, FailsBeside, Co
 -- ---- parts of trees that neither store nor call
 
 mutual
-  filled_pure : (hole : Hole) (a b : Run) → IsPure (filled_in hole a) → IsPure b → IsPure (filled_in hole b)
+  pub filled_pure : (hole : Hole) (a b : Run) → IsPure (filled_in hole a) → IsPure b → IsPure (filled_in hole b)
   filled_pure here a b h k = k
   filled_pure (within doing kind place holes) a b h k = (h.0, all_filled_pure holes a b h.1 k)
 
@@ -28,7 +28,7 @@ mutual
   all_filled_pure (in_others first holes) a b h k = (h.0, all_filled_pure holes a b h.1 k)
 
 mutual
-  part_pure : (hole : Hole) (run : Run) → IsPure (filled_in hole run) → IsPure run
+  pub part_pure : (hole : Hole) (run : Run) → IsPure (filled_in hole run) → IsPure run
   part_pure here run h = h
   part_pure (within doing kind place holes) run h = part_pure_in holes run h.1
 
@@ -46,7 +46,7 @@ module _ (scene : Scene) (world : World) where
       let whole = filled_pure hole a middle pure pure_later in
       (filled_in hole middle, whole, move_lifts scene world locks hole a (went world middle) o k, steps_inside locks hole o n middle b whole more)
 
-  fails_inside : (locks : List At) (hole : Hole) → IsOpen hole → (run : Run) → IsPure (filled_in hole run) → FailsBeside scene world locks run
+  pub fails_inside : (locks : List At) (hole : Hole) → IsOpen hole → (run : Run) → IsPure (filled_in hole run) → FailsBeside scene world locks run
       → FailsBeside scene world locks (filled_in hole run)
   fails_inside locks hole o run pure h = record {
     count = h.count;

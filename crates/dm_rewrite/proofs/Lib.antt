@@ -1,21 +1,23 @@
 mod PlainLemmas
-mod ComputedLemmas
-mod SettleLemmas
-mod KeptLemmas
+pub mod ComputedLemmas
+pub mod SettleLemmas
+pub mod KeptLemmas
 mod ComputedKeptLemmas
-mod AsideLemmas
-mod EffectLemmas
-mod ClosedLemmas
-mod ClosedRunLemmas
-mod ShrinkEffectLemmas
+pub mod AsideLemmas
+pub mod EffectLemmas
+pub mod ClosedLemmas
+pub mod ClosedRunLemmas
+pub mod ShrinkEffectLemmas
 mod ClosedStateLemmas
-mod FrameChangeLemmas
+pub mod FrameChangeLemmas
 mod StepEffectLemmas
 mod NamedConstantLemmas
 mod NamedStatementLemmas
 mod NamedSizeLemmas
 mod NamedStateLemmas
 mod NamedRefineLemmas
+mod NamedStaticLemmas
 mod NamedStartLemmas
+mod NamedUnitLemmas
 mod NamedExample
 mod CountExample

@@ -1,34 +1,39 @@
--- A small program that reads a const object in place of a constant expression meets each premise of the law.
-use Rattle.std.specs.Prelude.{◌≡◌, refl, ℕ, zero, suc, ◌+◌, ◌==◌, [], ◌∷◌, Some, None, option_map, pos, if◌then◌else◌}
+-- A small program that reads a const object in place of a constant expression, and its unit, meet each premise of the laws.
+use Rattle.std.specs.Prelude.{◌≡◌, refl, ℕ, zero, suc, [], ◌∷◌, option_map, pos}
 use Rattle.std.specs.Int.Signed.{le_z_yes}
-use Rattle.std.proofs.Common.{arith, ap, sym, ◌∙◌, inl, inr}
+use Rattle.std.proofs.Common.{arith, inl, inr}
 use Rattle.dm_int.specs.declared.Kind.TheVariants.{Int}
-use Rattle.dm_meaning.specs.Operations.{object_named}
-use Rattle.dm_meaning.specs.Values.{integer_value}
 use Rattle.dm_tree.specs.Typing.{file_scene, IsWellTyped}
-use Rattle.dm_meaning.specs.Memory.{Block, look_up, IsFresh}
 use Rattle.dm_meaning.specs.Programs.{declaration_of}
 use Rattle.dm_meaning.specs.Replaced.{facts_of}
-use Rattle.dm_meaning.specs.Examples.{types, constant, doubled, six_unit, beyond_six}
-use Rattle.dm_meaning.proofs.GrowLemmas.{equal_is, differ_is, look_added}
-use Rattle.dm_rewrite.specs.Examples.{six_read, naming_six}
-use Rattle.dm_rewrite.specs.NamedConstants.{new_of, held, Agrees, IsNaming, HasOneMore}
+use Rattle.dm_meaning.specs.Examples.{types, constant, doubled}
+use Rattle.dm_rewrite.specs.Examples.{six_read, sum_unit, named_unit, beyond_added, naming_six}
+use Rattle.dm_rewrite.specs.NamedConstants.{new_of, Agrees, IsNaming, AddsObject}
+use Rattle.dm_rewrite.specs.NamedUnits.{IsUnitNaming}
 
-injective_six : (c d : ℕ) → beyond_six c ≡ beyond_six d → c ≡ d
-injective_six zero zero e = refl
-injective_six zero (suc d) e = omega (arith, e)
-injective_six (suc c) zero e = omega (arith, e)
-injective_six (suc c) (suc d) e = omega (arith, e)
+injective : (c d : ℕ) → beyond_added c ≡ beyond_added d → c ≡ d
+injective zero zero e = refl
+injective zero (suc zero) e = omega (arith, e)
+injective zero (suc (suc d)) e = omega (arith, e)
+injective (suc zero) zero e = omega (arith, e)
+injective (suc zero) (suc zero) e = refl
+injective (suc zero) (suc (suc d)) e = omega (arith, e)
+injective (suc (suc c)) zero e = omega (arith, e)
+injective (suc (suc c)) (suc zero) e = omega (arith, e)
+injective (suc (suc c)) (suc (suc d)) e = omega (arith, e)
 
-told : (d : ℕ) → option_map facts_of (declaration_of (new_of naming_six) (beyond_six d)) ≡ option_map facts_of (declaration_of naming_six.old d)
+told : (d : ℕ) → option_map facts_of (declaration_of (new_of naming_six) (beyond_added d)) ≡ option_map facts_of (declaration_of naming_six.old d)
 told zero = refl
-told (suc d) = refl
+told (suc zero) = refl
+told (suc (suc zero)) = refl
+told (suc (suc (suc d))) = refl
 
-apart : (d : ℕ) → beyond_six d ≡ 1 → ⊥
+apart : (d : ℕ) → beyond_added d ≡ 2 → ⊥
 apart zero e = omega (arith, e)
-apart (suc d) e = omega (arith, e)
+apart (suc zero) e = omega (arith, e)
+apart (suc (suc d)) e = omega (arith, e)
 
-typed : IsWellTyped (file_scene types six_unit.declared) (doubled (constant 3))
+typed : IsWellTyped (file_scene types sum_unit.declared) (doubled (constant 3))
 typed = ((refl, refl, (refl, refl, inr refl, refl)), (((refl, (le_z_yes tt, le_z_yes tt)), tt), (((refl, (le_z_yes tt, le_z_yes tt)), tt), tt)))
 
 agrees : Agrees naming_six six_read (doubled (constant 3))
@@ -38,52 +43,59 @@ agrees = inr (record {
   is = refl;
   names = refl;
   typed = refl;
-  constant = record { kind = refl; value = refl; scene = file_scene types six_unit.declared; typed = typed };
+  constant = record { kind = refl; value = refl; scene = file_scene types sum_unit.declared; typed = typed };
 })
 
 pub premises : IsNaming naming_six
 premises = record {
-  injective = injective_six;
+  injective = injective;
   apart = apart;
   told = told;
-  functions = ((refl, refl, (inl (refl, refl, tt, (agrees, tt)), tt)), tt);
+  functions = ((refl, refl, (inl (refl, refl, tt, (inl (refl, refl, tt, (agrees, (inl (refl, refl, tt, (inl (refl, refl, tt, tt), tt)), tt))), tt)), tt)), tt);
 }
 
--- what SIX holds before its first value is stored
-abbrev zeroed : Block
-zeroed = record (held naming_six) { contents = integer_value Int (pos 0) }
-
--- memory in which it is stored
-stored_six : (n : ℕ) → look_up ((n, if n == n then held naming_six else zeroed) ∷ []) n ≡ Some (held naming_six)
-stored_six n =
-    ap (λ b. if b then Some (if n == n then held naming_six else zeroed) else None) (equal_is n n refl)
-    ∙ ap (λ b. Some (if b then held naming_six else zeroed)) (equal_is n n refl)
-
-same_objects : (n d : ℕ) → object_named ((1, n) ∷ []) (beyond_six d) ≡ None
-same_objects n zero = refl
-same_objects n (suc d) = ap (λ b. if b then Some n else None) (differ_is 1 (suc (suc d)) (λ e. omega (arith, e)))
-
--- SIX takes the first name, and the old program has no static objects
-pub statics : (names : ℕ → ℕ) → IsFresh names [] → HasOneMore naming_six names
-statics names fresh = record {
-  number = names 0;
-  others = λ i. names (suc i);
-  fresh = (λ i j e. without i j (fresh.0 (suc i) (suc j) e), λ i. refl);
-  named = record { same = same_objects (names 0); added = refl };
-  memory = record {
-    same = λ m e. look_added (names 0) (if names 0 == names 0 then held naming_six else zeroed) [] m (λ f. e (sym f));
-    own = stored_six (names 0);
-    absent = refl;
+pub statics : AddsObject naming_six
+statics = record {
+  before = _ ∷ [];
+  added = _;
+  behind = _ ∷ [];
+  statics = refl;
+  others = ((refl, refl, ((refl, refl, tt), tt)), ((refl, refl, ((refl, refl, tt), tt)), tt));
+  object = record {
+    declared = refl;
+    kind = refl;
+    initialiser = refl;
+    tree = constant 6;
+    expressions = refl;
+    number = pos 6;
+    constant = refl;
+    converted = refl;
   };
-  later = λ i. ap names (next i);
-  apart = λ i e. never i (fresh.0 (1 + i) 0 e);
 }
-  where
-    without : (i j : ℕ) → suc i ≡ suc j → i ≡ j
-    without i j e = omega (arith, e)
 
-    next : (i : ℕ) → 1 + i ≡ suc (0 + i)
-    next i = omega arith
-
-    never : (i : ℕ) → 1 + i ≡ 0 → ⊥
-    never i e = omega (arith, e)
+pub unit_premises : IsUnitNaming types named_unit sum_unit beyond_added 2 Int (pos 6)
+unit_premises = record {
+  injective = injective;
+  apart = apart;
+  told = told;
+  before = _ ∷ [];
+  adds = _;
+  behind = _ ∷ _ ∷ [];
+  externals = refl;
+  others = ((refl, ((refl, refl, tt), tt)), ((refl, ((refl, refl, tt), tt)), ((refl, refl, refl, refl, premises.functions.0.2, tt), tt)));
+  declaration = record {
+    declarator = _;
+    tree = constant 6;
+    form = refl;
+    declared = refl;
+    defines = refl;
+    initialiser = refl;
+    declaration = _;
+    entry = refl;
+    sort = refl;
+    kind = refl;
+    number = pos 6;
+    constant = refl;
+    converted = refl;
+  };
+}

@@ -89,7 +89,7 @@ operator_gives comma e = refl
 operator_gives label e = absurd (true≢false (sym e))
 
 -- a constant expression gives a value
-constant_gives : (label : Label) (kind : CType) (passes : List Bool) → has_constant_form label kind passes ≡ true → may_give label ≡ true
+pub constant_gives : (label : Label) (kind : CType) (passes : List Bool) → has_constant_form label kind passes ≡ true → may_give label ≡ true
 constant_gives label kind passes h = by_operand (is_constant_operand label) refl
   where
     by_operand : (b : Bool) → is_constant_operand label ≡ b → may_give label ≡ true

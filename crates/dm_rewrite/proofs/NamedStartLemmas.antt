@@ -7,7 +7,7 @@ use Rattle.dm_meaning.specs.Refinement.{Refines}
 use Rattle.dm_meaning.specs.Simulation.{IsSimulation, simulated}
 use Rattle.dm_meaning.specs.Values.{Value}
 use Rattle.dm_meaning.specs.Objects.{all_zero}
-use Rattle.dm_meaning.specs.Memory.{Memory, Block, look_up, new_block, IsFresh}
+use Rattle.dm_meaning.specs.Memory.{Memory, Block, look_up, new_block}
 use Rattle.dm_meaning.specs.Programs.{Definition, Program, layout, declaration_of}
 use Rattle.dm_meaning.specs.States.{State}
 use Rattle.dm_meaning.specs.Statements.{declared_in, made_from, named_from}
@@ -17,24 +17,18 @@ use Rattle.dm_meaning.specs.Extending.{HasAll}
 use Rattle.dm_meaning.specs.MoreObjects.{with_memory}
 use Rattle.dm_meaning.specs.Replaced.{Zipped}
 use Rattle.dm_meaning.proofs.OptionLemmas.{none_is_some, some_is_some}
-use Rattle.dm_meaning.proofs.GrowLemmas.{equal_of, look_added}
+use Rattle.dm_meaning.proofs.GrowLemmas.{equal_of}
 use Rattle.dm_meaning.proofs.RunLemmas.{OptionAgrees}
 use Rattle.dm_meaning.proofs.PassStatementLemmas.{IsSmall, main_small}
 use Rattle.dm_meaning.proofs.SpareStateLemmas.{settled_beginnings}
-use Rattle.dm_rewrite.specs.NamedConstants.{Named, new_of, IsNaming, DefinitionAgrees, held, IsBeside, HasOneMore}
+use Rattle.dm_rewrite.specs.NamedConstants.{Named, new_of, IsNaming, DefinitionAgrees, AddsObject, held}
 use Rattle.dm_rewrite.proofs.NamedStatementLemmas.{unfolded_agree}
 use Rattle.dm_rewrite.proofs.NamedSizeLemmas.{limit, DefinitionFits, likeness, tasks_few}
 use Rattle.dm_rewrite.proofs.NamedStateLemmas.{StateAgrees, same_main, frame_objects, frame_tasks, frame_memory}
+use Rattle.dm_rewrite.proofs.NamedStaticLemmas.{IsBeside, beside_added, HasOneMore, one_more}
 use Rattle.dm_rewrite.proofs.NamedRefineLemmas.{goes_nothing, Relation, steps_met}
 
 -- ---- memories of which one has an object more
-
-pub beside_added : (n : ℕ) (block : Block) (more memory : Memory) → IsBeside n block more memory → (m : ℕ) (other : Block) → (m ≡ n → ⊥) → IsBeside n block ((m, other) ∷ more) ((m, other) ∷ memory)
-beside_added n block more memory h m other e = record {
-  same = λ i f. ap (λ o. if m == i then Some other else o) (h.same i f);
-  own = look_added m other more n e ∙ h.own;
-  absent = look_added m other memory n e ∙ h.absent;
-}
 
 beside_made : (program : Program) (n : ℕ) (block : Block) (names : ℕ → ℕ) → ((i : ℕ) → names i ≡ n → ⊥) → (i : ℕ) (ds : List ℕ) (more memory : Memory) → IsBeside n block more memory
     → IsBeside n block (made_from program names i ds more) (made_from program names i ds memory)
@@ -66,7 +60,7 @@ beside_has n block more memory h m found e = by_number (m == n) refl
         other : (m == n) ≡ false → m ≡ n → ⊥
         other differs same = differ m n same differs
 
-module _ (change : Named) (naming : IsNaming change) (statics : (names : ℕ → ℕ) → IsFresh names [] → HasOneMore change names) where
+module _ (change : Named) (naming : IsNaming change) (adds : AddsObject change) where
   -- ---- main
 
   main_agrees : (fs gs : List Definition) → Zipped (DefinitionAgrees change) fs gs → OptionAgrees (DefinitionAgrees change) (main_in (new_of change) fs) (main_in change.old gs)
@@ -176,7 +170,7 @@ module _ (change : Named) (naming : IsNaming change) (statics : (names : ℕ →
   begins_related input s (bytes, names, fresh, main, is_main_here, e) =
       let found = other_main (main_of (new_of change)) (main_of change.old) main (main_agrees change.functions change.old.functions naming.functions) is_main_here in
       let small : IsSmall (limit change) (Some main) = subst (IsSmall (limit change)) is_main_here (main_small (new_of change) change.functions) in
-      let more = statics names fresh in
+      let more = one_more change naming adds names fresh in
       let begins : Begins change.old input (start more.others change.old found.0 input) = (bytes, more.others, more.fresh, found.0, found.1, refl) in (
         limit change,
         start more.others change.old found.0 input,
@@ -201,6 +195,6 @@ module _ (change : Named) (naming : IsNaming change) (statics : (names : ℕ →
   }
 
 -- A program that reads the added object refines the program that has constant expressions in place.
-pub named_constants_refine : (change : Named) → IsNaming change → ((names : ℕ → ℕ) → IsFresh names [] → HasOneMore change names) → Refines (machine_of (new_of change)) (machine_of change.old)
-named_constants_refine change naming statics =
-    simulated (machine_of (new_of change)) (machine_of change.old) (Relates change naming statics) (limit change) (limit change) (simulation change naming statics)
+pub named_constants_refine : (change : Named) → IsNaming change → AddsObject change → Refines (machine_of (new_of change)) (machine_of change.old)
+named_constants_refine change naming adds =
+    simulated (machine_of (new_of change)) (machine_of change.old) (Relates change naming adds) (limit change) (limit change) (simulation change naming adds)

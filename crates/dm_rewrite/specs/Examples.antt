@@ -1,22 +1,23 @@
 -- Trees under evaluation in small programs: the examples of `src/examples.rt`.
-use Rattle.std.specs.Prelude.{ℕ, true, false, [], ◌∷◌, ◌++◌, Some, pos, codes}
+use Rattle.std.specs.Prelude.{ℕ, zero, suc, true, false, List, [], ◌∷◌, ◌++◌, Some, pos, codes}
 use Rattle.dm_int.specs.declared.Kind.TheVariants.{Int}
 use Rattle.dm_int.specs.declared.Op.TheVariants.{Add}
 use Rattle.dm_type.specs.CTypes.{CType, void, integer, pointer, const}
 use Rattle.dm_tree.specs.Trees.{object, read, address, binary, both, count, block, return, one_expression, Spans, Tree, node, trees}
-use Rattle.dm_tree.specs.declared.unit.Linkage.TheVariants.{Internal}
+use Rattle.dm_tree.specs.declared.unit.Linkage.{Linkage}
+use Rattle.dm_tree.specs.declared.unit.Linkage.TheVariants.{Internal, External as ExternalLinkage}
 use Rattle.dm_tree.specs.declared.unit.Sort.TheVariants.{Object}
-use Rattle.dm_tree.specs.Units.{Declaration}
+use Rattle.dm_tree.specs.Units.{Declaration, External, declares, defines_function, TypedUnit}
 use Rattle.dm_meaning.specs.Values.{At, numbered, integer_value}
 use Rattle.dm_meaning.specs.Memory.{Block}
-use Rattle.dm_meaning.specs.Programs.{Definition, Static}
-use Rattle.dm_meaning.specs.Units.{program_of}
+use Rattle.dm_meaning.specs.Programs.{Definition}
 use Rattle.dm_meaning.specs.Operations.{of_value, designates, World, Objects, whole}
 use Rattle.dm_meaning.specs.Running.{evaluates, Run, done, to_do, Hole, here, within, in_first, in_others, no_runs, more_runs, begun}
-use Rattle.dm_meaning.specs.Examples.{at, types, constant, reading, counted, and_count, six_unit, beyond_six}
+use Rattle.dm_meaning.specs.Examples.{at, types, constant, reading, counted, doubled, and_count, six_unit}
 use Rattle.dm_rewrite.specs.Computed.{Computed}
 use Rattle.dm_rewrite.specs.Effects.{Stage}
 use Rattle.dm_rewrite.specs.NamedConstants.{Named}
+use Rattle.dm_rewrite.specs.NamedUnits.{change_of}
 
 abbrev int : CType
 int = integer Int
@@ -105,33 +106,52 @@ address_of_x = begun (node address (pointer int) (spans 0) (trees (node (object 
 abbrev pub function : Definition
 function = record { function = 0; parameters = 1 ∷ []; body = node block void (spans 0) (trees []) }
 
--- ---- static const int SIX = 6; int main(void) { return SIX; }
+-- ---- int before = 1; static const int SIX = 6; int behind = 2; int main(void) { return SIX + behind; }
 
--- the type of SIX, whose declaration has the number 1, and its read
 abbrev const_int : CType
 const_int = const int
 
-abbrev pub six_read : Tree
-six_read = node read int (spans 0) (trees (node (object 1) const_int (spans 0) (trees []) ∷ []))
+abbrev object_entry : List ℕ → CType → Linkage → Declaration
+object_entry name kind linkage = record { name = name; sort = Object true; kind = kind; linkage = linkage; place = at 0 }
 
-abbrev six_declaration : Declaration
-six_declaration = record { name = codes "SIX"; sort = Object true; kind = const_int; linkage = Internal; place = at 0 }
-
-abbrev six_static : Static
-six_static = record { declared = 1; initialiser = Some one_expression; expressions = constant 6 ∷ [] }
-
-abbrev returning_six : Definition
-returning_six = record { function = 0; parameters = []; body = node block void (spans 0) (trees (node return void (spans 0) (trees (six_read ∷ [])) ∷ [])) }
-
--- the change from the program of `return 3 * 2;`
-abbrev pub naming_six : Named
-naming_six = record {
-  old = program_of types six_unit;
-  declared = six_unit.declared ++ six_declaration ∷ [];
-  functions = returning_six ∷ [];
-  statics = six_static ∷ [];
-  rename = beyond_six;
-  added = 1;
-  kind = Int;
-  value = pos 6;
+-- an object in file scope with its first value, and main, which returns a sum
+abbrev defining : ℕ → ℕ → External
+defining d z = record {
+  span = record { first = 0; after = 0 };
+  constants = [];
+  form = declares (record { declared = d; defines = true; initialiser = Some one_expression } ∷ []) (constant z ∷ []);
 }
+
+abbrev returning_sum : Tree → Tree → External
+returning_sum left right = record {
+  span = record { first = 0; after = 0 };
+  constants = [];
+  form = defines_function 0 [] (node block void (spans 0) (trees (node return void (spans 0) (trees (node (binary Add) int (spans 0) (trees (left ∷ right ∷ [])) ∷ [])) ∷ [])));
+}
+
+-- the read of SIX, whose declaration has the number 2
+abbrev pub six_read : Tree
+six_read = node read int (spans 0) (trees (node (object 2) const_int (spans 0) (trees []) ∷ []))
+
+-- int before = 1; int behind = 2; int main(void) { return 3 * 2 + behind; }
+abbrev pub sum_unit : TypedUnit
+sum_unit = record {
+  declared = six_unit.declared ++ object_entry (codes "before") int ExternalLinkage ∷ object_entry (codes "behind") int ExternalLinkage ∷ [];
+  externals = defining 1 1 ∷ defining 2 2 ∷ returning_sum (doubled (constant 3)) (reading 2) ∷ [];
+}
+
+abbrev pub named_unit : TypedUnit
+named_unit = record {
+  declared =
+      six_unit.declared ++ object_entry (codes "before") int ExternalLinkage ∷ object_entry (codes "SIX") const_int Internal ∷ object_entry (codes "behind") int ExternalLinkage ∷ [];
+  externals = defining 1 1 ∷ defining 2 6 ∷ defining 3 2 ∷ returning_sum six_read (reading 3) ∷ [];
+}
+
+-- the numbers of the declarations where a third one is added, and the change between the programs
+abbrev pub beyond_added : ℕ → ℕ
+beyond_added zero = 0
+beyond_added (suc zero) = 1
+beyond_added (suc (suc d)) = suc (suc (suc d))
+
+abbrev pub naming_six : Named
+naming_six = change_of types named_unit sum_unit beyond_added 2 Int (pos 6)

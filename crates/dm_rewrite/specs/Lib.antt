@@ -7,4 +7,5 @@ pub mod Closed
 pub mod ClosedStates
 pub mod StepEffects
 pub mod NamedConstants
+pub mod NamedUnits
 pub mod Examples

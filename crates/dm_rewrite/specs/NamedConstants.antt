@@ -5,23 +5,23 @@
 --     RunAgrees change n run other      trees under evaluation, where the added object has the number n
 --     HasHeld change n memory      the added object is there, and holds its value
 --     Matched change n scene world locks other move      a step of the new program is met in the old one
---     HasOneMore change names      the static objects of the new program are those of the old one and the added one
-use Rattle.std.specs.Prelude.{◌≡◌, ◌⊎◌, ℕ, ◌+◌, false, true, List, [], map, length, Some, None, option_map, ℤ}
+--     AddsObject change      the static objects of the new program are those of the old one and the added one
+use Rattle.std.specs.Prelude.{◌≡◌, ◌⊎◌, ℕ, false, true, List, [], ◌∷◌, ◌++◌, map, Some, option_map, ℤ}
 use Rattle.dm_int.specs.declared.Kind.{Kind}
+use Rattle.dm_int.specs.Kinds.{convert}
 use Rattle.dm_type.specs.CTypes.{CType, integer, const}
 use Rattle.dm_tree.specs.Scenes.{Scene}
-use Rattle.dm_tree.specs.Trees.{Label, object, read, case, Spans, Tree, Trees, node, no_trees, more_trees, label_of, kind_of, trees_of}
+use Rattle.dm_tree.specs.Trees.{Label, object, read, case, sizeof_tree, one_expression, Spans, Tree, Trees, node, no_trees, more_trees, label_of, kind_of, trees_of}
 use Rattle.dm_tree.specs.Typing.{IsWellTyped}
 use Rattle.dm_tree.specs.Units.{Declaration}
 use Rattle.dm_meaning.specs.Among.{IsAmong}
 use Rattle.dm_meaning.specs.Values.{At, numbered, integer_value}
-use Rattle.dm_meaning.specs.Memory.{Memory, Block, look_up, IsFresh}
+use Rattle.dm_meaning.specs.Memory.{Memory, Block, look_up}
 use Rattle.dm_meaning.specs.Programs.{Definition, Static, Program, declaration_of, constant_of}
 use Rattle.dm_meaning.specs.Operations.{Objects, World, Scene as Meaning, object_named, designates, whole}
 use Rattle.dm_meaning.specs.Running.{Doing, evaluates, Run, done, to_do, Runs, no_runs, more_runs, begun, Hole, here, within, Holes, in_first, in_others}
 use Rattle.dm_meaning.specs.Expressions.{Move, goes, moves}
-use Rattle.dm_meaning.specs.Statements.{named_from}
-use Rattle.dm_meaning.specs.Units.{static_numbers, statics_memory}
+use Rattle.dm_meaning.specs.Statements.{type_declared}
 use Rattle.dm_meaning.specs.Replaced.{relabelled, Zipped, facts_of}
 use Rattle.dm_meaning.proofs.QuietLemmas.{Quietly, Fails}
 use Rattle.dm_meaning.proofs.RunLemmas.{redone, MoveAgrees}
@@ -90,6 +90,50 @@ pub record IsNaming (change : Named) : Type 0 where
   pub apart : (d : ℕ) → change.rename d ≡ change.added → ⊥
   pub told : (d : ℕ) → option_map facts_of (declaration_of (new_of change) (change.rename d)) ≡ option_map facts_of (declaration_of change.old d)
   pub functions : Zipped (DefinitionAgrees change) change.functions change.old.functions
+
+-- ---- objects of static storage duration
+
+-- the operand of sizeof isn't evaluated (6.5.3.4p2)
+abbrev pub IfSizeof : Label → Type 0 → Type 0 → Type 0
+IfSizeof sizeof_tree inside others = inside
+IfSizeof label inside others = others
+
+abbrev mutual
+  -- The same initialiser by the new numbers: it is constant (6.7.9p4), and no read is, but in such an operand.
+  pub IsRenamed : Named → Tree → Tree → Type 0
+  IsRenamed change (node label kind spans parts) other =
+      (label ≡ relabelled change.rename (label_of other)) × (kind ≡ kind_of other)
+      × IfSizeof (label_of other) (AllAgree change parts (trees_of other)) (AreRenamed change parts (trees_of other))
+
+  pub AreRenamed : Named → Trees → Trees → Type 0
+  AreRenamed change no_trees no_trees = Unit {0}
+  AreRenamed change (more_trees first rest) (more_trees other others) = IsRenamed change first other × AreRenamed change rest others
+  AreRenamed change parts others = ⊥
+
+abbrev pub StaticAgrees : Named → Static → Static → Type 0
+StaticAgrees change static other =
+    (static.declared ≡ change.rename other.declared) × (static.initialiser ≡ other.initialiser)
+    × Zipped (IsRenamed change) static.expressions other.expressions
+
+-- the added object, whose initialiser is an integer constant expression: converted to the object's type it has the value
+pub record IsAddedObject (change : Named) (static : Static) : Type 0 where
+  pub declared : static.declared ≡ change.added
+  pub kind : type_declared (new_of change) change.added ≡ const (integer change.kind)
+  pub initialiser : static.initialiser ≡ Some one_expression
+  pub tree : Tree
+  pub expressions : static.expressions ≡ tree ∷ []
+  pub number : ℤ
+  pub constant : constant_of (new_of change) tree ≡ Some number
+  pub converted : convert change.kind number ≡ change.value
+
+-- the objects of static storage duration of the old program, in order, and the added one among them
+pub record AddsObject (change : Named) : Type 0 where
+  pub before : List Static
+  pub added : Static
+  pub behind : List Static
+  pub statics : change.statics ≡ before ++ added ∷ behind
+  pub others : Zipped (StaticAgrees change) (before ++ behind) change.old.statics
+  pub object : IsAddedObject change added
 
 -- ---- the added object
 
@@ -164,23 +208,3 @@ Matched change n scene world locks other m =
     ((met : Move Run Hole) × IsAmong met (moves scene world locks other) × RunMoveAgrees change n m met)
     ⊎ (((run : Run) × (m ≡ goes world run) × (count : ℕ) × (last : Run) × Quietly scene world count other last × RunAgrees change n run last)
     ⊎ Fails scene world other)
-
--- ---- beginnings of runs
-
--- a memory is another one with this object besides
-pub record IsBeside (n : ℕ) (block : Block) (more memory : Memory) : Type 0 where
-  pub same : (m : ℕ) → (m ≡ n → ⊥) → look_up more m ≡ look_up memory m
-  pub own : look_up more n ≡ Some block
-  pub absent : look_up memory n ≡ None
-
--- The objects of static storage duration of the new program, which take these names in order, are those of the old one by other names, and the
--- added one, which holds its value. All that is made later has the same names in both programs.
-pub record HasOneMore (change : Named) (names : ℕ → ℕ) : Type 0 where
-  pub number : ℕ
-  pub others : ℕ → ℕ
-  pub fresh : IsFresh others []
-  pub named : NameAlike change number (named_from names 0 (static_numbers change.statics) []) (named_from others 0 (static_numbers change.old.statics) [])
-  pub memory : IsBeside number (held change) (statics_memory (new_of change) names (named_from names 0 (static_numbers change.statics) []))
-      (statics_memory change.old others (named_from others 0 (static_numbers change.old.statics) []))
-  pub later : (i : ℕ) → names (length change.statics + i) ≡ others (length change.old.statics + i)
-  pub apart : (i : ℕ) → names (length change.statics + i) ≡ number → ⊥

@@ -4,7 +4,7 @@ ghost use Rattle.std.specs.Prelude.{◌≡◌, ℕ, false, List, [], ◌∷◌, 
 ghost use Rattle.dm_int.specs.declared.Kind.TheVariants.{Int};
 ghost use Rattle.dm_meaning.specs.Among.{IsAmong};
 ghost use Rattle.dm_meaning.specs.Choices.{run_by};
-ghost use Rattle.dm_meaning.specs.Examples.{at, and_count, by_choice, counted_sum};
+ghost use Rattle.dm_meaning.specs.Examples.{at, and_count, by_choice, counted_sum, types};
 ghost use Rattle.dm_meaning.specs.Expressions.{Move, goes, moves};
 ghost use Rattle.dm_meaning.specs.Machines.{exited};
 ghost use Rattle.dm_meaning.specs.Memory.{IsFresh, killed};
@@ -13,7 +13,7 @@ ghost use Rattle.dm_meaning.specs.Running.{Run, Hole, filled_in};
 ghost use Rattle.dm_meaning.specs.Simulation.{GoesWrong};
 ghost use Rattle.dm_meaning.specs.States.{returns, State};
 ghost use Rattle.dm_meaning.specs.Steps.{opened_memory, scene_of, Step};
-ghost use Rattle.dm_meaning.specs.Units.{machine_of};
+ghost use Rattle.dm_meaning.specs.Units.{machine_of, program_of};
 ghost use Rattle.dm_meaning.specs.Values.{At, integer_value};
 ghost use Rattle.dm_rewrite.specs.Aside.{Claims, IsForeseen};
 ghost use Rattle.dm_rewrite.specs.Closed.{MemoryAvoids, IsClosedIn, StaysClosed};
@@ -23,7 +23,8 @@ ghost use Rattle.dm_rewrite.specs.Effects.{on_object, effects_of, ChangesOnly, L
 ghost use Rattle.dm_rewrite.specs.Examples as examples;
 ghost use Rattle.dm_rewrite.specs.KeptMemory.{KeepsPlaces};
 ghost use Rattle.dm_rewrite.specs.StepEffects.{stage_of, next_effects, StillHolds};
-ghost use Rattle.dm_rewrite.specs.NamedConstants.{new_of as named_of, IsNaming, HasOneMore};
+ghost use Rattle.dm_rewrite.specs.NamedConstants.{new_of as named_of, IsNaming, AddsObject};
+ghost use Rattle.dm_rewrite.specs.NamedUnits.{IsUnitNaming};
 ghost use Rattle.dm_rewrite.specs.PureSteps.{IsAt, Evaluated};
 
 /// In `i++ + i` the second operand is evaluated at once, and reads i; where i was counted before, the program can go wrong.
@@ -92,11 +93,14 @@ pub fn a_step_leaves_other_objects()
         (λ state. (other : State) → Step (and_count 2) state other → StillHolds other.world.memory 1 (examples.holding 2)) }
 {}
 
-/// `static const int SIX = 6; int main(void) { return SIX; }` refines `int main(void) { return 3 * 2; }`.
+/// `int before = 1; static const int SIX = 6; int behind = 2; int main(void) { return SIX + behind; }` refines
+/// `int before = 1; int behind = 2; int main(void) { return 3 * 2 + behind; }`.
 pub fn a_named_constant_refines()
-    ensures constant { by_choice 0 60 [] examples.naming_six.old ≡ Some (exited 6, []) }
-    ensures named { by_choice 0 60 [] (named_of examples.naming_six) ≡ Some (exited 6, []) }
+    ensures constant { by_choice 0 60 [] examples.naming_six.old ≡ Some (exited 8, []) }
+    ensures named { by_choice 0 60 [] (named_of examples.naming_six) ≡ Some (exited 8, []) }
     ensures premises { IsNaming examples.naming_six }
-    ensures statics { (names : ℕ → ℕ) → IsFresh names [] → HasOneMore examples.naming_six names }
+    ensures statics { AddsObject examples.naming_six }
     ensures refines { Refines (machine_of (named_of examples.naming_six)) (machine_of examples.naming_six.old) }
+    ensures unit_premises { IsUnitNaming types examples.named_unit examples.sum_unit examples.beyond_added 2 Int (pos 6) }
+    ensures units_refine { Refines (machine_of (program_of types examples.named_unit)) (machine_of (program_of types examples.sum_unit)) }
 {}

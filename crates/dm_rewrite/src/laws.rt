@@ -1,15 +1,18 @@
-ghost use Rattle.std.specs.Prelude.{◌≡◌, ◌⊎◌, ℕ, Bool, true, false, List, [], Some, None};
+ghost use Rattle.std.specs.Prelude.{◌≡◌, ◌⊎◌, ℕ, Bool, true, false, List, [], Some, None, ℤ};
 ghost use Rattle.dm_token.specs.declared.place.Place.{Place};
+ghost use Rattle.dm_int.specs.declared.Kind.{Kind};
 ghost use Rattle.dm_type.specs.CTypes.{CType};
+ghost use Rattle.dm_type.specs.Tables.{Table};
 ghost use Rattle.dm_tree.specs.Trees.{Label};
+ghost use Rattle.dm_tree.specs.Units.{TypedUnit};
 ghost use Rattle.dm_meaning.specs.Among.{IsAmong};
-ghost use Rattle.dm_meaning.specs.Memory.{Block, look_up, killed, IsFresh};
+ghost use Rattle.dm_meaning.specs.Memory.{Block, look_up, killed};
 ghost use Rattle.dm_meaning.specs.Programs.{Definition, Program};
 ghost use Rattle.dm_meaning.specs.Refinement.{Refines};
 ghost use Rattle.dm_meaning.specs.Simulation.{GoesWrong};
 ghost use Rattle.dm_meaning.specs.States.{Use, Task, State};
 ghost use Rattle.dm_meaning.specs.Steps.{opened_memory, scene_of, Step};
-ghost use Rattle.dm_meaning.specs.Units.{machine_of};
+ghost use Rattle.dm_meaning.specs.Units.{machine_of, program_of};
 ghost use Rattle.dm_meaning.specs.Values.{At, Value, numbered, overlaps_any};
 ghost use Rattle.dm_meaning.specs.Operations.{World, Scene, Operand, Objects, operate, whole};
 ghost use Rattle.dm_meaning.specs.Running.{Run, Hole, IsOpen, filled_in, locks_in};
@@ -20,7 +23,8 @@ ghost use Rattle.dm_rewrite.specs.Closed.{MemoryAvoids, IsClosedIn, StaysClosed}
 ghost use Rattle.dm_rewrite.specs.ClosedStates.{ProgramNamesOnly, IsClosedState};
 ghost use Rattle.dm_rewrite.specs.Effects.{Effect, Stage, IsFree, effects_of, Writes, ChangesOnly, LeavesNoMore};
 ghost use Rattle.dm_rewrite.specs.KeptMemory.{HasSameObjects, KeepsPlaces};
-ghost use Rattle.dm_rewrite.specs.NamedConstants.{Named, new_of as named_of, IsNaming, NameAlike, HasHeld, RunAgrees, Matched, HasOneMore};
+ghost use Rattle.dm_rewrite.specs.NamedConstants.{Named, new_of as named_of, IsNaming, NameAlike, HasHeld, RunAgrees, Matched, AddsObject};
+ghost use Rattle.dm_rewrite.specs.NamedUnits.{IsUnitNaming};
 ghost use Rattle.dm_rewrite.specs.StepEffects.{stage_of, next_effects, StillHolds};
 ghost use Rattle.dm_rewrite.specs.PureSteps.{DidPlain, StepKeeps, Meets, IsAt, Evaluated};
 
@@ -138,8 +142,15 @@ pub fn named_constant_steps()
 {}
 
 /// A program in which integer constant expressions have become reads of an added const object of their type and value refines the program with
-/// the expressions, where its static objects are those of that program and the added one.
+/// the expressions, where its static objects are those of that program, with the same initialisers, and the added one, at any place among them.
 pub fn named_constants_refine()
-    ensures { (change : Named) → IsNaming change → ((names : ℕ → ℕ) → IsFresh names [] → HasOneMore change names)
-        → Refines (machine_of (named_of change)) (machine_of change.old) }
+    ensures { (change : Named) → IsNaming change → AddsObject change → Refines (machine_of (named_of change)) (machine_of change.old) }
+{}
+
+/// A translation unit that declares one const object of static storage duration more, in file scope, and reads it in place of integer constant
+/// expressions of its type and value, refines the unit without it.
+pub fn named_units_refine()
+    ensures { (table : Table) (new old : TypedUnit) (rename : ℕ → ℕ) (added : ℕ) (kind : Kind) (value : ℤ)
+        → IsUnitNaming table new old rename added kind value
+        → Refines (machine_of (program_of table new)) (machine_of (program_of table old)) }
 {}

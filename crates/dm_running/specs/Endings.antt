@@ -66,7 +66,7 @@ abbrev pub EndsRunAs : RunRequest → Source → Outside → Outside → Result 
 EndsRunAs request unit before after (Ok status) = (ending : RunEnding) × (status ≡ status_of_run ending) × EndsRun request unit before after ending
 EndsRunAs request unit before after (Err error) = EndsRun request unit before after memory_wanted
 
--- The files are told, the input is there, and the unit is read, has a syntax and typings with a `main`, and not too many definitions.
+-- The files are told, the input is there, and the unit is read, has a syntax and a typing with a `main`, and not too many definitions.
 pub record HoldsRun (told : Option Files) (request : RunRequest) (unit : Source) : Type 0 where
   pub files : Files
   pub are_told : told ≡ Some files

@@ -1,0 +1,4 @@
+pub mod Arguments
+pub mod Agreement
+pub mod ArgumentSteps
+pub mod Outcomes

@@ -1,0 +1,118 @@
+ghost use Rattle.std.specs.Prelude.{◌≡◌, ℕ, true, false, List, [], Some, None};
+ghost use Rattle.dm_token.specs.declared.place.Place.{Place};
+ghost use Rattle.dm_type.specs.CTypes.{CType};
+ghost use Rattle.dm_tree.specs.Trees.{call, Tree};
+ghost use Rattle.dm_meaning.specs.Among.{IsAmong};
+ghost use Rattle.dm_meaning.specs.Called.{Called};
+ghost use Rattle.dm_meaning.specs.CalledWithAll.{given, AreDistinct};
+ghost use Rattle.dm_meaning.specs.Expressions.{Move, goes, calls, lifted, moves_in};
+ghost use Rattle.dm_meaning.specs.Operations.{of_value, World};
+ghost use Rattle.dm_meaning.specs.Running.{evaluates, Run, done, Runs, more_runs, begun, Open, every, first_open, others_open, Hole, Holes, all_filled_in, AreOpen};
+ghost use Rattle.dm_meaning.specs.Steps.{lacks_value};
+ghost use Rattle.dm_meaning.specs.Values.{At, Value};
+ghost use Rattle.dm_meaning.proofs.PassRunLemmas.{AllYield, MoveYieldsAll};
+ghost use Rattle.dm_rewrite.specs.Computed.{Computed, computed, IsPure};
+ghost use Rattle.dm_rewrite.specs.Effects.{Effect, Stage, effects_of, ChangesOnly, IsNoMore};
+ghost use Rattle.dm_rewrite.specs.PureSteps.{Meets};
+ghost use Rattle.dm_central.specs.Agreement.{Mode, outside, open_effects, beside_first, before_rest, BegunOutside, IsPassed, RunAgrees, RunsAgree};
+ghost use Rattle.dm_central.specs.Arguments.{Way, untouched, AllFollowed, ReadsFirst, StandsOpen};
+ghost use Rattle.dm_central.specs.ArgumentSteps.{IsAtOnce, StandsOnce, ArgumentStep};
+ghost use Rattle.dm_central.specs.Outcomes.{StepsAgree, Met, IsAtCall, calling, calling_hole, IsEntering};
+
+/// Trees that agree still do in a later world that differs only in what others may write.
+pub fn agreement_kept()
+    ensures { (change : Called) (stage : Stage) (mode : Mode) (world later : World) (beside : List Effect) (run other : Run)
+        → ChangesOnly stage beside world later → RunAgrees change stage mode world beside run other
+        → RunAgrees change stage mode later beside run other }
+{}
+
+/// And beside trees that may write less.
+pub fn agreement_beside_less()
+    ensures { (change : Called) (stage : Stage) (mode : Mode) (world : World) (beside less : List Effect) (run other : Run)
+        → IsNoMore stage beside less → RunAgrees change stage mode world beside run other
+        → RunAgrees change stage mode world less run other }
+{}
+
+/// Trees of which nothing is evaluated agree in every world.
+pub fn begun_agreement()
+    ensures { (change : Called) (stage : Stage) (world : World) (beside : List Effect) (tree other : Tree)
+        → BegunOutside change stage beside tree other → RunAgrees change stage outside world beside (begun tree) (begun other) }
+{}
+
+/// When one operand of a node takes a step, all still agree, in the world that it leaves, where the operand writes only what it may, and no more
+/// than before behind the step.
+pub fn moved_operands()
+    ensures first { (change : Called) (stage : Stage) (mode : Mode) (world after : World) (before beside : List Effect) (opens : Open)
+        (first : Run) (rest : Runs) (other : Run) (others : Runs) (first_later other_later : Run) → first_open opens ≡ true
+        → RunsAgree change stage mode world before beside opens (more_runs first rest) (more_runs other others)
+        → ChangesOnly stage (effects_of stage other) world after → IsNoMore stage (effects_of stage other) (effects_of stage other_later)
+        → RunAgrees change stage mode after (beside_first stage opens before beside others) first_later other_later
+        → RunsAgree change stage mode after before beside opens (more_runs first_later rest) (more_runs other_later others) }
+    ensures others { (change : Called) (stage : Stage) (mode : Mode) (world after : World) (before beside : List Effect) (opens : Open)
+        (first : Run) (rest : Runs) (other : Run) (others rest_later others_later : Runs)
+        → RunsAgree change stage mode world before beside opens (more_runs first rest) (more_runs other others)
+        → ChangesOnly stage (open_effects stage (others_open opens) others) world after
+        → IsNoMore stage (open_effects stage (others_open opens) others) (open_effects stage (others_open opens) others_later)
+        → RunsAgree change stage mode after (before_rest stage opens before other) beside (others_open opens) rest_later others_later
+        → RunsAgree change stage mode after before beside opens (more_runs first rest_later) (more_runs other others_later) }
+{}
+
+/// A step of the old arguments of a call that isn't evaluated yet is one of an argument that stands in the old program, or one of an argument that
+/// is followed aside; or an untouched argument comes to nothing, or reads what is locked.
+pub fn argument_steps()
+    ensures { (stage : Stage) (world : World) (locks : List At) (beside : List Effect) (ways : List Way) (inner : Runs)
+        → AllFollowed stage world beside ways inner → (move : Move Runs Holes) → IsAmong move (moves_in stage.scene world locks every inner)
+        → ArgumentStep stage world locks beside ways inner move }
+{}
+
+/// Where the arguments of such a call stand in the old program.
+pub fn argument_places()
+    // One that is evaluated at once stands at one place, and so does each part of it.
+    ensures at_once { (change : Called) (stage : Stage) (mode : Mode) (world : World) (beside : List Effect)
+        → AreDistinct change.added.parameters → ((p : ℕ) → IsAmong p change.added.parameters → (c : ℕ) → change.rename c ≡ p → ⊥)
+        → (kind : CType) (other : Run) (inner : Runs) (passed : IsPassed change stage mode world beside (evaluates call) kind other inner)
+        → (holes : Holes) (run : Run) → inner ≡ all_filled_in holes run → IsAtOnce passed.ways holes
+        → StandsOnce change passed.kinds passed.ways change.body other holes run }
+    // An untouched one whose parameter is read first stands, untouched, in a part that may be evaluated.
+    ensures first { (change : Called) (stage : Stage) (mode : Mode) (world : World) (beside : List Effect)
+        → AreDistinct change.added.parameters → ((p : ℕ) → IsAmong p change.added.parameters → (c : ℕ) → change.rename c ≡ p → ⊥)
+        → (kind : CType) (other : Run) (inner : Runs) (passed : IsPassed change stage mode world beside (evaluates call) kind other inner)
+        → (tree : Tree) → IsAmong (untouched tree) passed.ways
+        → ((p : ℕ) → given change.added.parameters passed.ways p ≡ Some (untouched tree) → ReadsFirst p change.body)
+        → StandsOpen (begun tree) other }
+{}
+
+/// What meets a step of the arguments of such a call, by what meets it in the old arguments.
+pub fn call_steps()
+    // A step of them: a step of the old program, or none, where it is one aside.
+    ensures stepped { (change : Called) (stage : Stage) (mode : Mode) (world : World) (locks : List At) (beside : List Effect) (kind : CType)
+        (place : Place) (other : Run) (inner : Runs) (named : Run) (at : IsAtCall change stage mode world locks beside kind other inner named)
+        (x n : Move Runs Holes) → MoveYieldsAll at.passed.kinds x → IsAmong n (moves_in stage.scene world locks every inner)
+        → StepsAgree change stage mode world beside x n
+        → Met change stage mode world locks beside other (lifted (calling kind place named) (calling_hole kind place named) x) }
+    // No step of them.
+    ensures stood { (change : Called) (stage : Stage) (mode : Mode) (world : World) (locks : List At) (beside : List Effect) (kind : CType)
+        (place : Place) (other : Run) (inner : Runs) (named : Run) (at : IsAtCall change stage mode world locks beside kind other inner named)
+        (parts : Runs) → AllYield at.passed.kinds parts → RunsAgree change stage mode world [] beside every parts inner
+        → Met change stage mode world locks beside other (goes world (calling kind place named parts)) }
+    // A part of one comes to nothing, or reads what is locked.
+    ensures failed { (change : Called) (stage : Stage) (mode : Mode) (world : World) (locks : List At) (beside : List Effect) (kind : CType)
+        (other : Run) (inner : Runs) (named : Run) → IsAtCall change stage mode world locks beside kind other inner named
+        → (holes : Holes) → AreOpen every holes → (tree : Run) → IsPure tree → inner ≡ all_filled_in holes tree
+        → Meets locks (computed stage.scene world tree) → (move : Move Run Hole) → Met change stage mode world locks beside other move }
+    // The added function is called in one: the old program goes on in its expression, or it stands still, since it is known what the call comes to.
+    ensures entered { (change : Called) (stage : Stage) (mode : Mode) (world : World) (locks : List At) (beside : List Effect) (kind : CType)
+        (place : Place) (other : Run) (inner : Runs) (named : Run) (at : IsAtCall change stage mode world locks beside kind other inner named)
+        (called_kind : CType) (holes : Holes) (values : List Value)
+        → IsEntering change stage mode world beside at.passed.kinds inner called_kind holes values
+        → Met change stage mode world locks beside other (calls change.added.function values called_kind (calling_hole kind place named holes)) }
+    // It is called where it stands nowhere in the old program.
+    ensures entered_aside { (change : Called) (stage : Stage) (mode : Mode) (world : World) (locks : List At) (beside : List Effect) (kind : CType)
+        (place : Place) (other : Run) (inner : Runs) (named : Run) (at : IsAtCall change stage mode world locks beside kind other inner named)
+        → mode ≡ outside → (values : List Value) (called_kind : CType) (holes : Holes) (run : Run) → IsPure run → (found : Computed)
+        → computed stage.scene world run ≡ Some found → (value : Value) → found.result ≡ of_value value → lacks_value called_kind value ≡ false
+        → MoveYieldsAll at.passed.kinds (calls change.added.function values called_kind holes)
+        → ((later : World) → ChangesOnly stage [] world later
+        → RunsAgree change stage mode later [] beside every (all_filled_in holes (done called_kind (of_value value) [])) inner)
+        → Met change stage mode world locks beside other (calls change.added.function values called_kind (calling_hole kind place named holes)) }
+{}

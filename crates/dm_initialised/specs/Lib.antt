@@ -1,0 +1,4 @@
+pub mod Settled
+pub mod SetStates
+pub mod Units
+pub mod Examples
