@@ -9,6 +9,7 @@ pub mod Quiet
 pub mod Safe
 pub mod Scoped
 pub mod Sequencing
+pub mod Spans
 pub mod Stable
 pub mod Tables
 pub mod Walks
