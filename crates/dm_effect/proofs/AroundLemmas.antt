@@ -1,6 +1,5 @@
 -- The trees at a place and beside it, level by level.
 use Rattle.std.proofs.Common.{◌≡◌, ℕ, Bool, true, false, cond, ◌&&◌, ◌||◌, not, ◌==◌, List, [], ◌∷◌, ◌++◌, map, filter, length, Option, Some, None, refl, ap, sym, ◌∙◌, arith}
-use Rattle.core.specs.List.{cons_option}
 use Rattle.std.specs.List.{filter_map, list_any}
 use Rattle.std.specs.Prelude.{option_and_then}
 use Rattle.std.proofs.lemmas.List.Elements.{filter_map-append}
@@ -25,18 +24,24 @@ abbrev pub any_at : (Tree → Bool) → Tree → List Path → Bool
 any_at test whole ways = list_any test (filter_map (λ (way : Path). tree_at way whole) ways)
 
 module _ (test : Tree → Bool) where
-  found-asked : (there : Option Tree) (others : List Tree) → list_any test (cons_option there others) ≡ (passes test there || list_any test others)
-  found-asked None others = refl
-  found-asked (Some tree) others = refl
+  single-asked : (there : Option Tree) → list_any test (filter_map (λ (found : Option Tree). found) (there ∷ [])) ≡ passes test there
+  single-asked None = refl
+  single-asked (Some tree) = or-none (test tree)
+
+  -- one more way
+  found-asked : (find : Path → Option Tree) (way : Path) (ways : List Path) → list_any test (filter_map find (way ∷ ways)) ≡ (passes test (find way) || list_any test (filter_map find ways))
+  found-asked find way ways =
+      ap (list_any test) (filter_map-append find (way ∷ []) ways)
+      ∙ (list_any-append test (filter_map find (way ∷ [])) (filter_map find ways) ∙ ap (λ b. b || list_any test (filter_map find ways)) (single-asked (find way)))
 
   -- below a part
   below-asked : (n : ℕ) (whole part : Tree) (ways : List Path) → tree_in (trees_of whole) n ≡ Some part → any_at test whole (map (λ (way : Path). n ∷ way) ways) ≡ any_at test part ways
   below-asked n whole part [] is = refl
   below-asked n whole part (way ∷ ways) is =
-      found-asked (tree_at (n ∷ way) whole) (filter_map (λ (way : Path). tree_at way whole) (map (λ (way : Path). n ∷ way) ways))
+      found-asked (λ (way : Path). tree_at way whole) (n ∷ way) (map (λ (way : Path). n ∷ way) ways)
       ∙ (ap (λ found. passes test (option_and_then (tree_at way) found) || any_at test whole (map (λ (way : Path). n ∷ way) ways)) is
       ∙ (ap (λ b. passes test (tree_at way part) || b) (below-asked n whole part ways is)
-      ∙ sym (found-asked (tree_at way part) (filter_map (λ (way : Path). tree_at way part) ways))))
+      ∙ sym (found-asked (λ (way : Path). tree_at way part) way ways)))
 
 module _ (test : Tree → Bool) (whole : Tree) where
   append-asked : (ways others : List Path) → any_at test whole (ways ++ others) ≡ (any_at test whole ways || any_at test whole others)
@@ -46,12 +51,12 @@ module _ (test : Tree → Bool) (whole : Tree) where
 
   -- ---- operands
 
-  there-asked : (there : Option Tree) → (passes test (option_and_then (tree_at []) there) || false) ≡ passes test there
+  there-asked : (there : Option Tree) → passes test (option_and_then (tree_at []) there) ≡ passes test there
   there-asked None = refl
-  there-asked (Some tree) = or-none (test tree)
+  there-asked (Some tree) = refl
 
   last-asked : (operand : ℕ) (b : Bool) → any_at test whole (steps (cond b (operand ∷ []) [])) ≡ (b && passes test (tree_in (trees_of whole) operand))
-  last-asked operand true = found-asked test (tree_at (operand ∷ []) whole) [] ∙ there-asked (tree_in (trees_of whole) operand)
+  last-asked operand true = single-asked test (tree_at (operand ∷ []) whole) ∙ there-asked (tree_in (trees_of whole) operand)
   last-asked operand false = refl
 
   pub others-asked : (n operand : ℕ) → any_at test whole (others_by n (Some operand))
@@ -69,7 +74,7 @@ module _ (test : Tree → Bool) (whole : Tree) where
   level-asked : (n : ℕ) (path : Path) (found : Option Tree) → tree_in (trees_of whole) n ≡ found
       → list_any test (around (n ∷ path) whole) ≡ (passes test (option_and_then (tree_at path) found) || (any_at test whole (below n (beside path) found) || any_at test whole (others_of n whole)))
   level-asked n path found is =
-      found-asked test (tree_at (n ∷ path) whole) (filter_map (λ (way : Path). tree_at way whole) (beside (n ∷ path) whole))
+      found-asked test (λ (way : Path). tree_at way whole) (n ∷ path) (beside (n ∷ path) whole)
       ∙ (ap (λ b. passes test (tree_at (n ∷ path) whole) || b) (append-asked (below n (beside path) (tree_in (trees_of whole) n)) (others_of n whole))
       ∙ ap (λ (there : Option Tree). passes test (option_and_then (tree_at path) there) || (any_at test whole (below n (beside path) there) || any_at test whole (others_of n whole))) is)
 
@@ -84,7 +89,7 @@ module _ (test : Tree → Bool) (whole : Tree) where
         ∙ (sym (or-assoc (passes test (tree_at path part)) (any_at test whole (map (λ (way : Path). n ∷ way) (beside path part))) (any_at test whole (others_of n whole)))
         ∙ ap (λ b. b || any_at test whole (others_of n whole))
         (ap (λ b. passes test (tree_at path part) || b) (below-asked test n whole part (beside path part) some)
-        ∙ sym (found-asked test (tree_at path part) (filter_map (λ (way : Path). tree_at way part) (beside path part))))))
+        ∙ sym (found-asked test (λ (way : Path). tree_at way part) path (beside path part)))))
 
     pub around-other : any_at test whole (others_of n whole) ≡ true → list_any test (around way whole) ≡ true
     around-other other = by (tree_in (trees_of whole) n) refl

@@ -60,6 +60,14 @@ before-front types tree externals front count is counted =
     ∙ sym (ap (λ (whole : Tree). take_while (ends_before (spans_of whole).inner.first) (map (view_of_external types) externals)) (view-core types tree)
     ∙ while-map (view_of_external types) (ends_before (out-Core tree).inner.first) externals)
 
+-- so many external declarations stand before a tree of the code
+pub counted-before : (types : Table) (tree : Core) (externals : List CoreExternal)
+    → length (take_while (λ (one : CoreExternal). nat_le one.span.after (out-Core tree).inner.first) externals) ≡ length (before (view types tree) (map (view_of_external types) externals))
+counted-before types tree externals =
+    sym (ap length (ap (λ (whole : Tree). take_while (ends_before (spans_of whole).inner.first) (map (view_of_external types) externals)) (view-core types tree)
+    ∙ while-map (view_of_external types) (ends_before (out-Core tree).inner.first) externals)
+    ∙ length-map (take_while (λ (one : CoreExternal). nat_le one.span.after (out-Core tree).inner.first) externals) (view_of_external types))
+
 front-while : {A B : Type 0} (f : A → B) (test : B → Bool) (all : List A) → map f (take (length (take_while test (map f all))) all) ≡ take_while test (map f all)
 front-while f test all =
     ap (λ n. map f (take n all)) (ap length (while-map f test all) ∙ length-map (take_while (λ x. test (f x)) all) f)

@@ -1,6 +1,6 @@
 //! What the trees of a unit say of its objects.
 
-ghost use Rattle.std.specs.Prelude.{◌≡◌, map};
+ghost use Rattle.std.specs.Prelude.{◌≡◌, ◌==◌, map};
 ghost use Rattle.std.specs.List.{list_any};
 ghost use Rattle.dm_type.specs.Tables.{Table};
 ghost use Rattle.dm_tree.specs.Views.{view, view_of_external, view_of_form, view_of_unit};
@@ -67,8 +67,15 @@ fn has_parameter(form: &CoreExternalForm, object: u32) -> bool
             function: _,
             parameters,
             body: _,
-        } => parameters.items().iter().any(|number| *number == object),
+        } => is_among(parameters.items(), object),
     }
+}
+
+/// Whether a number is among others.
+fn is_among(numbers: &[u32], one: u32) -> bool
+    ensures { result ≡ list_any (λ number. number == one) numbers.now }
+{
+    numbers.iter().any(|number| *number == one)
 }
 
 /// Whether the answer is yes at one of some external declarations.
@@ -113,7 +120,8 @@ fn in_declarators(form: &CoreExternalForm, question: Question) -> bool
         CoreExternalForm::Declaration(locals) => match question {
             Question::Defines(object) => any_defines(locals.items(), object),
             Question::Initialises(object, token) => any_initialises(locals.items(), object, token),
-            _ => false,
+            Question::Acts | Question::Writes(_) | Question::Addresses(_) => false,
+            Question::Disturbs(_) | Question::DisturbsSince(_, _) => false,
         },
         CoreExternalForm::Function {
             function: _,

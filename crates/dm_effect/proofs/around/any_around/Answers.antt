@@ -1,5 +1,5 @@
 -- The answer is yes beside the next part, or round the rest of the way.
-use Rattle.std.proofs.Common.{◌≡◌, Bool, true, false, ◌||◌, List, [], ◌∷◌, length, absurd, ap, refl, sym, ◌∙◌, rules, arith}
+use Rattle.std.proofs.Common.{◌≡◌, Bool, true, false, ◌||◌, List, [], ◌∷◌, length, ap, refl, sym, ◌∙◌, rules, arith}
 use Rattle.std.specs.List.{list_any}
 use Rattle.dm_type.specs.Tables.{Table}
 use Rattle.dm_tree.specs.Paths.{Path}

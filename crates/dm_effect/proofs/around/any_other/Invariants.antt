@@ -7,9 +7,9 @@ use Rattle.dm_effect.specs.Doubts.{is_doubted_beside}
 use Rattle.dm_effect.specs.Operands.{others_by}
 use Rattle.dm_effect.proofs.around.any_other.Given as goal
 
-abbrev pub invariant-loop-operand : goal.invariant-loop-operand
-invariant-loop-operand l =
+abbrev pub invariant-loop-left : goal.invariant-loop-left
+invariant-loop-left l =
     (types : Table) → is_doubted_beside types l.doubt (view types l.tree) (others_by l.number l.left) ≡ is_doubted_beside types l.doubt (view types l.tree) (others_by l.number l.fn.last)
 
-abbrev pub decreases-loop-operand : goal.decreases-loop-operand
-decreases-loop-operand l = option_map_or suc l.left 0
+abbrev pub decreases-loop-left : goal.decreases-loop-left
+decreases-loop-left l = option_map_or suc l.left 0

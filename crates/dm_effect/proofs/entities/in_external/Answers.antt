@@ -50,7 +50,7 @@ returns-in-Declaration c types =
     let one = c.args.external.now in
     let none : constants types c.args.question one.constants ≡ false = ap (constants types c.args.question) (sym c.items.ensures) ∙ (sym (c.any_tree.ensures types) ∙ c.if-any_tree.false) in
     c.any_local.ensures types
-    ∙ (ap (λ (all : List Local). is_asked types c.args.question (expressions_of_locals (map (view_of_local types) all))) c.items-2.ensures
+    ∙ (ap (λ (all : List Local). is_asked types c.args.question (expressions_of_locals (map (view_of_local types) all))) c.items-in-Declaration.ensures
     ∙ sym (behind types c.args.question one (sym (c.in_declarators.ensures types) ∙ c.if-in_declarators.false) none ∙ ap (others types c.args.question) c.in-Declaration.is))
 
 pub returns-in-Function : goal.returns-in-Function
