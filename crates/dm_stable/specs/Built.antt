@@ -1,17 +1,27 @@
 -- What a rule for nodes says of the code.
+--     ruling_of answer      a node is settled by itself, if there is an answer, or it is as its parts are
 --     is_built_form rule kind form      a node of this form and type is built by the rule
---     are_all_built rule types cores      all of some trees are
-use Rattle.std.specs.Prelude.{Bool, List, map}
+--     are_built_all rule trees      all of some trees are; `are_there` if there are some
+use Rattle.std.specs.Prelude.{Bool, true, false, List, [], ◌∷◌, Option, Some, None}
 use Rattle.std.specs.List.{list_all}
 use Rattle.dm_type.specs.CTypes.{CType}
-use Rattle.dm_type.specs.Tables.{Table}
-use Rattle.dm_tree.specs.declared.tree.Core.{Core}
-use Rattle.dm_tree.specs.Trees.{Label, Trees, trees}
-use Rattle.dm_tree.specs.Views.{Opened, view}
-use Rattle.dm_effect.specs.Forms.{Ruling, ruled, are_built}
+use Rattle.dm_tree.specs.Trees.{Label, Tree, Trees, trees}
+use Rattle.dm_tree.specs.Views.{Opened}
+use Rattle.dm_effect.specs.Forms.{Ruling, settled, by_parts, ruled, all_there, are_built}
+
+abbrev pub ruling_of : Option Bool → Ruling
+ruling_of (Some passed) = settled passed
+ruling_of None = by_parts
 
 abbrev pub is_built_form : (Label → CType → Trees → Ruling) → CType → Opened → Bool
 is_built_form rule kind form = ruled (rule form.label kind (trees form.parts)) (are_built rule (trees form.parts))
 
-abbrev pub are_all_built : (Label → CType → Trees → Ruling) → Table → List Core → Bool
-are_all_built rule types cores = list_all (λ passed. passed) (are_built rule (trees (map (view types) cores)))
+abbrev pub are_built_all : (Label → CType → Trees → Ruling) → List Tree → Bool
+are_built_all rule all = list_all (λ passed. passed) (are_built rule (trees all))
+
+abbrev pub are_there : (Label → CType → Trees → Ruling) → List Tree → Bool
+are_there rule all = all_there (are_built rule (trees all))
+
+abbrev pub is_some_tree : List Tree → Bool
+is_some_tree [] = false
+is_some_tree (first ∷ rest) = true

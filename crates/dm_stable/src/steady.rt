@@ -1,14 +1,20 @@
 //! Trees that read only objects by their names.
 
-ghost use Rattle.std.specs.Prelude.{◌≡◌};
+ghost use Rattle.std.specs.Prelude.{◌≡◌, [], true, false, is_some, if◌then◌else◌, map, option_map, IfNone};
+ghost use Rattle.std.specs.Option.{option_copied};
 ghost use Rattle.dm_type.specs.CTypes.{CType};
 ghost use Rattle.dm_type.specs.Tables.{Table};
-ghost use Rattle.dm_tree.specs.Views.{opened_form, view};
-ghost use Rattle.dm_effect.specs.Forms.{is_built};
+ghost use Rattle.dm_tree.specs.Trees.{Trees, is_statement, more_trees, trees};
+ghost use Rattle.dm_tree.specs.Views.{if_there, opened_form, view};
+ghost use Rattle.dm_effect.specs.Entities.{object_first};
+ghost use Rattle.dm_effect.specs.Forms as forms;
+ghost use Rattle.dm_effect.specs.Forms.{by_parts, is_built};
+ghost use Rattle.dm_effect.specs.Parts.{parts_in};
 ghost use Rattle.dm_effect.specs.Stable.{steady_rule};
-ghost use Rattle.dm_stable.specs.Built.{are_all_built, is_built_form};
+ghost use Rattle.dm_stable.specs.Built.{are_built_all, are_there, is_some_tree, ruling_of};
 
 use crate::names::{Names, object_named, passes};
+use dm_effect::{Parts, parts_of};
 use dm_tree::{Core, Form};
 
 /// Whether a tree is built from integer constants, addresses of objects by their names, and reads of whole objects that pass. Goes
@@ -24,55 +30,101 @@ pub fn has_steady_leaves<N: Names>(tree: &Core, names: &N) -> bool
         }
         at = left.get();
     }
-    form_has_steady_leaves(&at.form, names)
-}
-
-/// The same of a form alone.
-#[cycle(steady)]
-fn form_has_steady_leaves<N: Names>(form: &Form, names: &N) -> bool
-    ensures { (types : Table) (kind : CType) → result ≡ is_built_form (steady_rule (N.test names.now)) kind (opened_form types form.now) }
-{
-    match form {
-        Form::Number(_) | Form::Enumerator(_) => true,
-        Form::Read(a) => passes(a.get(), names),
-        Form::Address(a) | Form::Decay(a) => {
-            object_named(a.get()).is_some() || has_steady_leaves(a.get(), names)
-        }
-        Form::Follow(a) | Form::Member(a, _) | Form::Unary(_, a) | Form::SizeofTree(a) => {
-            has_steady_leaves(a.get(), names)
-        }
-        Form::Count {
-            plus: _,
-            before: _,
-            object,
-        } => has_steady_leaves(object.get(), names),
-        Form::Binary(_, a, b)
-        | Form::Both(a, b)
-        | Form::Either(a, b)
-        | Form::Comma(a, b)
-        | Form::Store(a, b)
-        | Form::Update(_, _, a, b) => {
-            has_steady_leaves(a.get(), names) && has_steady_leaves(b.get(), names)
-        }
-        Form::Choose(a, b, c) => {
-            has_steady_leaves(a.get(), names)
-                && has_steady_leaves(b.get(), names)
-                && has_steady_leaves(c.get(), names)
-        }
-        Form::Convert(a, list) | Form::Call(a, list) => {
-            has_steady_leaves(a.get(), names) && all_have_steady_leaves(list.items(), names)
-        }
-        Form::SizeofKind(_, list) => {
-            !list.items().is_empty() && all_have_steady_leaves(list.items(), names)
-        }
-        _ => false,
+    match settled(&at.form, names) {
+        Some(passed) => passed,
+        None => parts_have_steady_leaves(parts_of(&at.form), names),
     }
 }
 
-/// The same of all trees of a list.
+/// What a node's form says of it, unless it is as its parts are.
+fn settled<N: Names>(form: &Form, names: &N) -> Option<bool>
+    ensures rule { (types : Table) (kind : CType) → let seen = opened_form types form.now in steady_rule (N.test names.now) seen.label kind (trees seen.parts) ≡ ruling_of result }
+    ensures expression { IfNone result ((types : Table) → is_statement (opened_form types form.now).label ≡ false) }
+{
+    match form {
+        Form::Number(_) | Form::Enumerator(_) => Some(true),
+        Form::Read(a) => Some(passes(a.get(), names)),
+        Form::Address(a) | Form::Decay(a) => settled_if_named(a.get()),
+        Form::Block(_)
+        | Form::Declare(_, _)
+        | Form::Full(_)
+        | Form::Empty
+        | Form::If(_, _, _)
+        | Form::Switch(_, _)
+        | Form::Case(_, _)
+        | Form::Default(_)
+        | Form::While(_, _)
+        | Form::Do(_, _)
+        | Form::For(_, _, _, _)
+        | Form::Break
+        | Form::Continue
+        | Form::Return(_) => Some(false),
+        _ => None,
+    }
+}
+
+/// The same of the address of what a tree designates.
+fn settled_if_named(tree: &Core) -> Option<bool>
+    ensures { (types : Table) (rest : Trees) → (if is_some (object_first (more_trees (view types tree.now) rest)) then forms.settled true else by_parts) ≡ ruling_of result }
+{
+    if object_named(tree).is_some() {
+        Some(true)
+    } else {
+        None
+    }
+}
+
+/// Whether there are parts, and all are built so.
+#[cycle(steady)]
+fn parts_have_steady_leaves<N: Names>(parts: Parts, names: &N) -> bool
+    requires { parts.entry.locals.now ≡ [] }
+    ensures { (types : Table) → result ≡ are_there (steady_rule (N.test names.now)) (parts_in types parts.entry) }
+{
+    if !has_parts(parts) {
+        return false;
+    }
+    if !part_has_steady_leaves(parts.first, names) {
+        return false;
+    }
+    if !part_has_steady_leaves(parts.second, names) {
+        return false;
+    }
+    if !part_has_steady_leaves(parts.third, names) {
+        return false;
+    }
+    if !part_has_steady_leaves(parts.fourth, names) {
+        return false;
+    }
+    all_have_steady_leaves(parts.items, names)
+}
+
+/// Whether there are parts.
+fn has_parts(parts: Parts) -> bool
+    requires { parts.entry.locals.now ≡ [] }
+    ensures { (types : Table) → result ≡ is_some_tree (parts_in types parts.entry) }
+{
+    parts.first.is_some()
+        || parts.second.is_some()
+        || parts.third.is_some()
+        || parts.fourth.is_some()
+        || !parts.items.is_empty()
+}
+
+/// Whether a part is built so, if it is there.
+#[cycle(steady)]
+fn part_has_steady_leaves<N: Names>(part: Option<&Core>, names: &N) -> bool
+    ensures { (types : Table) → result ≡ are_built_all (steady_rule (N.test names.now)) (if_there (option_map (view types) (option_copied part.entry))) }
+{
+    match part {
+        Some(tree) => has_steady_leaves(tree, names),
+        None => true,
+    }
+}
+
+/// Whether all trees of a list are built so.
 #[cycle(steady)]
 fn all_have_steady_leaves<N: Names>(trees: &[Core], names: &N) -> bool
-    ensures { (types : Table) → result ≡ are_all_built (steady_rule (N.test names.now)) types trees.now }
+    ensures { (types : Table) → result ≡ are_built_all (steady_rule (N.test names.now)) (map (view types) trees.now) }
 {
     let mut left = trees;
     while let Some((tree, rest)) = left.split_first() {

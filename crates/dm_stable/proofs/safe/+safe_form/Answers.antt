@@ -1,0 +1,44 @@
+-- Down the left operands of commas the form stays, as long as each right operand has it.
+use Rattle.std.proofs.Common.{◌≡◌, ℕ, Bool, true, false, IsTrue, length, ap, refl, sym, subst, ◌∙◌, rules}
+use Rattle.dm_type.specs.Tables.{Table, type_of}
+use Rattle.dm_tree.specs.declared.tree.Core as q
+use Rattle.dm_tree.specs.declared.tree.Core.{Core, out-Core}
+use Rattle.dm_tree.specs.TypeNumbers.{are_known}
+use Rattle.dm_tree.specs.Views.{view}
+use Rattle.dm_tree.proofs.ViewLemmas.{known-form, known-first-Comma, known-second-Comma, known-later-Choose}
+use Rattle.dm_effect.specs.Forms.{is_built}
+use Rattle.dm_effect.specs.Safe.{safe_rule}
+use Rattle.dm_stable.proofs.BuiltLemmas.{built-form, comma-fails, comma-left}
+use Rattle.dm_stable.proofs.safe.+safe_form.Goals as goal
+
+abbrev built : (ℕ → Bool) → Table → Core → Bool
+built test types core = is_built (safe_rule test) (view types core)
+
+pub has_safe_form-has_safe_form-requires : goal.has_safe_form-has_safe_form-requires
+has_safe_form-has_safe_form-requires g t c = (
+  search (rules, q.the_lemmas),
+  subst (λ x. IsTrue (are_known (length c.args.types.now.shapes) x)) (sym c.get.ensures) (known-second-Comma _ _ _ _ c.in-Comma.is (known-form _ _ c.loop-at.invariant.0)),
+)
+
+pub has_safe_form-returns-then-not-has_safe_form : goal.has_safe_form-returns-then-not-has_safe_form
+has_safe_form-returns-then-not-has_safe_form g t c =
+    let test = g.N.Names.test c.args.names.now in
+    let types = c.args.types.now in
+    let right : built test types c.in-Comma.right ≡ false = ap (built test types) (sym c.get.ensures) ∙ (sym c.has_safe_form.ensures ∙ c.if-not-has_safe_form.true) in
+    sym (sym c.loop-at.invariant.1 ∙ comma-fails (safe_rule test) types (λ kind parts. refl) c.loop-at.at.now c.in-Comma.left c.in-Comma.right c.in-Comma.is right)
+
+pub has_safe_form-loop-at-preserved : goal.has_safe_form-loop-at-preserved
+has_safe_form-loop-at-preserved g t c =
+    let test = g.N.Names.test c.args.names.now in
+    let types = c.args.types.now in
+    let right : built test types c.in-Comma.right ≡ true = ap (built test types) (sym c.get.ensures) ∙ (sym c.has_safe_form.ensures ∙ c.if-not-has_safe_form.false) in (
+      subst (λ x. IsTrue (are_known (length types.shapes) x)) (sym c.get-at.ensures) (known-first-Comma _ _ _ _ c.in-Comma.is (known-form _ _ c.loop-at.invariant.0)),
+      ap (built test types) c.get-at.ensures ∙ (sym (comma-left (safe_rule test) types (λ kind parts. refl) c.loop-at.at.now c.in-Comma.left c.in-Comma.right c.in-Comma.is right) ∙ c.loop-at.invariant.1),
+      search (rules, q.the_lemmas),
+    )
+
+pub has_safe_form-returns : goal.has_safe_form-returns
+has_safe_form-returns g t c =
+    let test = g.N.Names.test c.args.names.now in
+    let types = c.args.types.now in
+    c.form_is_safe.ensures ∙ (sym (built-form (safe_rule test) types c.loop-at.at.now) ∙ c.loop-at.invariant.1)
