@@ -15,6 +15,7 @@ use dm_type::Types;
 
 /// The automatic objects of scalar types of which no address is taken in a unit, and which neither what stands at a place of a full
 /// expression nor an operand that is unsequenced to it writes.
+#[derive(Drop)]
 pub(crate) struct Kept<'a> {
     pub unit: &'a CoreUnit,
     pub types: &'a Types,
@@ -27,9 +28,10 @@ impl<'a> Names for Kept<'a> {
     ghost test = { λ kept. stable.stays (view_of_unit kept.types.now kept.unit.now) (around kept.at.now (view kept.types.now kept.full.now)) };
 
     fn pass(&self, object: u32) -> bool {
-        is_scalar_local(self.unit, self.types, object)
-            && !is_addressed(self.unit, object)
-            && !is_written_around(self.full, self.at, object)
+        if !is_scalar_local(self.unit, self.types, object) {
+            return false;
+        }
+        !is_addressed(self.unit, object) && !is_written_around(self.full, self.at, object)
     }
 }
 

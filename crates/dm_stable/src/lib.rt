@@ -5,12 +5,12 @@
 mod kept;
 mod kinds;
 mod names;
-mod safe;
+mod safety;
 mod set;
-mod stable;
+mod stability;
 mod steady;
 
 pub use names::Names;
-pub use safe::{has_safe_form, safe};
-pub use stable::{is_stable, stable};
+pub use safety::{has_safe_form, safe};
+pub use stability::{is_stable, stable};
 pub use steady::has_steady_leaves;

@@ -14,6 +14,7 @@ use dm_tree::{Core, CoreUnit, Sort};
 use dm_type::Types;
 
 /// The objects of integer types that have a value where an argument stands.
+#[derive(Drop)]
 pub(crate) struct Set<'a> {
     pub unit: &'a CoreUnit,
     pub types: &'a Types,

@@ -77,7 +77,7 @@ fn settled_if_named(tree: &Core) -> Option<bool>
 /// Whether there are parts, and all are built so.
 #[cycle(steady)]
 fn parts_have_steady_leaves<N: Names>(parts: Parts, names: &N) -> bool
-    requires { parts.entry.locals.now ≡ [] }
+    requires { parts.locals.now ≡ [] }
     ensures { (types : Table) → result ≡ are_there (steady_rule (N.test names.now)) (parts_in types parts.entry) }
 {
     if !has_parts(parts) {
@@ -100,7 +100,7 @@ fn parts_have_steady_leaves<N: Names>(parts: Parts, names: &N) -> bool
 
 /// Whether there are parts.
 fn has_parts(parts: Parts) -> bool
-    requires { parts.entry.locals.now ≡ [] }
+    requires { parts.locals.now ≡ [] }
     ensures { (types : Table) → result ≡ is_some_tree (parts_in types parts.entry) }
 {
     parts.first.is_some()

@@ -65,17 +65,27 @@ fn form_is_safe<N: Names>(form: &Form, kind: TypeId, types: &Types, names: &N) -
         }
         Form::Unary(sign, a) => is_safe_sign(*sign) && has_safe_form(a.get(), types, names),
         Form::Binary(op, a, b) => {
-            is_safe_operator(types, *op, kind)
-                && has_safe_form(a.get(), types, names)
-                && has_safe_form(b.get(), types, names)
+            if !is_safe_operator(types, *op, kind) {
+                return false;
+            }
+            has_safe_form(a.get(), types, names) && has_safe_form(b.get(), types, names)
         }
-        Form::Both(a, b) | Form::Either(a, b) | Form::Comma(a, b) => {
+        Form::Both(a, b) => {
+            has_safe_form(a.get(), types, names) && has_safe_form(b.get(), types, names)
+        }
+        Form::Either(a, b) => {
+            has_safe_form(a.get(), types, names) && has_safe_form(b.get(), types, names)
+        }
+        Form::Comma(a, b) => {
             has_safe_form(a.get(), types, names) && has_safe_form(b.get(), types, names)
         }
         Form::Choose(a, b, c) => {
-            has_safe_form(a.get(), types, names)
-                && has_safe_form(b.get(), types, names)
-                && has_safe_form(c.get(), types, names)
+            let second = b.get();
+            let third = c.get();
+            if !has_safe_form(a.get(), types, names) {
+                return false;
+            }
+            has_safe_form(second, types, names) && has_safe_form(third, types, names)
         }
         _ => false,
     }

@@ -1,21 +1,26 @@
 -- Down the left operands of commas the form stays, as long as each right operand has it.
-use Rattle.std.proofs.Common.{◌≡◌, ℕ, Bool, true, false, IsTrue, length, ap, refl, sym, subst, ◌∙◌, rules}
+use Rattle.std.proofs.Common.{◌≡◌, ℕ, Bool, true, false, List, [], ◌∷◌, IsTrue, length, ap, refl, sym, subst, ◌∙◌, rules}
 use Rattle.dm_type.specs.Tables.{Table, type_of}
 use Rattle.dm_tree.specs.declared.tree.Core as q
 use Rattle.dm_tree.specs.declared.tree.Core.{Core, out-Core}
+use Rattle.dm_tree.specs.declared.tree.Form.TheVariants as form
+use Rattle.dm_tree.specs.Trees as label
+use Rattle.dm_tree.specs.Trees.{no_trees, more_trees}
 use Rattle.dm_tree.specs.TypeNumbers.{are_known}
-use Rattle.dm_tree.specs.Views.{view}
+use Rattle.dm_tree.specs.Views.{opened, opened_form, view}
 use Rattle.dm_tree.proofs.ViewLemmas.{known-form, known-first-Comma, known-second-Comma, known-later-Choose}
+use Rattle.dm_effect.specs.Entities.{is_named, object_first}
 use Rattle.dm_effect.specs.Forms.{is_built}
 use Rattle.dm_effect.specs.Safe.{safe_rule}
+use Rattle.dm_stable.specs.Built.{is_built_form}
 use Rattle.dm_stable.proofs.BuiltLemmas.{built-form, comma-fails, comma-left}
-use Rattle.dm_stable.proofs.safe.+safe_form.Goals as goal
+use Rattle.dm_stable.proofs.safety.+safe_form.Goals as goal
 
 abbrev built : (ℕ → Bool) → Table → Core → Bool
 built test types core = is_built (safe_rule test) (view types core)
 
 pub has_safe_form-has_safe_form-requires : goal.has_safe_form-has_safe_form-requires
-has_safe_form-has_safe_form-requires g t c = (
+has_safe_form-has_safe_form-requires g t c = λ κs within. (
   search (rules, q.the_lemmas),
   subst (λ x. IsTrue (are_known (length c.args.types.now.shapes) x)) (sym c.get.ensures) (known-second-Comma _ _ _ _ c.in-Comma.is (known-form _ _ c.loop-at.invariant.0)),
 )
@@ -42,3 +47,16 @@ has_safe_form-returns g t c =
     let test = g.N.Names.test c.args.names.now in
     let types = c.args.types.now in
     c.form_is_safe.ensures ∙ (sym (built-form (safe_rule test) types c.loop-at.at.now) ∙ c.loop-at.invariant.1)
+
+-- ---- a form
+
+opened-Read : (types : Table) (a : Core) → opened_form types (form.Read a) ≡ opened label.read (view types a ∷ [])
+opened-Read types a = search (rules, q.the_lemmas)
+
+pub form_is_safe-returns-in-Read : goal.form_is_safe-returns-in-Read
+form_is_safe-returns-in-Read g t c =
+    let test = g.N.Names.test c.args.names.now in
+    let types = c.args.types.now in
+    c.passes.ensures types no_trees
+    ∙ (ap (λ (core : Core). is_named test (object_first (more_trees (view types core) no_trees))) c.get.ensures
+    ∙ sym (ap (is_built_form (safe_rule test) (type_of types c.args.kind)) (ap (opened_form types) c.in-Read.is ∙ opened-Read types c.in-Read.a)))

@@ -5,7 +5,7 @@ use Rattle.dm_tree.specs.TypeNumbers.{are_known}
 use Rattle.dm_tree.specs.Views.{view}
 use Rattle.dm_effect.specs.Forms.{is_built}
 use Rattle.dm_effect.specs.Safe.{safe_rule}
-use Rattle.dm_stable.proofs.safe.+safe_form.Given as goal
+use Rattle.dm_stable.proofs.safety.+safe_form.Given as goal
 
 abbrev pub invariant-has_safe_form-loop-at : goal.invariant-has_safe_form-loop-at
 invariant-has_safe_form-loop-at g l =
