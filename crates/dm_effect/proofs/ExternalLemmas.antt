@@ -30,7 +30,7 @@ pub any-flat : {X Y : Type 0} (test : Y → Bool) (each : X → List Y) (all : L
 any-flat test each [] = refl
 any-flat test each (x ∷ all) = list_any-append test (each x) (flat_map each all) ∙ ap (λ b. list_any test (each x) || b) (any-flat test each all)
 
-trees-nodes : (all : List Tree) → flat_map all_in all ≡ all_in_trees (trees all)
+pub trees-nodes : (all : List Tree) → flat_map all_in all ≡ all_in_trees (trees all)
 trees-nodes [] = refl
 trees-nodes (first ∷ all) = ap (λ nodes. all_in first ++ nodes) (trees-nodes all)
 

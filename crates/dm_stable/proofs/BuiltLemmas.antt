@@ -3,10 +3,11 @@ use Rattle.std.proofs.Common.{◌≡◌, Bool, true, false, ◌&&◌, List, [], 
 use Rattle.dm_type.specs.CTypes.{CType}
 use Rattle.dm_type.specs.Tables.{Table, type_of}
 use Rattle.dm_tree.specs.declared.tree.Core.{Core, out-Core}
+use Rattle.dm_tree.specs.declared.tree.Form.{Form}
 use Rattle.dm_tree.specs.declared.tree.Form.TheVariants as form
 use Rattle.dm_tree.specs.Trees as label
 use Rattle.dm_tree.specs.Trees.{Label, Tree, Trees, trees}
-use Rattle.dm_tree.specs.Views.{opened_form, view}
+use Rattle.dm_tree.specs.Views.{opened, opened_form, view}
 use Rattle.dm_tree.proofs.ViewLemmas.{view-core, opened-Comma}
 use Rattle.dm_effect.specs.Forms.{Ruling, by_parts, ruled, is_built, are_built}
 use Rattle.dm_stable.specs.Built.{is_built_form, are_built_all, are_there, is_some_tree}
@@ -70,6 +71,23 @@ module _ (rule : Label → CType → Trees → Ruling) where
 
       pub comma-left : is_built rule (view types b) ≡ true → is_built rule (view types core) ≡ is_built rule (view types a)
       comma-left right = built-comma ∙ (ap (λ q. is_built rule (view types a) && (q && true)) right ∙ and_true (is_built rule (view types a)))
+
+    -- ---- forms with several parts
+
+    module _ (kind : CType) (f other : Form) (is : f ≡ other) (l : Label) where
+      pub two-built : (a b : Core) → opened_form types other ≡ opened l (view types a ∷ view types b ∷ []) → rule l kind (trees (view types a ∷ view types b ∷ [])) ≡ by_parts
+          → is_built rule (view types a) ≡ true → is_built_form rule kind (opened_form types f) ≡ is_built rule (view types b)
+      two-built a b opens parted left =
+          ap (is_built_form rule kind) (ap (opened_form types) is ∙ opens)
+          ∙ (ap (λ (ruling : Ruling). ruled ruling (is_built rule (view types a) ∷ is_built rule (view types b) ∷ [])) parted
+          ∙ (ap (λ p. p && (is_built rule (view types b) && true)) left ∙ and_true (is_built rule (view types b))))
+
+      pub three-built : (a b c : Core) → opened_form types other ≡ opened l (view types a ∷ view types b ∷ view types c ∷ []) → rule l kind (trees (view types a ∷ view types b ∷ view types c ∷ [])) ≡ by_parts
+          → is_built rule (view types a) ≡ true → is_built_form rule kind (opened_form types f) ≡ (is_built rule (view types b) && is_built rule (view types c))
+      three-built a b c opens parted first =
+          ap (is_built_form rule kind) (ap (opened_form types) is ∙ opens)
+          ∙ (ap (λ (ruling : Ruling). ruled ruling (is_built rule (view types a) ∷ is_built rule (view types b) ∷ is_built rule (view types c) ∷ [])) parted
+          ∙ (ap (λ p. p && (is_built rule (view types b) && (is_built rule (view types c) && true))) first ∙ ap (λ q. is_built rule (view types b) && q) (and_true (is_built rule (view types c)))))
 
     -- ---- lists
 

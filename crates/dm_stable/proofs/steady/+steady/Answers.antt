@@ -1,10 +1,11 @@
 -- Down the left operands of commas the tree is built as long as each right operand is; parts are built one after another.
-use Rattle.std.proofs.Common.{◌≡◌, ℕ, Bool, true, false, ◌&&◌, List, [], ◌++◌, map, Option, Bor, Some, None, ap, refl, sym, ◌∙◌, rules, arith}
+use Rattle.std.proofs.Common.{◌≡◌, ℕ, ◌<◌, Bool, true, false, ◌&&◌, List, [], ◌++◌, map, Option, Bor, Some, None, ap, refl, sym, ◌∙◌, rules, arith}
 use Rattle.std.specs.Option.{option_copied, option_map}
 use denote.Param.Weighed.{most}
-use Rattle.dm_type.specs.Tables.{Table, type_of}
+use Rattle.dm_type.specs.Tables.{Table, type_of, no_type}
 use Rattle.dm_tree.specs.declared.tree.Core as q
 use Rattle.dm_tree.specs.declared.tree.Core.{Core, out-Core, size-Core}
+use Rattle.dm_tree.specs.declared.tree.Form.{size-Form}
 use Rattle.dm_tree.specs.declared.tree.Local.{Local}
 use Rattle.dm_tree.specs.Trees.{Tree, trees}
 use Rattle.dm_tree.specs.Views.{expressions_of_locals, if_there, opened_form, view, view_of_local}
@@ -59,6 +60,17 @@ has_steady_leaves-returns-in-None g t c types =
     ∙ (ap (are_there (steady_rule test)) (c.parts_of.ensures.same types)
     ∙ sym (sym (c.loop-at.invariant.1 types)
     ∙ (built-form (steady_rule test) types at ∙ ap (λ (ruling : Ruling). ruled ruling parts) (c.in-None.ensures.rule types (type_of types (out-Core at).kind)))))
+
+pub has_steady_leaves-parts_have_steady_leaves-requires : goal.has_steady_leaves-parts_have_steady_leaves-requires
+has_steady_leaves-parts_have_steady_leaves-requires g t c = λ κs within.
+    let at = c.loop-at.at.now in
+    let deep : size-Form (out-Core at).form < size-Core at = search (rules, q.the_lemmas) in
+    let below = c.parts_of.ensures.below in
+    let shallow = c.loop-at.invariant.0 in
+    let whole = c.decreases in (
+      first_of (search (rules, q.the_lemmas), omega (arith, deep, shallow, whole, below.first, below.second, below.third, below.fourth, below.items, below.locals)),
+      (within, c.parts_of.ensures.expression no_type (c.in-None.ensures.expression no_type)),
+    )
 
 abbrev in_part : (ℕ → Bool) → Table → Option (Bor Core) → Bool
 in_part test types part = are_built_all (steady_rule test) (if_there (option_map (view types) (option_copied part)))
