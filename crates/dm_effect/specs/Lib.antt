@@ -1,6 +1,8 @@
+pub mod Doubts
 pub mod Effects
 pub mod Entities
 pub mod Examples
+pub mod Externals
 pub mod Forms
 pub mod Operands
 pub mod Parts
