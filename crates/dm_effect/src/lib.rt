@@ -17,6 +17,7 @@ pub use examples::{
     automatic_objects_are_stable, calls_of_earlier_functions_are_quiet, operands_come_first,
     set_integers_are_safe, unsequenced_operands_are_beside,
 };
+pub use parts::{Parts, parts_of};
 pub use quieting::{QuietFunctions, quiet};
 pub use sequencing::{Path, first};
 pub use unsequenced::beside;

@@ -15,7 +15,7 @@ use dm_tree::{Core, Form, Initial, Local};
 
 /// The trees directly below a node, in order: single ones, those of a list, and those in declarators.
 #[derive(Clone, Copy)]
-pub(crate) struct Parts<'a> {
+pub struct Parts<'a> {
     pub first: Option<&'a Core>,
     pub second: Option<&'a Core>,
     pub third: Option<&'a Core>,
@@ -33,7 +33,7 @@ pub(crate) enum Search<'a> {
 }
 
 /// Those of a form.
-pub(crate) fn parts_of(form: &Form) -> Parts<'_>
+pub fn parts_of(form: &Form) -> Parts<'_>
     ensures same { (types : Table) → parts_in types result ≡ (opened_form types form.now).parts }
     ensures below { AreBelow (size-Form form.now) result }
 {

@@ -1,0 +1,9 @@
+//! The places of expressions in a translation unit (ISO/IEC 9899:2011, 6.5, 6.8p4): by which tokens an expression is found, in which full
+//! expression it stands, and whether a constant is wanted there.
+#![tactic(auto)]
+
+mod examples;
+mod site;
+
+pub use examples::{expressions_stand_at_tokens, places_tell_what_stands_round_them};
+pub use site::{Above, Site};
