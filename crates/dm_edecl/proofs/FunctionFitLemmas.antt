@@ -9,7 +9,7 @@ use Rattle.dm_type.specs.Alike.{are_compatible}
 use Rattle.dm_type.specs.CTypes.{CType, CTypes, function as function_type, const, no_types, more_types, all_of, bare}
 use Rattle.dm_type.specs.TableLaws.{injected}
 use Rattle.dm_type.specs.Tables.{type_of, content_of}
-use Rattle.dm_scope.specs.Scopes.{Numbers}
+use Rattle.dm_name_map.specs.Numbers.{Numbers}
 use Rattle.dm_syn.specs.declared.declared.Declared.{Declared as Seen}
 use Rattle.dm_syn.specs.Spans.{declarator_span}
 use Rattle.dm_syn.specs.Grammar.{IsSpecifiers, IsDeclarator, IsDirect, AreParameters}

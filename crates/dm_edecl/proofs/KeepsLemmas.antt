@@ -4,7 +4,8 @@ use Rattle.std.proofs.Common.{get_or, sym, ap, ◌∙◌, subst, arith, inl, inr
 use Rattle.std.proofs.lemmas.List.Elements.{All-nil}
 use Rattle.std.proofs.lemmas.Option.{slice_get_within, slice_get-get_or}
 use Rattle.dm_type.specs.TableLaws.{injected}
-use Rattle.dm_scope.specs.Scopes.{Numbers, Scopes}
+use Rattle.dm_scope.specs.Scopes.{Scopes}
+use Rattle.dm_name_map.specs.Numbers.{Numbers}
 use Rattle.dm_tree.specs.Composites.{covers}
 use Rattle.dm_tree.specs.Scenes.{Scene, IsConstant}
 use Rattle.dm_tree.specs.Trees.{Tree}

@@ -9,7 +9,7 @@ use Rattle.dm_type.specs.CTypes.{CType}
 use Rattle.dm_syn.specs.Spans.{declarator_span}
 use Rattle.dm_syn.specs.Trees.{Declarator, Stmt, External}
 use Rattle.dm_syn.specs.Trees as tree
-use Rattle.dm_scope.specs.Scopes.{Numbers}
+use Rattle.dm_name_map.specs.Numbers.{Numbers}
 use Rattle.dm_tree.specs.Typing.{defined_by, defined_functions}
 use Rattle.dm_tree.specs.Units.{declares, defines_function, TypedUnit}
 use Rattle.dm_tree.specs.Trees.{Tree}

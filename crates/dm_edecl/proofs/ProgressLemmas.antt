@@ -4,7 +4,7 @@ use Rattle.std.specs.FinMap as map
 use Rattle.dm_token.specs.declared.place.Span.{Span}
 use Rattle.dm_int.specs.declared.Kind.{Kind}
 use Rattle.std.specs.Prelude.{ℤ}
-use Rattle.dm_scope.specs.Scopes.{Numbers}
+use Rattle.dm_name_map.specs.Numbers.{Numbers}
 use Rattle.dm_type.specs.CTypes.{CType}
 use Rattle.dm_syn.specs.Spans.{declarator_span}
 use Rattle.dm_syn.specs.Trees.{Declarator, Expr, ForStart, Initialiser, Item, Stmt, BlockItems, BlockItem, SwitchItems, SwitchItem}

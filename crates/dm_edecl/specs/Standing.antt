@@ -8,7 +8,7 @@
 use Rattle.std.specs.Prelude.{ℕ, Bool, true, false, List, ◌∷◌, ◌++◌, length, drop}
 use Rattle.std.specs.FinMap as map
 use Rattle.dm_type.specs.CTypes.{CType}
-use Rattle.dm_scope.specs.Scopes.{Numbers}
+use Rattle.dm_name_map.specs.Numbers.{Numbers}
 use Rattle.dm_tree.specs.Trees.{Tree}
 use Rattle.dm_typing.specs.Known.{Known, Outcome, given, broken}
 

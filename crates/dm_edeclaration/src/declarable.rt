@@ -15,11 +15,10 @@ ghost use Rattle.dm_edeclaration.specs.Steps.{specified_over, rule_broken, Permi
 
 use crate::mains::may_be_main;
 use crate::specified::Specification;
-use dm_edeclarator::declarators::declarator_name;
 use dm_estanding::Links;
 use dm_estanding::redeclaring::{is_object, kind_seen, may_be_declared};
 use dm_estanding::storage::{Storage, is_file_scope};
-use dm_syn::Declarator;
+use dm_syn::{Declarator, declarator_name};
 use dm_token::Stop;
 use dm_tree::{Declared, Sort};
 use dm_type::TypeId;

@@ -3,9 +3,7 @@
 ghost use Rattle.std.specs.Prelude.{◌≡◌, ◌<◌, ◌+◌, false, ◌&&◌, is_some, List, ◌∷◌, ◌++◌, map, None, Some, IfOk, IfSome, option_and_then};
 ghost use Rattle.dm_type.specs.declared.shape.Shape.{Shape as OneShape};
 ghost use Rattle.dm_type.specs.Tables.{Table, IsId, IsLength, type_of};
-ghost use Rattle.dm_syn.specs.Heights as heights;
 ghost use Rattle.dm_scope.specs.Scopes.{is_declared};
-ghost use Rattle.dm_syn.specs.Scopes as syntax_scopes;
 ghost use Rattle.dm_syn.specs.Sources.{spelling_at};
 ghost use Rattle.dm_syn.specs.Views as syntax;
 ghost use Rattle.dm_typing.specs.Conversions as conversions;
@@ -18,7 +16,7 @@ ghost use Rattle.dm_typing.specs.Views.{Begins, type_over, view_over, known_over
 use crate::places::add_constant;
 use crate::specifiers::with_const_said;
 use dm_enames::tags::declare;
-use dm_syn::{Declarator, Direct, Parameter};
+use dm_syn::{Parameter, is_nothing};
 use dm_token::{List, MOST_TYPE_BYTES, Memory, Stop};
 use dm_tree::{Core, Declared, Linkage, Sort, constant};
 use dm_type::{Shape, TypeId};
@@ -75,41 +73,13 @@ pub fn direct_at(first: u32, pointers: &[u32]) -> Result<u32, Memory>
     Ok(at)
 }
 
-/// The identifier that a declarator declares.
-#[cycle(declared_names)]
-pub fn declarator_name(declarator: &Declarator) -> Option<u32>
-    ensures { result ≡ syntax_scopes.declarator_name (syntax.declarator declarator.now) }
-{
-    direct_name(&declarator.direct)
-}
-
-#[cycle(declared_names)]
-fn direct_name(direct: &Direct) -> Option<u32>
-    ensures { result ≡ syntax_scopes.direct_name (syntax.direct direct.now) }
-{
-    match direct {
-        Direct::Absent => None,
-        Direct::Name(at) => Some(*at),
-        Direct::Paren(inner) => declarator_name(inner.get()),
-        Direct::Array(inner, _) => direct_name(inner.get()),
-        Direct::Function(inner, _) => direct_name(inner.get()),
-    }
-}
-
-/// Nothing stands behind the pointers of a declarator.
-fn is_absent(direct: &Direct) -> bool
-    ensures { result ≡ heights.is_nothing (syntax.direct direct.now) }
-{
-    matches!(direct, Direct::Absent)
-}
-
 /// Where a fault of a parameter's type is: its declarator's first token, or where there is none, its own.
 pub fn parameter_at(parameter: &Parameter) -> u32
     ensures { result ≡ stages.parameter_at (syntax.parameter parameter.now) }
 {
     let declarator = &parameter.declarator;
     match declarator.pointers.items() {
-        [] if is_absent(&declarator.direct) => parameter.span.first,
+        [] if is_nothing(&declarator.direct) => parameter.span.first,
         _ => declarator.span.first,
     }
 }

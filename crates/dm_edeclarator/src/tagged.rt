@@ -11,11 +11,10 @@ ghost use Rattle.dm_edeclarator.specs.Steps as stages;
 ghost use Rattle.dm_edeclarator.specs.Steps.{said_over, SaidFits, fields_over, FieldsFit, Follows};
 ghost use Rattle.dm_typing.specs.Views.{Begins, type_over, known_over, source_of, setting_of, Gives, Grows};
 
-use crate::declarators::declarator_name;
 use crate::specifiers::Said;
 use dm_enames::tags::{enum_named, struct_named, tag_declared, tag_inside, tag_seen, type_meant};
 use dm_int::Kind;
-use dm_syn::Declarator;
+use dm_syn::{Declarator, declarator_name};
 use dm_token::{Memory, Span, Stop, Text};
 use dm_type::{Member, Members, Shape, TypeId};
 use dm_typing::looks::is_complete;

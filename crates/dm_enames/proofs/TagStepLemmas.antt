@@ -17,7 +17,8 @@ use Rattle.dm_type.specs.CTypes.{CType, void, integer, pointer, array, struct, f
 use Rattle.dm_type.specs.Layouts.{layout_of, size_of, times, if_fits, padded, nothing, joined, followed_by, struct_layout, contained}
 use Rattle.dm_type.specs.TableLaws.{injected, length-types_of}
 use Rattle.dm_type.specs.Tables.{Table, types_of, type_of, IsId, AreDistinct, members_of, tag_of, with_content}
-use Rattle.dm_scope.specs.Scopes.{Numbers, Scopes, number_of, declared, or_else}
+use Rattle.dm_scope.specs.Scopes.{Scopes, number_of, declared, or_else}
+use Rattle.dm_name_map.specs.Numbers.{Numbers}
 use Rattle.dm_token.specs.declared.place.Place.{Place}
 use Rattle.dm_token.specs.declared.place.Span.{Span}
 use Rattle.dm_tree.specs.declared.unit.Declared.{Declared}

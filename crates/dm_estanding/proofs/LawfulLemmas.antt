@@ -8,7 +8,8 @@ use Rattle.dm_type.specs.declared.shape.Shape.{Shape}
 use Rattle.dm_type.specs.Alike.{are_compatible}
 use Rattle.dm_type.specs.CTypes.{CType}
 use Rattle.dm_type.specs.TableLaws.{injected}
-use Rattle.dm_scope.specs.Scopes.{Numbers, Scopes, or_else, number_of, is_declared, declared as declared_in}
+use Rattle.dm_scope.specs.Scopes.{Scopes, or_else, number_of, is_declared, declared as declared_in}
+use Rattle.dm_name_map.specs.Numbers.{Numbers}
 use Rattle.dm_tree.specs.declared.unit.Declared.{Declared}
 use Rattle.dm_tree.specs.Composites.{covers}
 use Rattle.dm_tree.specs.Initialisers.{is_object, is_function_sort}

@@ -13,7 +13,8 @@ use Rattle.dm_type.specs.declared.shape.Shape.{Shape}
 use Rattle.dm_type.specs.declared.shape.Struct.{Struct as StructEntry}
 use Rattle.dm_type.specs.TableLaws.{injected}
 use Rattle.dm_type.specs.Tables.{Table}
-use Rattle.dm_scope.specs.Scopes.{Numbers, Scopes, or_else, number_of, is_declared, declared}
+use Rattle.dm_scope.specs.Scopes.{Scopes, or_else, number_of, is_declared, declared}
+use Rattle.dm_name_map.specs.Numbers.{Numbers}
 use Rattle.dm_tree.specs.declared.tree.Core.{Core}
 use Rattle.dm_tree.specs.declared.unit.Declared.{Declared}
 use Rattle.dm_tree.specs.Units.{Declaration}

@@ -10,7 +10,7 @@ use Rattle.dm_token.specs.declared.stop.Stop.{Stop}
 use Rattle.dm_token.specs.declared.stop.Stop.TheVariants as stop
 use Rattle.dm_type.specs.declared.shape.Shape.{Shape}
 use Rattle.dm_type.specs.Tables.{Table}
-use Rattle.dm_scope.specs.Scopes.{Numbers}
+use Rattle.dm_name_map.specs.Numbers.{Numbers}
 use Rattle.dm_syn.specs.Sources.{Source}
 use Rattle.dm_tree.specs.declared.tree.Core.{Core}
 use Rattle.dm_tree.specs.Trees.{Tree}

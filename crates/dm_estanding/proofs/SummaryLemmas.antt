@@ -10,7 +10,8 @@ use Rattle.dm_type.specs.declared.shape.Shape.{Shape}
 use Rattle.dm_type.specs.Alike.{are_compatible, composite}
 use Rattle.dm_type.specs.CTypes.{CType}
 use Rattle.dm_type.specs.Tables.{Table, type_of, IsId}
-use Rattle.dm_scope.specs.Scopes.{Numbers, or_else, number_of, is_declared, declared as declared_in}
+use Rattle.dm_scope.specs.Scopes.{or_else, number_of, is_declared, declared as declared_in}
+use Rattle.dm_name_map.specs.Numbers.{Numbers}
 use Rattle.dm_tree.specs.Units.{Declaration}
 use Rattle.dm_typing.specs.Views.{Begins, type_over}
 use Rattle.dm_typing.proofs.CoverLemmas.{covered-compatible}

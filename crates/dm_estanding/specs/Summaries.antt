@@ -12,7 +12,8 @@ use Rattle.std.specs.Prelude.{◌≡◌, ℕ, ◌<◌, Bool, true, ◌||◌, Lis
 use Rattle.dm_type.specs.declared.shape.Shape.{Shape}
 use Rattle.dm_type.specs.Alike.{are_compatible, composite}
 use Rattle.dm_type.specs.CTypes.{CType}
-use Rattle.dm_scope.specs.Scopes.{Numbers, number_of}
+use Rattle.dm_scope.specs.Scopes.{number_of}
+use Rattle.dm_name_map.specs.Numbers.{Numbers}
 use Rattle.dm_tree.specs.declared.unit.Declared.{Declared}
 use Rattle.dm_tree.specs.Typing.{has_linkage}
 use Rattle.dm_tree.specs.Units.{Declaration}

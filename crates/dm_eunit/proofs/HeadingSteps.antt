@@ -8,7 +8,8 @@ use Rattle.dm_token.specs.declared.stop.Stop.{Stop}
 use Rattle.dm_type.specs.declared.shape.Shape.{Shape}
 use Rattle.dm_type.specs.CTypes.{CType}
 use Rattle.dm_type.specs.Tables.{Table, IsId}
-use Rattle.dm_scope.specs.Scopes.{Numbers, number_of}
+use Rattle.dm_scope.specs.Scopes.{number_of}
+use Rattle.dm_name_map.specs.Numbers.{Numbers}
 use Rattle.dm_syn.specs.Sources.{Source}
 use Rattle.dm_syn.specs.Trees.{Declarator, Parameters}
 use Rattle.dm_tree.specs.Units.{Declaration}

@@ -7,7 +7,8 @@ use Rattle.std.proofs.Common.{sym, ap, ap₂, ◌∙◌, subst, cond, drop-cons,
 use Rattle.std.proofs.lemmas.Cmp.{nat_list_cmp_total}
 use Rattle.std.proofs.lemmas.Slice.Eq.{bytes_eq-Decides}
 use Rattle.dm_token.specs.declared.token.CToken.{CToken}
-use Rattle.dm_scope.specs.Scopes.{Numbers, Scopes, or_else, number_of, is_declared, declared}
+use Rattle.dm_scope.specs.Scopes.{Scopes, or_else, number_of, is_declared, declared}
+use Rattle.dm_name_map.specs.Numbers.{Numbers}
 use Rattle.dm_syn.specs.Sources.{Source, spelling_of_token, spelling_at}
 use Rattle.dm_eunit.specs.Lacking.{IsSet, has, is_spelled}
 

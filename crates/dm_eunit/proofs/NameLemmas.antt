@@ -6,7 +6,8 @@ use Rattle.std.specs.Ordering.{nat_cmp}
 use Rattle.std.proofs.Common.{sym, ap, ◌∙◌, append_assoc, drop-cons, add-one, get_or}
 use Rattle.std.proofs.lemmas.List.{drop-map}
 use Rattle.dm_type.specs.Tables.{Table}
-use Rattle.dm_scope.specs.Scopes.{Numbers, Scopes, number_of, is_declared, or_else}
+use Rattle.dm_scope.specs.Scopes.{Scopes, number_of, is_declared, or_else}
+use Rattle.dm_name_map.specs.Numbers.{Numbers}
 use Rattle.dm_tree.specs.declared.unit.Declared.{Declared}
 use Rattle.dm_tree.specs.Units.{Declaration}
 use Rattle.dm_tree.specs.Views.{view_of_declared, entries_of}

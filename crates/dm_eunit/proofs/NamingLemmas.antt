@@ -8,7 +8,7 @@ use Rattle.std.proofs.Common.{sym, ap, ◌∙◌, subst, cond, arith, ⊎_elim, 
 use Rattle.std.proofs.lemmas.Cmp.{nat_list_cmp_total}
 use Rattle.std.proofs.lemmas.Slice.Eq.{bytes_eq-Decides}
 use Rattle.dm_type.specs.TableLaws.{injected}
-use Rattle.dm_scope.specs.Scopes.{Numbers}
+use Rattle.dm_name_map.specs.Numbers.{Numbers}
 use Rattle.dm_syn.specs.Sources.{Source}
 use Rattle.dm_syn.specs.Trees.{Parameters, Parameter}
 use Rattle.dm_syn.specs.Trees as tree

@@ -58,7 +58,8 @@ use Rattle.dm_estanding.specs.Summaries.{entry_over, kind_of_whole, Summarises, 
 use Rattle.dm_estanding.specs.Wholes.{settled}
 use Rattle.dm_estanding.proofs.LawfulLemmas.{beginning-lawful}
 use Rattle.dm_edeclaration.proofs.StepLemmas.{local-later}
-use Rattle.dm_eunit.specs.Elaborated.{typed_by, ElaboratesBy, Elaborates, IsNumberedUnit}
+use Rattle.dm_reading.specs.Elaborated.{ElaboratesBy, Elaborates, IsNumberedUnit}
+use Rattle.dm_eunit.specs.Elaborated.{typed_by}
 use Rattle.dm_eunit.specs.Functions.{external_over, ExternalFits, externals_over, ExternalsFit}
 use Rattle.dm_eunit.proofs.SameLemmas.{externals-same}
 

@@ -10,7 +10,7 @@ use Rattle.dm_token.specs.declared.place.Span.{Span}
 use Rattle.dm_type.specs.declared.shape.Shape.{Shape}
 use Rattle.dm_type.specs.CTypes.{CType, function as function_type, bare}
 use Rattle.dm_type.specs.Tables.{Table}
-use Rattle.dm_scope.specs.Scopes.{Numbers}
+use Rattle.dm_name_map.specs.Numbers.{Numbers}
 use Rattle.dm_syn.specs.Spans.{declarator_span}
 use Rattle.dm_syn.specs.Trees.{Declarator, Stmt, BlockItems}
 use Rattle.dm_tree.specs.Trees.{Tree}

@@ -4,7 +4,8 @@
 --     is_spelled tokens name      a token has this spelling
 use Rattle.std.specs.Prelude.{◌≡◌, ℕ, Bool, false, ◌||◌, List, [], ◌∷◌, is_some, bytes_eq}
 use Rattle.dm_token.specs.declared.token.CToken.{CToken}
-use Rattle.dm_scope.specs.Scopes.{Numbers, Scopes, number_of}
+use Rattle.dm_scope.specs.Scopes.{Scopes, number_of}
+use Rattle.dm_name_map.specs.Numbers.{Numbers}
 
 abbrev pub IsSet : Scopes → Type 0
 IsSet names = (scope : Numbers) × (names ≡ scope ∷ [])

@@ -4,7 +4,7 @@
 --     headed outcome      what such a declarator says, as far as the code keeps it
 use Rattle.std.specs.Prelude.{ℕ, Bool, true, ◌&&◌, if◌then◌else◌, List, [], ◌∷◌, ◌++◌, Option, None}
 use Rattle.dm_type.specs.CTypes.{CType}
-use Rattle.dm_scope.specs.Scopes.{Numbers}
+use Rattle.dm_name_map.specs.Numbers.{Numbers}
 use Rattle.dm_syn.specs.Statements.{own_parameters, own_in_direct}
 use Rattle.dm_syn.specs.Trees.{Declarator, Direct, Parameters, Parameter}
 use Rattle.dm_syn.specs.Trees as tree

@@ -3,7 +3,8 @@
 ghost use Rattle.std.specs.Prelude.{◌≡◌, ◌<◌, true, false, ◌∷◌, List as Sequence, Some, slice_get, length, IfOk, OnOk, ℕ};
 ghost use Rattle.std.specs.FinMap as finite;
 ghost use Rattle.dm_type.specs.declared.shape.Shape.{Shape as OneShape};
-ghost use Rattle.dm_scope.specs.Scopes.{Numbers, Scopes as Seen};
+ghost use Rattle.dm_scope.specs.Scopes.{Scopes as Seen};
+ghost use Rattle.dm_name_map.specs.Numbers.{Numbers};
 ghost use Rattle.dm_tree.specs.Typing as typed;
 ghost use Rattle.dm_tree.specs.Units.{Declaration};
 ghost use Rattle.dm_edeclarator.specs.Steps.{SameBesideScopes};

@@ -15,7 +15,8 @@ ghost use Rattle.dm_edecl.specs.Standing.{Linked};
 ghost use Rattle.dm_edecl.specs.Units as units;
 ghost use Rattle.dm_eexpr.specs.Alone.{source_alone, RefusesWithin};
 ghost use Rattle.dm_estanding.specs.Summaries.{entry_over, Summarises, StandsFor};
-ghost use Rattle.dm_eunit.specs.Elaborated.{typed_by, ElaboratesBy, Elaborates, IsNumberedUnit};
+ghost use Rattle.dm_reading.specs.Elaborated.{ElaboratesBy, Elaborates, IsNumberedUnit};
+ghost use Rattle.dm_eunit.specs.Elaborated.{typed_by};
 ghost use Rattle.dm_eunit.specs.Functions.{ExternalsFit};
 
 use crate::externals::typed_externals;

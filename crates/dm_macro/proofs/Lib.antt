@@ -2,7 +2,6 @@ pub mod BodyLemmas
 pub mod FormLemmas
 pub mod HashLemmas
 pub mod Listings
-pub mod MapLemmas
 pub mod NameSetLemmas
 pub mod NamedLemmas
 pub mod RoleLemmas

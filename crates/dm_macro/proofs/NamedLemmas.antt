@@ -6,10 +6,15 @@ use Rattle.std.specs.Ordering.{nat_cmp}
 use Rattle.std.specs.Cmp.Lexicographic.{slice_cmp, texts_ties}
 use Rattle.std.specs.FinMap as map
 use Rattle.std.proofs.lemmas.Cmp.{nat_list_cmp_total}
-use Rattle.dm_macro.specs.Numbers.{Numbers}
+use Rattle.dm_name_map.specs.Numbers.{Numbers}
 use Rattle.dm_macro.specs.Roles.{HavePositions}
 use Rattle.dm_macro.proofs.BodyLemmas.{position_from-append, position_from-front}
 use Rattle.dm_macro.proofs.SameLemmas.{bytes_equal}
+
+-- where nothing is found
+pub not_some : {A : Type 0} (found : Option A) → is_some found ≡ false → found ≡ None
+not_some None is = refl
+not_some (Some a) is = cc
 
 pub positions-nothing : (positions : Numbers) → positions ≡ map.empty → HavePositions [] positions
 positions-nothing positions empty = λ name. ap (λ (m : Numbers). map.get m name) empty ∙ map.get-empty {X = ℕ} (slice_cmp nat_cmp) name

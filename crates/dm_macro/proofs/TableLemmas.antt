@@ -4,9 +4,9 @@ use Rattle.std.specs.Ordering.{nat_cmp, eq_by_cmp}
 use Rattle.std.specs.Cmp.Lexicographic.{slice_cmp, texts_ties}
 use Rattle.std.specs.FinMap as map
 use Rattle.std.proofs.lemmas.Cmp.{nat_list_cmp_total}
+use Rattle.dm_name_map.specs.Numbers.{Numbers}
 use Rattle.dm_token.specs.declared.expansion.Definition.{Definition}
-use Rattle.dm_macro.specs.Numbers.{Numbers, with_name}
-use Rattle.dm_macro.specs.Tables.{table_of, IsSound}
+use Rattle.dm_macro.specs.Tables.{table_of, with_name, IsSound}
 use Rattle.dm_macro.proofs.SameLemmas.{bytes_equal}
 
 -- the table before anything is read

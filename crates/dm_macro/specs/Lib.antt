@@ -1,7 +1,6 @@
 pub mod Signs
 pub mod Forms
 pub mod NameSets
-pub mod Numbers
 pub mod ParameterLists
 pub mod Bodies
 pub mod Roles

@@ -2,12 +2,12 @@
 use Rattle.std.specs.Prelude.{◌≡◌, ◌<◌, ◌+◌, ℕ, List, [], ◌∷◌, take, drop, length, slice_index_or, bytes_eq, Option, None, Some, if◌then◌else◌}
 use Rattle.std.specs.List.{list_any, position_from}
 use Rattle.std.specs.FinMap as map
+use Rattle.dm_name_map.specs.Numbers.{Numbers}
 use Rattle.dm_token.specs.declared.token.PpToken.{PpToken}
 use Rattle.dm_token.specs.declared.expansion.Definition.{Definition}
 use Rattle.dm_macro.specs.declared.role.Role.{Role}
 use Rattle.dm_macro.specs.declared.role.Role.TheVariants.{Plain, Hash, Beside, Whole, Paste}
 use Rattle.dm_macro.specs.declared.role.Roles as code_roles
-use Rattle.dm_macro.specs.Numbers.{Numbers}
 use Rattle.dm_macro.specs.Signs.{is_hash_hash}
 use Rattle.dm_macro.specs.Bodies.{Part, plain, hash, beside, whole, paste, parameters_of, parameter_of, is_at, places_of, part_of}
 

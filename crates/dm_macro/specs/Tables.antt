@@ -5,9 +5,10 @@
 --     undefined table name      the table after the name is undefined
 --     Defines before line origin plain after      what a `define` directive does
 --     Refuses before line origin plain stop      and why it is refused
-use Rattle.std.specs.Prelude.{refl, ◌<◌, ◌≡◌, ℕ, Bool, List, [], ◌∷◌, ◌++◌, length, slice_get, Some, ◌⊎◌, Option, None, Some, IfSome, IsSomeAnd, option_and_then}
+use Rattle.std.specs.Prelude.{refl, ◌<◌, ◌≡◌, ℕ, Bool, List, [], ◌∷◌, ◌++◌, length, slice_get, Some, ◌⊎◌, Option, None, Some, IfSome, IsSomeAnd, option_and_then, if◌then◌else◌}
 use Rattle.std.specs.Coded.{Coded, code_by, coded×, coded_ℕ, coded_list}
 use Rattle.std.specs.FinMap as map
+use Rattle.dm_name_map.specs.Numbers.{Numbers}
 use Rattle.dm_token.specs.Refusals as refusals
 use Rattle.dm_token.specs.declared.stop.Stop.{Stop}
 use Rattle.dm_token.specs.declared.stop.Stop.TheVariants.{Memory}
@@ -15,7 +16,6 @@ use Rattle.dm_token.specs.declared.token.PpToken.{PpToken}
 use Rattle.dm_token.specs.declared.expansion.Origin.{Origin}
 use Rattle.dm_token.specs.declared.expansion.Definition.{Definition}
 use Rattle.dm_token.specs.contracts.expansion.Definition.{the_row}
-use Rattle.dm_macro.specs.Numbers.{Numbers, with_name}
 use Rattle.dm_macro.specs.Forms.{Gives, bare_hash, AreSame, refused}
 
 -- every definition read so far, in order, and for each name that is defined now the number of its definition, which is
@@ -47,6 +47,10 @@ abbrev pub IsSound : Table → Type 0
 IsSound table =
     (name : List ℕ) (number : ℕ) → number_of table name ≡ Some number
     → (number < length table.read) × IsSomeAnd (slice_get table.read number) (λ definition. definition.name ≡ name)
+
+-- the map after a name is given a number, which it takes only where it has none
+abbrev pub with_name : Numbers → List ℕ → ℕ → Numbers
+with_name names name number = if map.contains_key names name then names else map.insert names name number
 
 -- The table after a definition: it is the last one read, and its name has it unless the name is already defined.
 abbrev pub recorded : Table → Definition → Table

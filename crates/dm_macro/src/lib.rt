@@ -4,7 +4,6 @@
 mod body;
 mod form;
 mod hash;
-mod name_map;
 mod name_set;
 mod named;
 mod parameters;

@@ -6,8 +6,8 @@ ghost use Rattle.dm_macro.specs.Bodies as bodies;
 ghost use Rattle.dm_macro.specs.Bodies.{named_parameters};
 ghost use Rattle.dm_macro.specs.Roles.{HavePositions};
 
-use crate::name_map::NameMap;
 use crate::sign::{is_identifier, is_variable_arguments};
+use dm_name_map::NameMap;
 use dm_token::{Definition, Memory, PpToken, Text};
 use std::alloc::Global;
 use std::marker::Model;

@@ -4,7 +4,6 @@ pub mod Completeness
 pub mod Declarators
 pub mod Exactness
 pub mod Expressions
-pub mod MapLemmas
 pub mod PartLemmas
 pub mod TypeViewLemmas
 pub mod TypeNodeLemmas

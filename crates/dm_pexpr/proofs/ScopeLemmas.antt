@@ -5,6 +5,8 @@ use Rattle.std.specs.Cmp.Lexicographic.{slice_cmp}
 use Rattle.std.specs.Ordering.{nat_cmp, eq_by_cmp}
 use Rattle.std.specs.FinMap as finite
 use Rattle.std.proofs.lemmas.Cmp.{nat_list_cmp_total}
+use Rattle.std.proofs.lemmas.Slice.Eq.{bytes_eq-Decides}
+use Rattle.dm_name_map.proofs.MapLemmas.{same, tied}
 use Rattle.dm_syn.specs.declared.declared.Declared.{Declared}
 use Rattle.dm_syn.specs.declared.symbol.Symbol.{Symbol}
 use Rattle.dm_syn.specs.declared.symbol.Symbol.TheVariants as symbol
@@ -14,7 +16,6 @@ use Rattle.std.proofs.Math.Seq.{drop-nil}
 use Rattle.dm_pexpr.specs.declared.scope.Entry.{Entry}
 use Rattle.dm_pexpr.specs.NameMaps.{NameMap, entry_of, with_entry}
 use Rattle.dm_pexpr.specs.Scoping.{latest_of, known_by, known_with, befores, all_declared, IsKept}
-use Rattle.dm_pexpr.proofs.MapLemmas.{same, tied, bytes_same}
 
 tail_of : List (Option Bool) → List (Option Bool)
 tail_of [] = []
@@ -47,7 +48,7 @@ get-with m name (Some entry) q = finite.get-insert nat_list_cmp_total m name ent
 
 back-at : (m : NameMap) (name q : List ℕ) (entry : Bool) (test : Bool) → test ≡ eq_by_cmp (slice_cmp nat_cmp) q name
     → cond test (entry_of m name) (cond test (Some entry) (entry_of m q)) ≡ entry_of m q
-back-at m name q entry true e = ap (entry_of m) (bytes_same name q (tied name q ∙ sym e))
+back-at m name q entry true e = ap (entry_of m) ((bytes_eq-Decides name q).0 (tied name q ∙ sym e))
 back-at m name q entry false e = refl
 
 -- a declaration that is taken back

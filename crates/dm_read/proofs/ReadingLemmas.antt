@@ -19,11 +19,12 @@ use Rattle.dm_search.specs.Loaded.{Loaded}
 use Rattle.dm_unit.specs.Loaders.{Grows, file_of, stopped_at}
 use Rattle.dm_unit.specs.States.{Setting}
 use Rattle.dm_unit.specs.Units.{IsReadAs}
-use Rattle.dm_eunit.specs.Elaborated.{Elaborates}
-use Rattle.dm_read.specs.declared.behind.Layers.{Layers}
-use Rattle.dm_read.specs.declared.unit.Reading.{Reading}
-use Rattle.dm_read.specs.Reading.{AreTokens, HasLayers, layers_of, IsReading}
-use Rattle.dm_read.specs.Syntax.{IsSyntax, Refuses}
+use Rattle.dm_reading.specs.Elaborated.{Elaborates}
+use Rattle.dm_reading.specs.declared.reading.Layers.{Layers}
+use Rattle.dm_reading.specs.declared.reading.Reading.{Reading}
+use Rattle.dm_reading.specs.Layered.{AreTokens, HasLayers, layers_of, IsLayered}
+use Rattle.dm_read.specs.Reading.{IsReading}
+use Rattle.dm_reading.specs.Syntax.{IsSyntax, Refuses}
 use Rattle.dm_read.proofs.SourceLemmas.{syntax-externals}
 use Rattle.dm_read.proofs.TokenLemmas.{ctokens-sound}
 
@@ -75,6 +76,10 @@ module _ (tokens : List Token) where
           (subst (λ these. AreExternals (source_alone again) [] 0 (map view.external these)) (sym alike)
           (subst (λ these. AreExternals (source_alone these) [] 0 (map view.external syntax)) (sym once) (syntax-externals made (map view.external syntax) is-syntax)))
 
+-- what is read has these layers
+pub layered : (reading : Reading) (tokens : List Token) → tokens ≡ reading.pp.tokens → HasLayers tokens (Ok (layers_of reading)) → IsLayered reading
+layered reading tokens same h = subst (λ these. HasLayers these (Ok (layers_of reading))) same h
+
 -- ---- the whole
 
 module _ (setting : Setting) (unit : Source) (old new : Loaded) where
@@ -91,7 +96,7 @@ module _ (setting : Setting) (unit : Source) (old new : Loaded) where
 
   pub all-read : (reading : Reading) (tokens : List Token) → reading.unit ≡ unit → tokens ≡ reading.pp.tokens → IsReadAs setting unit old (Ok reading.pp) new
       → HasLayers tokens (Ok (layers_of reading)) → IsReading setting unit old (Ok reading) new
-  all-read reading tokens of same is h = (of, is, subst (λ these. HasLayers these (Ok (layers_of reading))) same h)
+  all-read reading tokens of same is h = (of, is, layered reading tokens same h)
 
 -- ---- what a stop leaves
 

@@ -21,10 +21,10 @@ use Rattle.dm_syn.specs.Statements.{IsInitialiser, AreMoreInitialisers, IsItem, 
 use Rattle.dm_pexpr.specs.Answers.{source_with}
 use Rattle.dm_pexpr.specs.NameMaps.{NameMap, is_type as is_type_in}
 use Rattle.dm_pexpr.specs.Scoping.{known_with}
-use Rattle.dm_pexpr.proofs.MapLemmas.{tied}
+use Rattle.dm_name_map.proofs.MapLemmas.{tied}
 use Rattle.dm_eexpr.specs.Alone.{source_alone}
 use Rattle.dm_edecl.specs.Placing.{AreExternals}
-use Rattle.dm_read.specs.Syntax.{Stand, IsSyntax, names_behind}
+use Rattle.dm_reading.specs.Syntax.{Stand, IsSyntax, names_behind}
 use Rattle.dm_read.proofs.DeclaredLemmas.{source_of, Agree, behind, behind-expr, behind-exprs, behind-type-name, behind-specifiers, behind-specifier, behind-members, behind-member, behind-declarators, behind-enumerators, behind-enumerator, behind-declarator, behind-direct, behind-parameter, behind-parameters, behind-initialiser, behind-initialisers, behind-optional, behind-start, behind-block-item, behind-switch-item, behind-body, behind-external, behind-named, behind-item, behind-declared, behind-definition, defines-same}
 
 -- ---- what stands at a place

@@ -3,26 +3,16 @@
 ghost use Rattle.std.specs.Prelude.{map, IfOk, IfErr};
 ghost use Rattle.dm_syn.specs.Views as view;
 ghost use Rattle.dm_tree.specs.TypeNumbers.{IsTypedUnit};
-ghost use Rattle.dm_read.specs.Reading.{HasLayers};
-ghost use Rattle.dm_read.specs.Syntax.{IsSyntax, Refuses};
+ghost use Rattle.dm_reading.specs.Layered.{HasLayers};
+ghost use Rattle.dm_reading.specs.Syntax.{IsSyntax, Refuses};
 
 use crate::syntax::unit_syntax;
 use dm_ctok::ctokens;
 use dm_eunit::elaborate;
+use dm_reading::Layers;
 use dm_syn::External;
 use dm_token::{CToken, List, Memory, Stop, Token};
-use dm_tree::CoreUnit;
-use dm_type::Types;
 use std::alloc::Global;
-
-/// The tokens of phase 7, the syntax, and the typed unit with its types.
-#[derive(Drop)]
-pub struct Layers {
-    pub tokens: List<CToken>,
-    pub syntax: List<External>,
-    pub core: CoreUnit,
-    pub types: Types,
-}
 
 /// Each layer of preprocessing tokens, or the first stop. The typed unit is well typed.
 pub(crate) fn typed_tokens(alloc: Global, tokens: &[Token]) -> Result<Layers, Stop>

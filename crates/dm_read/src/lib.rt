@@ -3,11 +3,9 @@
 
 mod behind;
 mod count;
-mod laws;
 mod syntax;
 mod unit;
 
 pub use count::Steps;
-pub use laws::{no_refusal_of_syntax, one_refusal, one_syntax};
 pub use syntax::unit_syntax;
-pub use unit::{Reading, read_unit};
+pub use unit::read_unit;

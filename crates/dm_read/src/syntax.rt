@@ -2,7 +2,7 @@
 
 ghost use Rattle.std.specs.Prelude.{◌≤◌, length, map, IfOk, IfErr};
 ghost use Rattle.dm_syn.specs.Views as view;
-ghost use Rattle.dm_read.specs.Syntax.{IsSyntax, Refuses};
+ghost use Rattle.dm_reading.specs.Syntax.{IsSyntax, Refuses};
 
 use dm_pexpr::Names;
 use dm_pstmt::next_external;

@@ -8,30 +8,18 @@ ghost use Rattle.dm_io.specs.Files.{Files};
 ghost use Rattle.dm_unit.specs.Loaders.{Grows, WasUnknown, stopped_at, most_names};
 ghost use Rattle.dm_unit.specs.Units.{setting_of};
 ghost use Rattle.dm_tree.specs.TypeNumbers.{IsTypedUnit};
+ghost use Rattle.dm_reading.specs.Layered.{IsLayered};
 ghost use Rattle.dm_read.specs.Reading.{IsReading};
 
-use crate::behind::{Layers, typed_tokens};
+use crate::behind::typed_tokens;
 use crate::count::Steps;
 use dm_io::Folder;
+use dm_reading::{Layers, Reading, copy_of_unit};
 use dm_search::Loader;
-use dm_syn::External;
-use dm_token::{CToken, List, Stop, Unit, UnitTokens};
-use dm_tree::CoreUnit;
-use dm_type::Types;
+use dm_token::{Stop, Unit};
 use dm_unit::unit_tokens;
 use std::alloc::Global;
 use std::sync::ledger::Ledger;
-
-/// A unit with what each layer gives of it.
-#[derive(Drop)]
-pub struct Reading {
-    pub unit: Unit,
-    pub pp: UnitTokens,
-    pub tokens: List<CToken>,
-    pub syntax: List<External>,
-    pub core: CoreUnit,
-    pub types: Types,
-}
 
 /// What each layer gives of a unit; the typed unit is well typed. It counts as one reading, whatever it gives.
 ///
@@ -42,13 +30,15 @@ pub fn read_unit<F: Folder, L: Ledger>(
     alloc: Global,
     folder: &mut F,
     loader: &mut Loader,
-    unit: Unit,
+    unit: &Unit,
     readings: &mut Steps<L>,
 ) -> Result<Reading, Stop>
     requires room { length loader.old.names < most_names }
-    requires short { All (λ (define : Sequence ℕ). length define ≤ source_length_limit) unit.define }
+    requires short { All (λ (define : Sequence ℕ). length define ≤ source_length_limit) unit.now.define }
     ensures counted { readings.new ≡ readings.old + 1 }
-    ensures reading { (files : Files) → F.files folder.old ≡ Some files → IsReading (setting_of loader.old loader.new files unit) unit loader.old result loader.new }
+    ensures reading { (files : Files) → F.files folder.old ≡ Some files → IsReading (setting_of loader.old loader.new files unit.now) unit.now loader.old result loader.new }
+    // Whether or not the folder tells its files.
+    ensures layers { IfOk result IsLayered }
     ensures well_typed { IfOk result (λ given. IsTypedUnit given.types given.core) }
     // What the loader knows stays known, and each new name's file is held, apart from that of a stop.
     ensures loader { result ≢ Err Memory → Grows (stopped_at result) loader.old loader.new }
@@ -62,7 +52,8 @@ pub fn read_unit<F: Folder, L: Ledger>(
     ensures later { F.faults folder.old ≤ F.faults folder.new }
 {
     readings.tick();
-    let pp = unit_tokens(alloc, folder, loader, &unit)?;
+    let own = copy_of_unit(alloc, unit)?;
+    let pp = unit_tokens(alloc, folder, loader, unit)?;
     let made = typed_tokens(alloc, pp.tokens.items())?;
     let Layers {
         tokens,
@@ -71,7 +62,7 @@ pub fn read_unit<F: Folder, L: Ledger>(
         types,
     } = made;
     Ok(Reading {
-        unit,
+        unit: own,
         pp,
         tokens,
         syntax,

@@ -4,7 +4,6 @@
 mod as_json;
 mod as_text;
 mod counts;
-mod joining;
 mod lines;
 mod titles;
 mod values;

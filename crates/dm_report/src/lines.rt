@@ -4,10 +4,10 @@ ghost use Rattle.dm_report.specs.Lines.{entry_line, kept_text, place_text, rewri
 ghost use Rattle.dm_report.specs.Plans.{IsKnown};
 
 use crate::counts::{kept_count, rewritten_count};
-use crate::joining::append_all;
 use crate::titles::title;
 use crate::words::{file_name, kind_word};
 use dm_edit::{Entry, Fate};
+use dm_lines::append_all;
 use dm_token::{Definition, Memory, Place, Text};
 use itoa::Buffer;
 

@@ -19,12 +19,13 @@ use Rattle.dm_unit.specs.Loaders.{is_known}
 use Rattle.dm_unit.proofs.OutcomeLemmas.{one-outcome}
 use Rattle.dm_syn.specs.Trees as trees
 use Rattle.dm_syn.specs.Views as view
-use Rattle.dm_eunit.specs.Elaborated.{Elaborates}
+use Rattle.dm_reading.specs.Elaborated.{Elaborates}
 use Rattle.dm_lines.specs.Outside.{Outside}
-use Rattle.dm_read.specs.declared.behind.Layers.{Layers}
-use Rattle.dm_read.specs.declared.unit.Reading.{Reading}
-use Rattle.dm_read.specs.Reading.{AreTokens, HasLayers, IsReading, layers_of}
-use Rattle.dm_read.specs.Syntax.{IsSyntax, IsRefusedAt}
+use Rattle.dm_reading.specs.declared.reading.Layers.{Layers}
+use Rattle.dm_reading.specs.declared.reading.Reading.{Reading}
+use Rattle.dm_reading.specs.Layered.{AreTokens, HasLayers, layers_of}
+use Rattle.dm_read.specs.Reading.{IsReading}
+use Rattle.dm_reading.specs.Syntax.{IsSyntax, IsRefusedAt}
 use Rattle.dm_words.specs.Requests.{RunRequest}
 use Rattle.dm_running.specs.declared.input.NoInput.{NoInput}
 use Rattle.dm_running.specs.declared.input.NoInput.TheVariants.{Missing, TooLong, ReadFault}

@@ -15,7 +15,7 @@ use Rattle.dm_manifest.specs.Units.{IsLawful, is_definable}
 use Rattle.dm_lines.specs.Outside.{Outside, KeepsFiles, Puts}
 use Rattle.dm_lines.specs.Puts.{PutsText}
 use Rattle.dm_lines.specs.Stops.{line_of_stop, status_of_stop}
-use Rattle.dm_read.specs.declared.unit.Reading.{Reading}
+use Rattle.dm_reading.specs.declared.reading.Reading.{Reading}
 use Rattle.dm_words.specs.Requests.{RunRequest}
 use Rattle.dm_running.specs.declared.input.NoInput.{NoInput}
 use Rattle.dm_running.specs.declared.input.NoInput.TheVariants.{Missing, TooLong, ReadFault}

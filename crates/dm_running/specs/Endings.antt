@@ -12,7 +12,7 @@ use Rattle.dm_search.specs.Fresh.{fresh}
 use Rattle.dm_unit.specs.Units.{IsReadAs, setting_of}
 use Rattle.dm_lines.specs.Outside.{Outside, KeepsFiles, Puts}
 use Rattle.dm_lines.specs.Stops.{line_of_stop, status_of_stop}
-use Rattle.dm_read.specs.declared.unit.Reading.{Reading}
+use Rattle.dm_reading.specs.declared.reading.Reading.{Reading}
 use Rattle.dm_words.specs.Requests.{RunRequest}
 use Rattle.dm_running.specs.declared.input.NoInput.{NoInput}
 use Rattle.dm_running.specs.Inputs.{HasInput, HasNoInput, line_without_input, status_of_no_input}

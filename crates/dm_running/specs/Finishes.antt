@@ -11,7 +11,7 @@ use Rattle.dm_lines.specs.Puts.{PutsText}
 use Rattle.dm_meaning.specs.Units.{main_of}
 use Rattle.dm_exec.specs.declared.outcome.Outcome.{Outcome}
 use Rattle.dm_exec.specs.Outcomes.{IsRun}
-use Rattle.dm_read.specs.declared.unit.Reading.{Reading}
+use Rattle.dm_reading.specs.declared.reading.Reading.{Reading}
 use Rattle.dm_run.specs.Texts.{run_text}
 use Rattle.dm_words.specs.Requests.{RunRequest}
 use Rattle.dm_running.specs.Readings.{exceeds, program_of}

@@ -14,10 +14,11 @@ use Rattle.dm_syn.specs.declared.statement.External.{External}
 use Rattle.dm_syn.specs.Views as view
 use Rattle.dm_type.specs.Tables.{Table}
 use Rattle.dm_tree.specs.declared.unit.CoreUnit.{CoreUnit}
-use Rattle.dm_eunit.specs.Elaborated.{Elaborates}
-use Rattle.dm_read.specs.declared.unit.Reading.{Reading}
-use Rattle.dm_read.specs.Reading.{AreTokens, IsReading}
-use Rattle.dm_read.specs.Syntax.{IsSyntax}
+use Rattle.dm_reading.specs.Elaborated.{Elaborates}
+use Rattle.dm_reading.specs.declared.reading.Reading.{Reading}
+use Rattle.dm_reading.specs.Layered.{AreTokens}
+use Rattle.dm_read.specs.Reading.{IsReading}
+use Rattle.dm_reading.specs.Syntax.{IsSyntax}
 use Rattle.dm_meaning.specs.Programs.{Program}
 use Rattle.dm_meaning.specs.Units.{main_of}
 use Rattle.dm_program.specs.Sources.{meant}

@@ -13,7 +13,7 @@ use dm_definitions::exceeds_limit;
 use dm_exec::{Outcome, run_for};
 use dm_io::Sink;
 use dm_program::Program;
-use dm_read::Reading;
+use dm_reading::Reading;
 use dm_run::run_text;
 use dm_token::{Memory, Text};
 use dm_words::RunWords;

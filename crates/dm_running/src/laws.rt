@@ -7,7 +7,7 @@ ghost use Rattle.dm_lines.specs.Outside.{Outside};
 ghost use Rattle.dm_words.specs.Requests.{RunRequest};
 ghost use Rattle.dm_running.specs.Endings.{EndsRun, HoldsRun, RunEnding, status_of_run};
 
-use dm_read::{no_refusal_of_syntax, one_syntax};
+use dm_reading::{no_refusal_of_syntax, one_syntax};
 
 /// Where the files are told, the input is there, the unit is read and has typings with a `main`, and nothing fails, the run
 /// is put, or memory is wanted.

@@ -9,7 +9,8 @@ ghost use Rattle.dm_tree.specs.TypeNumbers.{IsTypedUnit};
 ghost use Rattle.dm_running.specs.Readings.{IsUnitReading};
 
 use dm_io::Folder;
-use dm_read::{Reading, Steps, read_unit};
+use dm_read::{Steps, read_unit};
+use dm_reading::Reading;
 use dm_search::Loader;
 use dm_token::{Stop, Unit};
 use std::alloc::Global;
@@ -54,5 +55,5 @@ fn read_counted<F: Folder, L: Ledger>(
     ensures later { F.faults folder.old ≤ F.faults folder.new }
 {
     let mut readings = Steps::<L>::new(blank);
-    read_unit(alloc, folder, loader, unit, &mut readings)
+    read_unit(alloc, folder, loader, &unit, &mut readings)
 }

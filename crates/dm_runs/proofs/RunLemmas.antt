@@ -4,7 +4,7 @@ use Rattle.std.specs.Bool.{◌==◌}
 use Rattle.std.specs.List.{list_any, flat_map}
 use Rattle.std.specs.Option.{option_map}
 use Rattle.std.proofs.lemmas.Option.{slice_get-map, slice_get_within, get_or_from_slice_get}
-use Rattle.std.proofs.lemmas.List.{append-nil, take_more, length-map}
+use Rattle.std.proofs.lemmas.List.{append-nil, take_more}
 use Rattle.std.proofs.lemmas.Grind.{flat_map-append}
 use Rattle.dm_token.specs.declared.expansion.Mark.{Mark}
 use Rattle.dm_token.specs.declared.expansion.Definition.{Definition}
@@ -48,9 +48,6 @@ runs-push pp tokens file hash trails trail =
 -- the item that is made of another
 pub mapped-at : {A B : Type 0} (f : A → B) (xs : List A) (ys : List B) (k : ℕ) (x : A) (d : B) → ys ≡ map f xs → slice_get xs k ≡ Some x → get_or ys k d ≡ f x
 mapped-at f xs ys k x d e is = get_or_from_slice_get ys k (f x) d (ap (λ zs. slice_get zs k) e ∙ slice_get-map f xs k ∙ ap (option_map f) is)
-
-pub mapped-within : {A B : Type 0} (f : A → B) (xs : List A) (ys : List B) (k : ℕ) (x : A) → ys ≡ map f xs → slice_get xs k ≡ Some x → k < length ys
-mapped-within f xs ys k x e is = omega (arith, ap length e, length-map xs f, slice_get_within xs k x is)
 
 -- the extent of a trail that wasn't met
 pub extent-nowhere : (links : List Link) (trails : List (List Mark)) (extents : List (Option Extent)) (tokens : List CToken) → IsShape links trails extents tokens

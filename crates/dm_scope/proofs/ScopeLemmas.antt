@@ -3,7 +3,8 @@ use Rattle.std.proofs.Common.{◌≡◌, ℕ, suc, ◌+◌, ◌-◌, ◌<◌, Li
 use Rattle.std.proofs.lemmas.List.{reverse-append}
 use Rattle.std.proofs.Math.Seq.{get_or-append_seam}
 use Rattle.std.specs.FinMap as finite
-use Rattle.dm_scope.specs.Scopes.{Numbers, declared}
+use Rattle.dm_scope.specs.Scopes.{declared}
+use Rattle.dm_name_map.specs.Numbers.{Numbers}
 
 -- a list that isn't empty has a last item
 snoc : {A : Type 0} (xs : List A) → 0 < length xs → (front : List A) × (last : A) × (xs ≡ front ++ last ∷ [])

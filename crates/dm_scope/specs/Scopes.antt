@@ -4,13 +4,8 @@
 --     is_declared scopes name      the innermost scope declares the name
 --     declared scopes name number      the scopes after a declaration in the innermost one
 use Rattle.std.specs.Prelude.{ℕ, Bool, false, List, [], ◌∷◌, Option, Some, None}
-use Rattle.std.specs.Cmp.Lexicographic.{slice_cmp}
-use Rattle.std.specs.Ordering.{nat_cmp}
 use Rattle.std.specs.FinMap as map
-
--- numbers by names
-abbrev pub Numbers : Type 0
-Numbers = map.FinMap (slice_cmp nat_cmp) ℕ
+use Rattle.dm_name_map.specs.Numbers.{Numbers}
 
 abbrev pub Scopes : Type 0
 Scopes = List Numbers

@@ -1,7 +1,6 @@
 //! Scopes (ISO/IEC 9899:2011, 6.2.1): which declaration a name means.
 #![tactic(auto)]
 
-mod name_map;
 mod scopes;
 #[cfg(test)]
 mod tests;

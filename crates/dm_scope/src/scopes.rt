@@ -4,7 +4,7 @@ ghost use Rattle.std.specs.Prelude.{◌≡◌, ◌<◌, ◌∷◌, [], Ok, true,
 ghost use Rattle.std.specs.FinMap as finite;
 ghost use Rattle.dm_scope.specs.Scopes as scopes;
 
-use crate::name_map::NameMap;
+use dm_name_map::NameMap;
 use dm_token::{Memory, Text};
 use std::alloc::Global;
 use std::marker::Model;

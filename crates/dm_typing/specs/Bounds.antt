@@ -4,7 +4,8 @@
 use Rattle.std.specs.Prelude.{◌≡◌, ℕ, ◌<◌, Bool, true, ◌&&◌, not, IsTrue, List, [], ◌∷◌, length, Some, None, All}
 use Rattle.std.specs.FinMap as map
 use Rattle.dm_type.specs.Tables.{Table, members_of}
-use Rattle.dm_scope.specs.Scopes.{Numbers, Scopes}
+use Rattle.dm_scope.specs.Scopes.{Scopes}
+use Rattle.dm_name_map.specs.Numbers.{Numbers}
 use Rattle.dm_typing.specs.Typing.{is_among}
 
 -- the numbers of declarations in a scope are below the count

@@ -166,7 +166,7 @@ fn put_unit<F: Folder, L: Ledger>(
     out.push_str("unit ")?;
     put_text(out, &unit.file)?;
     out.push_str("\n")?;
-    match read_unit(*out.allocator(), folder, loader, unit, readings) {
+    match read_unit(*out.allocator(), folder, loader, &unit, readings) {
         Ok(reading) => put_core(out, &reading.types, &reading.core),
         Err(stop) => put_stop(out, loader.names(), stop),
     }

@@ -6,7 +6,8 @@ ghost use Rattle.dm_tree.specs.TypeNumbers.{IsTypedUnit};
 use crate::entries::entries;
 use crate::typing::TypedUnit;
 use dm_io::{Folder, MemoryFolder};
-use dm_read::{Reading, Steps, read_unit};
+use dm_read::{Steps, read_unit};
+use dm_reading::Reading;
 use dm_search::Loader;
 use dm_token::{List, Stop, Text, Unit};
 use std::alloc::Global;
@@ -104,7 +105,7 @@ fn shown<F: Folder, L: Ledger>(
     if loader.names().len() > 10_000 {
         return Err("too many names".into());
     }
-    let given = read_unit(alloc, folder, loader, unit, readings);
+    let given = read_unit(alloc, folder, loader, &unit, readings);
     given_words(alloc, given)
 }
 

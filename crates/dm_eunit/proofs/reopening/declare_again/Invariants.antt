@@ -1,5 +1,6 @@
 use Rattle.std.specs.Prelude.{◌≡◌, ◌∷◌, drop}
-use Rattle.dm_scope.specs.Scopes.{Numbers, Scopes}
+use Rattle.dm_scope.specs.Scopes.{Scopes}
+use Rattle.dm_name_map.specs.Numbers.{Numbers}
 use Rattle.dm_edeclarator.specs.Steps.{SameBesideScopes}
 use Rattle.dm_eunit.specs.Naming.{with_names}
 use Rattle.dm_eunit.specs.Reopening.{AreUnlinked}

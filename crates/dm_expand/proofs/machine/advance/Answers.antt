@@ -10,7 +10,7 @@ use Rattle.dm_expand.specs.Expansion.{Macros}
 use Rattle.dm_expand.specs.HeadViews.{macros_of}
 use Rattle.dm_expand.specs.ListViews.{gives, tokens_before}
 use Rattle.dm_expand.specs.Works.{outward, load, scanned_on, found_on, taken_up}
-use Rattle.dm_macro.proofs.MapLemmas.{not_some}
+use Rattle.dm_macro.proofs.NamedLemmas.{not_some}
 use Rattle.dm_expand.proofs.ProgressLemmas.{follows_on}
 use Rattle.dm_expand.proofs.StepLemmas.{stops_handed_as}
 use Rattle.dm_expand.proofs.SubstitutionLemmas.{tokens_before-append, within_on}

@@ -10,7 +10,7 @@ use Rattle.dm_expand.specs.ListViews.{gives, tokens_before}
 use Rattle.dm_expand.specs.Works.{passed_on, found_on, scanned_on}
 use Rattle.dm_expand.proofs.ProgressLemmas.{expanded-nothing}
 use Rattle.dm_expand.proofs.SubstitutionLemmas.{tokens_before-append}
-use Rattle.dm_macro.proofs.MapLemmas.{not_some}
+use Rattle.dm_macro.proofs.NamedLemmas.{not_some}
 use Rattle.dm_expand.proofs.WorkLemmas.{passed-put, passed_on-found, put-more}
 use Rattle.dm_expand.proofs.machine.scan.Goals as goal
 

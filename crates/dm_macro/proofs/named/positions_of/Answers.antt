@@ -1,10 +1,9 @@
 use Rattle.std.proofs.Common.{◌≡◌, ◌+◌, ◌++◌, [], ◌∷◌, ℕ, List, take, length, sym, ap, ◌∙◌, subst, is_some, arith}
 use Rattle.std.specs.FinMap as map
 use Rattle.std.proofs.lemmas.List.{take_more, length-take-le}
-use Rattle.dm_macro.specs.Numbers.{Numbers}
+use Rattle.dm_name_map.specs.Numbers.{Numbers}
 use Rattle.dm_macro.specs.Roles.{HavePositions}
-use Rattle.dm_macro.proofs.MapLemmas.{not_some}
-use Rattle.dm_macro.proofs.NamedLemmas.{positions-nothing, positions-old, positions-new}
+use Rattle.dm_macro.proofs.NamedLemmas.{not_some, positions-nothing, positions-old, positions-new}
 use Rattle.dm_macro.proofs.named.positions_of.Goals as goal
 use Rattle.dm_macro.proofs.named.positions_of.Goals.{then-is_none+in_ok-copy+in_ok-insert, else-is_none}
 

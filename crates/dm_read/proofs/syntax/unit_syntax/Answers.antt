@@ -4,7 +4,7 @@ use Rattle.std.proofs.lemmas.Result.{err_from_is_err_and}
 use Rattle.std.specs.FinMap as finite
 use Rattle.dm_syn.specs.declared.statement.External.{External}
 use Rattle.dm_syn.specs.Views as view
-use Rattle.dm_read.specs.Syntax.{Stand}
+use Rattle.dm_reading.specs.Syntax.{Stand}
 use Rattle.dm_read.proofs.SyntaxLemmas.{span-of-form, stood, refused-there}
 use Rattle.dm_read.proofs.syntax.unit_syntax.Goals as goal
 

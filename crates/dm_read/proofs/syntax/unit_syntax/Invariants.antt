@@ -2,7 +2,7 @@
 use Rattle.std.proofs.Common.{◌≤◌, ◌-◌, length, map}
 use Rattle.std.specs.FinMap as finite
 use Rattle.dm_syn.specs.Views as view
-use Rattle.dm_read.specs.Syntax.{Stand}
+use Rattle.dm_reading.specs.Syntax.{Stand}
 use Rattle.dm_read.proofs.syntax.unit_syntax.Given as goal
 
 abbrev pub decreases-loop-at : goal.decreases-loop-at

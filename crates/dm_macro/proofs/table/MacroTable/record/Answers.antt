@@ -2,8 +2,8 @@ use Rattle.std.proofs.Common.{◌≡◌, List, refl, ◌++◌, [], ◌∷◌, le
 use Rattle.std.specs.FinMap as map
 use Rattle.dm_token.specs.declared.expansion.Definition.{Definition}
 use Rattle.dm_macro.specs.declared.role.Roles as code_roles
-use Rattle.dm_macro.specs.Numbers.{Numbers, with_name}
-use Rattle.dm_macro.specs.Tables.{table_of, IsSound}
+use Rattle.dm_name_map.specs.Numbers.{Numbers}
+use Rattle.dm_macro.specs.Tables.{table_of, with_name, IsSound}
 use Rattle.dm_macro.specs.Roles.{AreAllRoles}
 use Rattle.dm_macro.proofs.RoleLemmas.{all-more}
 use Rattle.dm_macro.proofs.TableLemmas.{recorded_sound, with_new, with_old}

@@ -1,6 +1,6 @@
 use Rattle.std.proofs.Common.{sym, ap, ◌∙◌}
 use Rattle.std.specs.FinMap as finite
-use Rattle.dm_pexpr.proofs.MapLemmas.{get_of_entries}
+use Rattle.dm_name_map.proofs.MapLemmas.{get_of_entries}
 use Rattle.dm_pexpr.proofs.names.Names.get.Goals as goal
 
 pub returns : goal.returns

@@ -1,6 +1,6 @@
 use Rattle.std.proofs.Common.{ap, ◌∙◌}
 use Rattle.std.specs.FinMap as finite
-use Rattle.dm_pexpr.proofs.MapLemmas.{entries_with}
+use Rattle.dm_name_map.proofs.MapLemmas.{entries_with}
 use Rattle.dm_pexpr.proofs.names.Names.insert.Goals as goal
 
 pub returns-clause-ok : goal.returns-clause-ok

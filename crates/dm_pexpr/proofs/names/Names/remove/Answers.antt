@@ -1,6 +1,6 @@
 use Rattle.std.proofs.Common.{ap, ◌∙◌}
 use Rattle.std.specs.FinMap as finite
-use Rattle.dm_pexpr.proofs.MapLemmas.{entries_without}
+use Rattle.dm_name_map.proofs.MapLemmas.{entries_without}
 use Rattle.dm_pexpr.proofs.names.Names.remove.Goals as goal
 
 pub returns : goal.returns

@@ -1,7 +1,8 @@
 -- The innermost scope declares the name.
 use Rattle.std.proofs.Common.{◌≡◌, ◌-◌, List, length, reverse, get_or, slice_set, arith, ap, ◌∙◌}
 use Rattle.std.specs.FinMap as finite
-use Rattle.dm_scope.specs.Scopes.{Numbers, declared}
+use Rattle.dm_scope.specs.Scopes.{declared}
+use Rattle.dm_name_map.specs.Numbers.{Numbers}
 use Rattle.dm_scope.proofs.ScopeLemmas.{declared-last}
 use Rattle.dm_scope.proofs.scopes.Scopes.declare.Goals as goal
 

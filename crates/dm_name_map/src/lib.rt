@@ -1,0 +1,6 @@
+//! Numbers by names.
+#![tactic(auto)]
+
+mod name_map;
+
+pub use name_map::NameMap;

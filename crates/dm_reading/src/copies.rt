@@ -1,0 +1,69 @@
+//! Units and definitions once more.
+
+ghost use Rattle.std.specs.Prelude.{◌≡◌, IfOk};
+
+use dm_token::{Definition, List, Memory, PpToken, Text, Unit};
+use std::alloc::Global;
+
+/// The same unit, whose texts are shared.
+pub fn copy_of_unit(alloc: Global, unit: &Unit) -> Result<Unit, Memory>
+    ensures { IfOk result (λ copy. copy ≡ unit.now) }
+{
+    Ok(Unit {
+        file: unit.file.copy()?,
+        include: copy_of_texts(alloc, &unit.include)?,
+        define: copy_of_texts(alloc, &unit.define)?,
+    })
+}
+
+/// The same definition, whose texts are shared.
+pub fn copy_of_definition(alloc: Global, definition: &Definition) -> Result<Definition, Memory>
+    ensures { IfOk result (λ copy. copy ≡ definition.now) }
+{
+    let name = definition.name.copy()?;
+    let parameters = copy_of_parameters(alloc, &definition.parameters)?;
+    let body = copy_of_tokens(alloc, &definition.body)?;
+    Ok(Definition {
+        name,
+        parameters,
+        variadic: definition.variadic,
+        body,
+        origin: definition.origin,
+        place: definition.place,
+        hash: definition.hash,
+        head_end: definition.head_end,
+        head_plain: definition.head_plain,
+    })
+}
+
+fn copy_of_parameters(
+    alloc: Global,
+    parameters: &Option<List<Text>>,
+) -> Result<Option<List<Text>>, Memory>
+    ensures { IfOk result (λ copy. copy ≡ parameters.now) }
+{
+    match parameters {
+        None => Ok(None),
+        Some(names) => Ok(Some(copy_of_texts(alloc, names)?)),
+    }
+}
+
+fn copy_of_texts(alloc: Global, texts: &List<Text>) -> Result<List<Text>, Memory>
+    ensures { IfOk result (λ copy. copy ≡ texts.now) }
+{
+    let mut copies = List::new(alloc);
+    for text in texts.items() {
+        copies.push(text.copy()?)?;
+    }
+    Ok(copies)
+}
+
+fn copy_of_tokens(alloc: Global, tokens: &List<PpToken>) -> Result<List<PpToken>, Memory>
+    ensures { IfOk result (λ copy. copy ≡ tokens.now) }
+{
+    let mut copies = List::new(alloc);
+    for token in tokens.items() {
+        copies.push(token.copy()?)?;
+    }
+    Ok(copies)
+}

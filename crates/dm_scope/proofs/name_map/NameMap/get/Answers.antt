@@ -1,8 +1,0 @@
-use Rattle.std.proofs.Common.{sym, ap, ◌∙◌}
-use Rattle.std.specs.FinMap as finite
-use Rattle.dm_scope.proofs.MapLemmas.{get_of_entries}
-use Rattle.dm_scope.proofs.name_map.NameMap.get.Goals as goal
-
-pub returns : goal.returns
-returns c =
-    c.copied.ensures ∙ c.get.ensures.value ∙ sym (get_of_entries c.self.inside.map.entries c.args.name.now) ∙ ap (λ names. finite.get names c.args.name.now) c.self.view_is
