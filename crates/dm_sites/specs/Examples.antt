@@ -106,7 +106,7 @@ with_external value = one_external (record { span = span 0 60; constants = []; f
 
 -- an expression that is evaluated, and where no constant is wanted
 abbrev pub plain : Tree → Path → Tree → Site
-plain full path tree = record { tree = tree; full = full; path = path; apart = true; constant = false; fixed = false; unevaluated = false }
+plain root path tree = record { tree = tree; full = root; path = path; apart = true; constant = false; fixed = false; unevaluated = false }
 
 abbrev pub wanting_constant : Tree → Site
 wanting_constant tree = record { tree = tree; full = tree; path = []; apart = true; constant = true; fixed = false; unevaluated = false }
@@ -115,4 +115,4 @@ abbrev pub initialising_static : Tree → Site
 initialising_static tree = record { tree = tree; full = tree; path = []; apart = true; constant = false; fixed = true; unevaluated = false }
 
 abbrev pub not_evaluated : Tree → Path → Tree → Site
-not_evaluated full path tree = record { tree = tree; full = full; path = path; apart = true; constant = false; fixed = false; unevaluated = true }
+not_evaluated root path tree = record { tree = tree; full = root; path = path; apart = true; constant = false; fixed = false; unevaluated = true }

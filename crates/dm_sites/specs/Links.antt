@@ -35,6 +35,11 @@ abbrev pub key_in : Option Site → Option ℕ
 key_in None = None
 key_in (Some site) = key site
 
+-- a place is there, and passes
+abbrev pub passes : (Site → Bool) → Option Site → Bool
+passes test None = false
+passes test (Some site) = test site
+
 -- from the place with this number on
 pub record AreLinkedFrom (from : ℕ) (sites : List Site) (heads links : List (Option ℕ)) : Type 0 where
   pub first : (sum : ℕ) → linked heads sum ≡ next_from sum from (drop from sites)

@@ -30,3 +30,11 @@ seen types sites site = record {
   fixed = site.fixed;
   unevaluated = site.unevaluated;
 }
+
+-- where the place with this number stands in its full expression
+abbrev pub above_in : Option CodeSite → Option Above
+above_in None = None
+above_in (Some site) = site.above
+
+abbrev pub above_at : List CodeSite → ℕ → Option Above
+above_at sites n = above_in (slice_get sites n)

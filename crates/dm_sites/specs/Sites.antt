@@ -47,6 +47,12 @@ statement_parts declared (declare lengths declarators) parts =
 statement_parts declared case (value ∷ parts) = whole true false value ∷ map (whole false false) parts
 statement_parts declared label parts = map (whole false false) parts
 
+-- the other statements
+abbrev pub has_full_parts : Label → Bool
+has_full_parts (declare lengths declarators) = false
+has_full_parts case = false
+has_full_parts label = true
+
 -- ---- parts of expressions
 
 -- the part with this number is an array length or an enumerator's value in a type name

@@ -3,7 +3,14 @@
 #![tactic(auto)]
 
 mod examples;
+mod links;
+mod rows;
 mod site;
+mod sites;
+mod standing;
+mod waiting;
+mod walk;
 
 pub use examples::{expressions_stand_at_tokens, places_tell_what_stands_round_them};
 pub use site::{Above, Site};
+pub use sites::Sites;

@@ -1,9 +1,9 @@
 //! Places by the tokens that their expressions may have.
 
-ghost use Rattle.std.specs.Prelude.{◌≡◌, ◌==◌, ◌<◌, ◌^◌, ℕ, Some, IfOk, OnOk, map, if◌then◌else◌, vec_len, List as Sequence};
+ghost use Rattle.std.specs.Prelude.{◌≡◌, ◌+◌, ◌==◌, ◌<◌, ℕ, Some, IfOk, OnOk, map, if◌then◌else◌, vec_len, slice_get, List as Sequence};
 ghost use Rattle.dm_type.specs.Tables.{Table};
 ghost use Rattle.dm_sites.specs.Links as links;
-ghost use Rattle.dm_sites.specs.Links.{AreLinked};
+ghost use Rattle.dm_sites.specs.Links.{AreLinked, AreLinkedFrom};
 ghost use Rattle.dm_sites.specs.Seen.{seen};
 ghost use Rattle.dm_sites.specs.Sites as sites;
 
@@ -73,13 +73,30 @@ pub(crate) fn link(alloc: Global, found: &[Site]) -> Result<Links, Memory>
 {
     let mut heads = Vec::new(alloc);
     let mut next = Vec::new(alloc);
-    let mut left = found;
-    while let Some((site, before)) = left.split_last() {
-        if let Some(sum) = key(site) {
-            put(&mut next, before.len(), linked(heads.as_slice(), sum))?;
-            put(&mut heads, sum, Some(before.len()))?;
-        }
-        left = before;
+    let mut number = found.len();
+    while number > 0 {
+        number -= 1;
+        link_one(&found[number], number, &mut heads, &mut next)?;
     }
     Ok(Links { heads, next })
+}
+
+/// Those from the place with this number on, where there are those behind it.
+fn link_one(
+    site: &Site,
+    number: usize,
+    heads: &mut Vec<Option<usize>>,
+    next: &mut Vec<Option<usize>>,
+) -> Result<(), Memory>
+    ensures { OnOk result ((types : Table) (all : Sequence sites.Site) → slice_get all number ≡ Some (seen types all site.now)
+        → AreLinkedFrom (number + 1) all heads.old.items next.old.items → AreLinkedFrom number all heads.new.items next.new.items) }
+{
+    match key(site) {
+        Some(sum) => {
+            put(next, number, linked(heads.as_slice(), sum))?;
+            put(heads, sum, Some(number))?;
+            Ok(())
+        }
+        None => Ok(()),
+    }
 }

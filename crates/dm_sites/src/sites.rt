@@ -1,14 +1,15 @@
 //! The places of expressions in a unit.
 
-ghost use Rattle.std.specs.Prelude.{◌≡◌, IfOk, option_map, option_and_then, slice_get};
+ghost use Rattle.std.specs.Prelude.{◌≡◌, IfOk, map, option_map, option_and_then, slice_get, List as Sequence};
 ghost use Rattle.std.specs.Option.{option_copied};
 ghost use Rattle.dm_type.specs.Tables.{Table};
 ghost use Rattle.dm_tree.specs.Views.{view_of_unit};
-ghost use Rattle.dm_sites.specs.Seen.{path_at, seen};
-ghost use Rattle.dm_sites.specs.Sites.{site_of, sites_of_unit};
+ghost use Rattle.dm_sites.specs.Links.{passes};
+ghost use Rattle.dm_sites.specs.Seen.{above_at, path_at, seen};
+ghost use Rattle.dm_sites.specs.Sites.{is_site_of, site_of, sites_of_unit, Site as SeenSite};
 
 use crate::links::{ends, link, linked};
-use crate::site::Site;
+use crate::site::{Above, Site};
 use crate::standing::stands;
 use crate::walk::walk;
 use dm_effect::Path;
@@ -73,21 +74,12 @@ impl<'a> Sites<'a> {
     {
         let mut at = linked(self.heads.as_slice(), ends(span));
         while let Some(number) = at {
-            if self.is_at(number, span) {
+            if is_at(self.found.as_slice(), number, span) {
                 return Some(number);
             }
             at = linked(self.next.as_slice(), number);
         }
         None
-    }
-
-    /// Whether the place with this number is that of the expression that has these tokens.
-    fn is_at(&self, number: usize, span: Span) -> bool
-    {
-        match self.found.get(number) {
-            Some(site) => site.apart && stands(span, site.tree),
-            None => false,
-        }
     }
 
     /// The way to the place with this number from its full expression.
@@ -96,11 +88,31 @@ impl<'a> Sites<'a> {
     {
         let mut parts = Vec::new(alloc);
         let mut at = number;
-        while let Some(above) = self.above(at) {
+        while let Some(above) = above(self.found.as_slice(), at) {
             parts.push(above.part)?;
             at = above.site;
         }
         parts.reverse();
         Ok(List::from_vec(parts))
+    }
+}
+
+/// Whether the place with this number is that of the expression that has these tokens.
+fn is_at(found: &[Site], number: usize, span: Span) -> bool
+    ensures { (types : Table) (all : Sequence SeenSite) → map (seen types all) found.now ≡ all → passes (is_site_of span) (slice_get all number) ≡ result }
+{
+    match found.get(number) {
+        Some(site) => site.apart && stands(span, site.tree),
+        None => false,
+    }
+}
+
+/// Where the place with this number stands in its full expression.
+fn above(found: &[Site], number: usize) -> Option<Above>
+    ensures { result ≡ above_at found.now number }
+{
+    match found.get(number) {
+        Some(site) => site.above,
+        None => None,
     }
 }

@@ -35,6 +35,16 @@ pub(crate) fn is_statement(form: &Form) -> bool
     }
 }
 
+/// Whether a form is another one than a declaration and `case`.
+pub(crate) fn has_full_parts(form: &Form) -> bool
+    ensures { (types : Table) → sites.has_full_parts (opened_form types form.now).label ≡ result }
+{
+    match form {
+        Form::Declare(_, _) | Form::Case(_, _) => false,
+        _ => true,
+    }
+}
+
 /// Whether the part with this number is an array length or an enumerator's value in a type name.
 pub(crate) fn is_in_type_name(form: &Form, part: usize) -> bool
     ensures { (types : Table) → sites.is_in_type_name (opened_form types form.now).label part ≡ result }
@@ -63,14 +73,21 @@ fn shares(above: &Core, part: &Core) -> bool
     above.inner.first == part.inner.first && above.inner.after == part.inner.after
 }
 
+/// Whether a form is a conversion.
+fn is_conversion(form: &Form) -> bool
+    ensures { (types : Table) → standing.is_conversion (opened_form types form.now).label ≡ result }
+{
+    match form {
+        Form::Convert(_, _) => true,
+        _ => false,
+    }
+}
+
 /// Whether a part of a node is an expression of its own.
 pub(crate) fn is_apart(above: &Core, part: &Core) -> bool
     ensures { (types : Table) → standing.is_apart (label_of (view types above.now)) (spans_of (view types above.now)) (view types part.now) ≡ result }
 {
-    match &above.form {
-        Form::Convert(_, _) => true,
-        _ => !shares(above, part),
-    }
+    is_conversion(&above.form) || !shares(above, part)
 }
 
 /// Whether a tree is a conversion that isn't written.

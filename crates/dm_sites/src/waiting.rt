@@ -1,6 +1,6 @@
 //! Places that wait for a walk, the last one first.
 
-ghost use Rattle.std.specs.Prelude.{◌≡◌, ◌++◌, [], map, reverse, false, OnOk, List as Sequence};
+ghost use Rattle.std.specs.Prelude.{◌≡◌, ◌++◌, [], map, reverse, slice_get, OnOk, List as Sequence};
 ghost use Rattle.dm_type.specs.Tables.{Table};
 ghost use Rattle.dm_tree.specs.Trees.{label_of, parts_of as parts_in};
 ghost use Rattle.dm_tree.specs.Views.{entries_of, view, view_of_external, view_of_form, view_of_local};
