@@ -1,10 +1,10 @@
 -- Places that are linked by the ends of their tokens.
-use Rattle.std.proofs.Common.{◌≡◌, ℕ, ◌+◌, ◌-◌, ◌<◌, ◌≤◌, zero, suc, Bool, true, false, cond, ◌&&◌, not, ◌==◌, nat_le, List, [], ◌∷◌, length, drop, Option, Some, None, slice_get, refl, sym, ap, subst, ◌∙◌, arith, true≢false}
+use Rattle.std.proofs.Common.{◌≡◌, ℕ, ◌+◌, ◌-◌, ◌<◌, ◌≤◌, zero, suc, Bool, true, false, cond, ◌&&◌, ◌==◌, nat_le, List, [], ◌∷◌, length, drop, Option, Some, None, slice_get, refl, sym, ap, ◌∙◌, arith, true≢false}
 use Rattle.std.specs.List.{find}
-use Rattle.std.proofs.lemmas.Bool.{and_parts, leb-true, eqb-false, ne_eqb}
+use Rattle.std.proofs.lemmas.Bool.{and_parts, leb-true, eqb-false}
 use Rattle.std.proofs.lemmas.Bool.Decides.{Decides-eqb}
 use Rattle.dm_token.specs.declared.place.Span.{Span}
-use Rattle.dm_tree.specs.Trees.{Spans, Tree, spans_of}
+use Rattle.dm_tree.specs.Trees.{Spans, spans_of}
 use Rattle.dm_sites.specs.Links.{ends, key, is_key, key_in, next_from, linked, AreLinkedFrom}
 use Rattle.dm_sites.specs.Sites.{Site, is_site_of}
 use Rattle.dm_sites.specs.Standing.{is_extent, is_value, stands}

@@ -1,12 +1,11 @@
 -- Nodes of the code.
-use Rattle.std.proofs.Common.{◌≡◌, ℕ, Bool, true, false, not, ◌&&◌, ◌||◌, List, [], ◌∷◌, ◌++◌, map, length, take, drop, Option, Some, None, slice_get, append-nil, cond, rules, refl, sym, ap, subst, ◌∙◌}
+use Rattle.std.proofs.Common.{◌≡◌, ℕ, Bool, true, false, List, [], ◌∷◌, ◌++◌, map, length, drop, Option, Some, None, slice_get, append-nil, rules, refl, sym, ap, subst, ◌∙◌}
 use Rattle.std.specs.List.{flat_map}
 use Rattle.std.proofs.lemmas.List.{map-append}
 use Rattle.std.proofs.lemmas.List.Concat.{flat_map-append}
 use Rattle.std.proofs.Math.Seq.{drop-append_seam, take-append_seam}
 use Rattle.std.proofs.lemmas.List.Folds.{flat_map-map}
-use Rattle.dm_token.specs.declared.place.Span.{Span}
-use Rattle.dm_type.specs.Tables.{Table, type_of}
+use Rattle.dm_type.specs.Tables.{Table}
 use Rattle.dm_tree.specs.declared.tree.Core.{Core, out-Core}
 use Rattle.dm_tree.specs.declared.tree.Core as q
 use Rattle.dm_tree.specs.declared.tree.Form.{Form, out-Form}
@@ -19,7 +18,7 @@ use Rattle.dm_tree.specs.Initialisers.{shares_tokens}
 use Rattle.dm_tree.specs.Trees as label
 use Rattle.dm_tree.specs.Trees.{Label, Spans, Tree, trees, label_of, spans_of, parts_of}
 use Rattle.dm_tree.specs.Units.{Declaration}
-use Rattle.dm_tree.specs.Views.{Opened, OpenedInitial, OpenedLocal, opened, opened_form, view, view_of_local, form_layer, initial_layer, core_layer, local_layer, node_of, local_of, declarators_of, expressions_of_locals}
+use Rattle.dm_tree.specs.Views.{Opened, OpenedInitial, OpenedLocal, opened, opened_form, view, view_of_local, form_layer, initial_layer, core_layer, local_layer, local_of, declarators_of, expressions_of_locals}
 use Rattle.dm_tree.proofs.ListLemmas.{listed-trees}
 use Rattle.dm_tree.proofs.ViewLemmas.{view-core, opened-Convert}
 use Rattle.dm_meaning.specs.Statements as statements

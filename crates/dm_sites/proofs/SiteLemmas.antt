@@ -1,20 +1,19 @@
 -- The places of a unit, as the code keeps them.
-use Rattle.std.proofs.Common.{◌≡◌, ℕ, ◌+◌, ◌-◌, ◌<◌, ◌≤◌, zero, suc, Bool, true, false, cond, ◌&&◌, ◌||◌, List, [], ◌∷◌, ◌++◌, map, length, drop, reverse, Option, Some, None, slice_get, option_map, option_and_then, get_or, Bor, append_assoc, refl, sym, ap, subst, ◌∙◌, arith}
+use Rattle.std.proofs.Common.{◌≡◌, ℕ, ◌-◌, ◌<◌, ◌≤◌, suc, Bool, true, false, cond, ◌||◌, List, [], ◌∷◌, ◌++◌, map, length, drop, reverse, Option, Some, None, slice_get, option_map, get_or, Bor, append_assoc, refl, sym, ap, ◌∙◌, arith}
 use Rattle.std.specs.List.{find, HoldsAt}
 use Rattle.std.specs.Option.{option_copied, option_map_or, IfSome, MatchOption}
-use Rattle.std.proofs.lemmas.List.{drop-drop, reverse-append}
+use Rattle.std.proofs.lemmas.List.{drop-drop}
 use Rattle.std.proofs.lemmas.Option.{slice_get-map, slice_get_read, slice_get_past}
 use Rattle.dm_token.specs.declared.place.Span.{Span}
 use Rattle.dm_type.specs.Tables.{Table}
 use Rattle.dm_tree.specs.Paths.{Path}
-use Rattle.dm_tree.specs.Trees.{Label, Spans, Tree, spans_of}
-use Rattle.dm_tree.specs.Views.{view}
+use Rattle.dm_tree.specs.Trees.{Label, Spans, Tree}
 use Rattle.dm_sites.specs.declared.site.Above.{Above}
 use Rattle.dm_sites.specs.declared.site.Site.{Site as CodeSite}
-use Rattle.dm_sites.specs.Links.{ends, key, is_key, key_in, next_from, linked, passes, AreLinked, AreLinkedFrom}
+use Rattle.dm_sites.specs.Links.{ends, is_key, key_in, next_from, linked, passes, AreLinked}
 use Rattle.dm_sites.specs.Seen.{above_in, above_at, path_of, path_at, path_below, seen}
 use Rattle.dm_sites.specs.Sites.{Site, is_in_type_name, is_site_of, is_sizeof, operand_site}
-use Rattle.dm_sites.specs.Standing.{is_apart, is_value}
+use Rattle.dm_sites.specs.Standing.{is_apart}
 use Rattle.dm_sites.proofs.LinkLemmas.{drop-at, get-within, get-behind, none-found, next-found, Next}
 use Rattle.dm_sites.proofs.PlaceLemmas.{reversed-last}
 
@@ -129,7 +128,7 @@ module _ (all : List Site) (heads links : List (Option ℕ)) (are : AreLinked al
   sought-fewer m after sought linking =
       let within = sought-within m sought in
       let next : after ≡ next_from (ends span) (suc m) (drop (suc m) all) =
-          linking ∙ are.next m (ends span) (omega arith) (ap (λ (found : Option Site). is_key (ends span) (key_in found)) (there-of m sought) ∙ (next-of m sought).keyed) in
+      linking ∙ are.next m (ends span) (omega arith) (ap (λ (found : Option Site). is_key (ends span) (key_in found)) (there-of m sought) ∙ (next-of m sought).keyed) in
       by after next within
     where
       by : (after : Option ℕ) → after ≡ next_from (ends span) (suc m) (drop (suc m) all) → m < length all → places_left (length all) after < places_left (length all) (Some m)

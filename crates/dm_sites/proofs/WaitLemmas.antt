@@ -1,9 +1,7 @@
 -- Places that wait.
-use Rattle.std.proofs.Common.{◌≡◌, ℕ, ◌+◌, Bool, List, [], ◌∷◌, ◌++◌, map, reverse, length, append_assoc, append-nil, refl, sym, ap, ◌∙◌, arith, Bor}
-use Rattle.std.specs.List.{sum_by, flat_map}
-use Rattle.std.proofs.lemmas.List.{map-append, reverse-append, length-append, length-map}
-use Rattle.std.proofs.lemmas.List.Concat.{flat_map-append}
-use Rattle.dm_type.specs.Tables.{Table, no_type}
+use Rattle.std.proofs.Common.{◌≡◌, ℕ, ◌+◌, Bool, List, [], ◌∷◌, ◌++◌, map, reverse, length, append_assoc, append-nil, sym, ap, ◌∙◌, arith, Bor}
+use Rattle.std.proofs.lemmas.List.{map-append, reverse-append, length-map}
+use Rattle.dm_type.specs.Tables.{Table}
 use Rattle.dm_tree.specs.declared.tree.Core.{Core}
 use Rattle.dm_tree.specs.Paths.{Path}
 use Rattle.dm_tree.specs.Trees.{Tree, label_of, spans_of}

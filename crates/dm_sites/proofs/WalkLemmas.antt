@@ -1,20 +1,20 @@
 -- A walk that finds places one after another.
-use Rattle.std.proofs.Common.{◌≡◌, ℕ, ◌+◌, zero, suc, Bool, true, false, List, [], ◌∷◌, ◌++◌, map, reverse, length, Option, Some, slice_get, append_assoc, append-nil, refl, sym, ap, ◌∙◌, arith, Bor}
-use Rattle.std.specs.List.{sum_by, flat_map}
+use Rattle.std.proofs.Common.{◌≡◌, ℕ, ◌+◌, true, false, List, [], ◌∷◌, ◌++◌, map, reverse, length, Option, Some, slice_get, append-nil, refl, sym, ap, ◌∙◌, arith}
+use Rattle.std.specs.List.{sum_by}
 use Rattle.std.specs.Option.{option_map_or}
-use Rattle.std.proofs.lemmas.List.{map-append, reverse-append, reverse-reverse, length-map}
+use Rattle.std.proofs.lemmas.List.{reverse-reverse, length-map}
 use Rattle.std.proofs.lemmas.List.Concat.{flat_map-append}
 use Rattle.std.proofs.lemmas.List.Sums.{sum_by-cons, sum_by_push}
 use Rattle.dm_type.specs.Tables.{Table, no_type}
 use Rattle.dm_tree.specs.declared.tree.Core.{Core}
 use Rattle.dm_tree.specs.Paths.{Path, nodes_in}
 use Rattle.dm_tree.specs.Trees.{Tree, label_of, spans_of, parts_of, is_statement}
-use Rattle.dm_tree.specs.Units.{Declaration, External}
+use Rattle.dm_tree.specs.Units.{Declaration}
 use Rattle.dm_tree.specs.Views.{view}
 use Rattle.dm_sites.specs.declared.site.Site.{Site as CodeSite}
 use Rattle.dm_sites.specs.Rows.{nodes_left}
 use Rattle.dm_sites.specs.Seen.{path_of, path_at, seen}
-use Rattle.dm_sites.specs.Sites.{Site, statement_parts, operand_sites, sites_in, all_sites, external_sites}
+use Rattle.dm_sites.specs.Sites.{Site, statement_parts, operand_sites, sites_in, all_sites}
 use Rattle.dm_sites.specs.Walks.{IsLeft, at_path, operands_at}
 use Rattle.dm_sites.proofs.NodeLemmas.{core-divides}
 use Rattle.dm_sites.proofs.PlaceLemmas.{tree_of, statement-sites, expression-sites, statement-trees, operand-trees, nodes_at, nodes-fewer, step-left, reversed-last}
@@ -55,10 +55,10 @@ module _ (types : Table) (declared : List Declaration) (all rest : List Site) wh
       let below = all_sites declared (operand_sites one (label_of one.tree) (spans_of one.tree) 0 (parts_of one.tree)) in
       let others = all_sites declared (reverse (map (seen types all) waiting)) in
       let whole : all ≡ map (seen types all) found ++ (one ∷ ((below ++ others) ++ rest)) =
-          left.same
-          ∙ (ap (λ (them : List Site). map (seen types all) found ++ (all_sites declared (reverse them) ++ rest)) (seen-last types all waiting site)
-          ∙ (ap (λ (them : List Site). map (seen types all) found ++ (all_sites declared them ++ rest)) (reversed-last (map (seen types all) waiting) one)
-          ∙ ap (λ (here : List Site). map (seen types all) found ++ ((here ++ others) ++ rest)) (expression-sites declared one (core-divides types site.tree.now) expression))) in
+      left.same
+      ∙ (ap (λ (them : List Site). map (seen types all) found ++ (all_sites declared (reverse them) ++ rest)) (seen-last types all waiting site)
+      ∙ (ap (λ (them : List Site). map (seen types all) found ++ (all_sites declared them ++ rest)) (reversed-last (map (seen types all) waiting) one)
+      ∙ ap (λ (here : List Site). map (seen types all) found ++ ((here ++ others) ++ rest)) (expression-sites declared one (core-divides types site.tree.now) expression))) in
       ap (λ (found : Option Site). option_map_or path_of found [])
       (ap (λ (n : ℕ). slice_get all n) (sym (length-map found (seen types all)))
       ∙ (ap (λ (them : List Site). slice_get them (length (map (seen types all) found))) whole ∙ at-seam (map (seen types all) found) ((below ++ others) ++ rest) one))

@@ -1,5 +1,5 @@
 -- Small units: the examples of `src/examples.rt`. A tree stands at tokens by their numbers.
-use Rattle.std.specs.Prelude.{ℕ, ◌+◌, ◌-◌, Bool, true, false, List, [], ◌∷◌, Option, Some, None, pos, codes}
+use Rattle.std.specs.Prelude.{ℕ, ◌+◌, ◌-◌, Bool, true, false, List, [], ◌∷◌, Some, pos, codes}
 use Rattle.dm_token.specs.declared.place.Place.{Place}
 use Rattle.dm_token.specs.declared.place.Span.{Span}
 use Rattle.dm_int.specs.declared.Kind.TheVariants.{Int, Long, ULong}
@@ -8,7 +8,7 @@ use Rattle.dm_type.specs.CTypes.{CType, void, integer, pointer, array}
 use Rattle.dm_tree.specs.declared.unit.Sort.TheVariants.{Object}
 use Rattle.dm_tree.specs.declared.unit.Linkage.TheVariants.{Absent}
 use Rattle.dm_tree.specs.Paths.{Path}
-use Rattle.dm_tree.specs.Trees.{Label, number, object, read, decay, convert, follow, binary, comma, sizeof_tree, block, declare, full, case, return, Spans, Tree, node, trees, Initialiser, one_expression}
+use Rattle.dm_tree.specs.Trees.{Label, number, object, read, decay, convert, follow, binary, comma, sizeof_tree, block, declare, full, case, return, Spans, Tree, node, trees, one_expression}
 use Rattle.dm_tree.specs.Units.{Declaration, External, declares, defines_function, TypedUnit}
 use Rattle.dm_sites.specs.Sites.{Site}
 

@@ -6,7 +6,7 @@ use Rattle.std.specs.Prelude.{◌≡◌, ℕ, List, ◌++◌, map, reverse, Opti
 use Rattle.dm_type.specs.Tables.{Table}
 use Rattle.dm_tree.specs.declared.unit.CoreUnit.{CoreUnit}
 use Rattle.dm_tree.specs.Paths.{Path}
-use Rattle.dm_tree.specs.Trees.{Tree, label_of, spans_of, parts_of}
+use Rattle.dm_tree.specs.Trees.{Tree, label_of, spans_of}
 use Rattle.dm_tree.specs.Units.{Declaration}
 use Rattle.dm_tree.specs.Views.{view_of_unit}
 use Rattle.dm_sites.specs.declared.site.Site.{Site as CodeSite}

@@ -39,10 +39,7 @@ fn list_optional<'a>(tree: Option<&'a Core>, row: &mut Vec<&'a Core>) -> Result<
 }
 
 /// Lists some trees.
-pub(crate) fn list_trees<'a>(
-    trees: &'a [Core],
-    row: &mut Vec<&'a Core>,
-) -> Result<(), Memory>
+pub(crate) fn list_trees<'a>(trees: &'a [Core], row: &mut Vec<&'a Core>) -> Result<(), Memory>
     ensures { OnOk result ((types : Table) → trees_in types row.new.items ≡ trees_in types row.old.items ++ map (view types) trees.now) }
 {
     let mut left = trees;

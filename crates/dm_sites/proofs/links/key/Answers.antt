@@ -1,5 +1,5 @@
 -- A value that is an expression of its own has a key.
-use Rattle.std.proofs.Common.{◌≡◌, Bool, true, false, cond, ◌&&◌, Option, Some, None, ap, refl, sym, ◌∙◌}
+use Rattle.std.proofs.Common.{Bool, cond, ◌&&◌, Some, None, ap, sym, ◌∙◌}
 use Rattle.dm_tree.specs.Trees.{Spans, spans_of}
 use Rattle.dm_tree.specs.Views.{view}
 use Rattle.dm_sites.specs.Links.{ends}
@@ -19,8 +19,8 @@ pub returns-else-site : goal.returns-else-site
 returns-else-site c types all =
     let tree = view types c.args.site.now.tree.now in
     elim c.else-site.branch [
-      else-site-via-then-site+else-is_value w ↦
+      | else-site-via-then-site+else-is_value w ↦
           ap (λ (b : Bool). cond (b && is_value tree) (Some (ends (spans_of tree).inner)) None) w.if-site.true
           ∙ ap (λ (b : Bool). cond b (Some (ends (spans_of tree).inner)) None) (w.is_value.ensures types ∙ w.if-is_value.false)
-    | else-site-via-else-site w ↦ ap (λ (b : Bool). cond (b && is_value tree) (Some (ends (spans_of tree).inner)) None) w.if-site.false
+      | else-site-via-else-site w ↦ ap (λ (b : Bool). cond (b && is_value tree) (Some (ends (spans_of tree).inner)) None) w.if-site.false
     ]

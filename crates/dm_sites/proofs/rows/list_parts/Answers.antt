@@ -12,10 +12,10 @@ pub returns : goal.returns
 returns c types =
     let parts = c.parts_of-parts.result in
     listed-six (row types c.args.row.now.items) (row types c.list_optional.new.row.items) (row types c.list_optional-2.new.row.items) (row types c.list_optional-3.new.row.items)
-        (row types c.list_optional-4.new.row.items) (row types c.list_trees.new.row.items) (row types c.list_locals.new.row.items)
-        (if_there (option_map (view types) (option_copied parts.first))) (if_there (option_map (view types) (option_copied parts.second)))
-        (if_there (option_map (view types) (option_copied parts.third))) (if_there (option_map (view types) (option_copied parts.fourth)))
-        (map (view types) parts.items.now) (expressions_of_locals (map (view_of_local types) parts.locals.now))
-        (c.in_ok-list_optional.ensures types) (c.in_ok-list_optional-2.ensures types) (c.in_ok-list_optional-3.ensures types) (c.in_ok-list_optional-4.ensures types)
-        (c.in_ok-list_trees.ensures types) (c.in_ok-list_locals.ensures types)
+    (row types c.list_optional-4.new.row.items) (row types c.list_trees.new.row.items) (row types c.list_locals.new.row.items)
+    (if_there (option_map (view types) (option_copied parts.first))) (if_there (option_map (view types) (option_copied parts.second)))
+    (if_there (option_map (view types) (option_copied parts.third))) (if_there (option_map (view types) (option_copied parts.fourth)))
+    (map (view types) parts.items.now) (expressions_of_locals (map (view_of_local types) parts.locals.now))
+    (c.in_ok-list_optional.ensures types) (c.in_ok-list_optional-2.ensures types) (c.in_ok-list_optional-3.ensures types) (c.in_ok-list_optional-4.ensures types)
+    (c.in_ok-list_trees.ensures types) (c.in_ok-list_locals.ensures types)
     ∙ ap (λ (all : List Tree). row types c.args.row.now.items ++ all) (c.parts_of-parts.ensures.same types)

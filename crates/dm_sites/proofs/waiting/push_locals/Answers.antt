@@ -1,5 +1,5 @@
 -- The last declarator is pushed.
-use Rattle.std.proofs.Common.{[], map, rules, ap, ◌≡◌, ◌∙◌, List}
+use Rattle.std.proofs.Common.{map, rules, ap, List}
 use Rattle.std.proofs.lemmas.List.{nil_from_length}
 use Rattle.dm_tree.specs.declared.tree.Local.{Local}
 use Rattle.dm_tree.specs.Views.{entries_of, view_of_local}

@@ -2,7 +2,6 @@
 use Rattle.std.proofs.Common.{[], ℕ, length, refl, rules, ap, ◌∙◌, ◌≡◌}
 use Rattle.dm_tree.specs.Trees.{label_of, spans_of}
 use Rattle.dm_tree.specs.Views.{view}
-use Rattle.dm_sites.specs.Rows.{row}
 use Rattle.dm_sites.specs.Seen.{path_at, seen}
 use Rattle.dm_sites.specs.Sites.{operand_site}
 use Rattle.dm_sites.specs.Walks.{at_path, operands_at}

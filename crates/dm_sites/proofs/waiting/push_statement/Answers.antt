@@ -18,13 +18,13 @@ returns-in_ok-push_whole-in-Declare-clause-places c types all =
     let declared = entries_of types c.args.declared.now in
     let old = map (seen types all) c.args.waiting.now.items in
     pushed-twice old (map (seen types all) c.push_locals.new.waiting.items) (map (seen types all) c.push_whole.new.waiting.items)
-        (declarator_sites declared (map as_local (map (view_of_local types) c.items.result.now))) (map (whole true false) (row types c.list_trees.new.row.items))
-        (c.in_ok-push_locals-in-Declare.ensures.places types all) (c.in_ok-push_whole-in-Declare.ensures.places types all)
+    (declarator_sites declared (map as_local (map (view_of_local types) c.items.result.now))) (map (whole true false) (row types c.list_trees.new.row.items))
+    (c.in_ok-push_locals-in-Declare.ensures.places types all) (c.in_ok-push_whole-in-Declare.ensures.places types all)
     ∙ ap (λ (them : List Site). old ++ reverse them)
     (ap (λ (trees : List Tree). map (whole true false) trees ++ declarator_sites declared (map as_local (map (view_of_local types) c.items.result.now)))
-        (listed-alone types c.push_locals.new.row.items c.list_trees.new.row.items (map (view types) c.items-in-Declare.result.now) c.in_ok-push_locals-in-Declare.ensures.empty
-        (c.in_ok-list_trees-in-Declare.ensures types)
-        ∙ ap (λ (trees : List Core). map (view types) trees) c.items-in-Declare.ensures)
+    (listed-alone types c.push_locals.new.row.items c.list_trees.new.row.items (map (view types) c.items-in-Declare.result.now) c.in_ok-push_locals-in-Declare.ensures.empty
+    (c.in_ok-list_trees-in-Declare.ensures types)
+    ∙ ap (λ (trees : List Core). map (view types) trees) c.items-in-Declare.ensures)
     ∙ (ap (λ (locals : List Local). map (whole true false) (map (view types) c.in-Declare.lengths) ++ declarator_sites declared (map as_local (map (view_of_local types) locals))) c.items.ensures
     ∙ sym (parts-Declare types declared c.args.statement.now c.in-Declare.lengths c.in-Declare.locals c.in-Declare.is)))
 

@@ -1,12 +1,11 @@
 -- A statement has no place of its own; an expression has.
-use Rattle.std.proofs.Common.{[], ◌++◌, ◌∷◌, ℕ, length, map, reverse, ap, subst, sym, ◌∙◌, ◌≡◌, rules, List}
+use Rattle.std.proofs.Common.{[], ◌++◌, ℕ, length, map, reverse, ap, subst, sym, ◌∙◌, ◌≡◌, rules, List}
 use Rattle.dm_type.specs.Tables.{no_type}
-use Rattle.dm_tree.specs.Trees.{is_statement, parts_of}
-use Rattle.dm_tree.specs.Views.{entries_of, view}
+use Rattle.dm_tree.specs.Trees.{is_statement}
+use Rattle.dm_tree.specs.Views.{entries_of}
 use Rattle.dm_sites.specs.declared.site.Site.{Site as CodeSite}
 use Rattle.dm_sites.specs.Rows.{row}
 use Rattle.dm_sites.specs.Seen.{path_at, seen}
-use Rattle.dm_sites.specs.Sites.{Site}
 use Rattle.dm_sites.specs.Walks.{IsLeft, operands_at}
 use Rattle.dm_sites.proofs.NodeLemmas.{label-view, parts-view}
 use Rattle.dm_sites.proofs.WaitLemmas.{listed-alone}

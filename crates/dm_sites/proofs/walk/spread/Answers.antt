@@ -1,5 +1,5 @@
 -- What waits last enters.
-use Rattle.std.proofs.Common.{[], ◌++◌, ◌∷◌, List, subst, ◌≡◌, rules, arith}
+use Rattle.std.proofs.Common.{[], List, subst, ◌≡◌, rules, arith}
 use Rattle.dm_tree.specs.Views.{entries_of}
 use Rattle.dm_sites.specs.declared.site.Site.{Site as CodeSite}
 use Rattle.dm_sites.specs.Walks.{IsLeft}

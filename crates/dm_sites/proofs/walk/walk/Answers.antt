@@ -1,5 +1,5 @@
 -- The external declarations one after another.
-use Rattle.std.proofs.Common.{[], ◌++◌, ◌∷◌, List, map, append-nil, ap, sym, ◌∙◌, ◌≡◌, rules}
+use Rattle.std.proofs.Common.{◌++◌, List, map, append-nil, ap, sym, ◌∙◌, rules}
 use Rattle.std.proofs.lemmas.List.{nil_from_length}
 use Rattle.std.specs.List.{flat_map}
 use Rattle.dm_tree.specs.declared.unit.CoreExternal.{CoreExternal}

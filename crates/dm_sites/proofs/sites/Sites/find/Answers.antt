@@ -1,5 +1,5 @@
 -- The place that is next with the same sum of ends is the one that is sought, or isn't.
-use Rattle.std.proofs.Common.{◌≡◌, ◌<◌, ℕ, List, Option, Some, None, map, length, slice_get, ap, subst, sym, ◌∙◌, rules}
+use Rattle.std.proofs.Common.{◌≡◌, ◌<◌, ℕ, List, Option, None, map, length, slice_get, ap, subst, sym, ◌∙◌, rules}
 use Rattle.std.proofs.lemmas.List.{length-map}
 use Rattle.dm_type.specs.Tables.{no_type}
 use Rattle.dm_tree.specs.declared.unit.CoreUnit.{CoreUnit}

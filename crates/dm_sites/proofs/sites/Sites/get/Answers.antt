@@ -1,5 +1,5 @@
 -- The place with this number.
-use Rattle.std.proofs.Common.{◌≡◌, List, Option, slice_get, option_map, ap, subst, sym, ◌∙◌}
+use Rattle.std.proofs.Common.{◌≡◌, List, slice_get, option_map, ap, subst, sym, ◌∙◌}
 use Rattle.std.specs.Option.{option_copied}
 use Rattle.dm_tree.specs.declared.unit.CoreUnit.{CoreUnit}
 use Rattle.dm_tree.specs.Views.{view_of_unit}

@@ -1,5 +1,5 @@
 -- The walk finds all places, and they are linked.
-use Rattle.std.proofs.Common.{map, ◌≡◌, List, ap, subst, sym, ◌∙◌}
+use Rattle.std.proofs.Common.{map, List, ap, ◌∙◌}
 use Rattle.dm_tree.specs.Views.{view_of_unit}
 use Rattle.dm_sites.specs.declared.site.Site.{Site as CodeSite}
 use Rattle.dm_sites.specs.Seen.{seen}

@@ -1,5 +1,5 @@
 -- A step of the way, from the inside out.
-use Rattle.std.proofs.Common.{◌≡◌, [], ◌++◌, ◌∷◌, List, Some, None, length, reverse, length-append, ap, subst, sym, ◌∙◌, arith}
+use Rattle.std.proofs.Common.{◌≡◌, [], ◌++◌, ◌∷◌, List, length, reverse, length-append, ap, subst, sym, ◌∙◌, arith}
 use Rattle.dm_type.specs.Tables.{no_type}
 use Rattle.dm_tree.specs.declared.unit.CoreUnit.{CoreUnit}
 use Rattle.dm_tree.specs.Paths.{Path}
