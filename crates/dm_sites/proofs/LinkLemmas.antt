@@ -79,24 +79,6 @@ module _ (all : List Site) (n : ℕ) (one : Site) (there : slice_get all n ≡ S
           let ne = eqb-false n m differs in
           linking m ∙ (ap (λ (b : Bool). cond b (linked heads sum) (linked links m)) differs ∙ h.next m other (omega (arith, le, ne)) is)
 
--- none is linked where there are no places left
-pub linked-none : (all : List Site) (n : ℕ) (heads links : List (Option ℕ)) → length all ≤ n → ((m : ℕ) → linked heads m ≡ None) → AreLinkedFrom n all heads links
-linked-none all n heads links none empty = record {
-  first = λ sum. empty sum ∙ sym (ap (next_from sum n) (dropped all n none));
-  next = λ m sum le is. absurd (true≢false (sym is ∙ ap (λ (found : Option Site). is_key sum (key_in found)) (past all m (omega (arith, le, none)))));
-}
-  where
-    dropped : (all : List Site) (n : ℕ) → length all ≤ n → drop n all ≡ []
-    dropped [] zero le = refl
-    dropped [] (suc n) le = refl
-    dropped (first ∷ all) zero le = absurd (omega arith)
-    dropped (first ∷ all) (suc n) le = dropped all n (omega (arith, le))
-
-    past : (all : List Site) (m : ℕ) → length all ≤ m → slice_get all m ≡ None
-    past [] m le = refl
-    past (first ∷ all) zero le = absurd (omega arith)
-    past (first ∷ all) (suc m) le = past all m (omega (arith, le))
-
 -- ---- an expression's tokens have the sum of its ends
 
 extent-ends : (span : Span) (spans : Spans) → is_extent span spans ≡ true → ends spans.inner ≡ ends span
