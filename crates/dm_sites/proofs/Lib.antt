@@ -1,3 +1,4 @@
+pub mod LeadLemmas
 pub mod LinkLemmas
 pub mod NodeLemmas
 pub mod PlaceLemmas

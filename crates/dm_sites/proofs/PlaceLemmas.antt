@@ -38,7 +38,7 @@ sum-reverse f (x ∷ xs) =
 
 -- ---- trees at places
 
-whole-trees : (constant fixed : Bool) (parts : List Tree) → map tree_of (map (whole constant fixed) parts) ≡ parts
+pub whole-trees : (constant fixed : Bool) (parts : List Tree) → map tree_of (map (whole constant fixed) parts) ≡ parts
 whole-trees constant fixed [] = refl
 whole-trees constant fixed (part ∷ parts) = ap (λ rest. part ∷ rest) (whole-trees constant fixed parts)
 
@@ -46,7 +46,7 @@ pub operand-trees : (site : Site) (label : Label) (spans : Spans) (n : ℕ) (par
 operand-trees site label spans n [] = refl
 operand-trees site label spans n (part ∷ parts) = ap (λ rest. part ∷ rest) (operand-trees site label spans (suc n) parts)
 
-declarator-trees : (declared : List Declaration) (locals : List Local) → map tree_of (declarator_sites declared locals) ≡ flat_map (λ (one : Local). one.expressions) locals
+pub declarator-trees : (declared : List Declaration) (locals : List Local) → map tree_of (declarator_sites declared locals) ≡ flat_map (λ (one : Local). one.expressions) locals
 declarator-trees declared [] = refl
 declarator-trees declared (one ∷ locals) =
     map-append tree_of (initial_sites declared one) (declarator_sites declared locals)

@@ -3,6 +3,7 @@
 #![tactic(auto)]
 
 mod examples;
+mod laws;
 mod links;
 mod rows;
 mod site;
@@ -12,5 +13,6 @@ mod waiting;
 mod walk;
 
 pub use examples::{expressions_stand_at_tokens, places_tell_what_stands_round_them};
+pub use laws::places_of_expressions;
 pub use site::{Above, Site};
 pub use sites::Sites;

@@ -135,11 +135,11 @@ fn places_are_found_by_their_tokens(rt: HostRuntime) -> Result<(), Fail> {
 }
 
 #[test]
-fn half_a_million_commas_are_walked_over(rt: HostRuntime) -> Result<(), Fail> {
+fn a_hundred_thousand_commas_are_walked_over(rt: HostRuntime) -> Result<(), Fail> {
     let mut types = Types::new(rt.alloc())?;
     let int = types.intern(Shape::Integer(Kind::Int))?;
     let mut tree = node(Form::Number(0), int, 20, 21);
-    for _part in 0..500000u32 {
+    for _part in 0..100000u32 {
         let last = Boxed::new(rt.alloc(), node(Form::Number(1), int, 22, 23))?;
         let first = Boxed::new(rt.alloc(), tree)?;
         tree = node(Form::Comma(first, last), int, 20, 30);
@@ -147,8 +147,8 @@ fn half_a_million_commas_are_walked_over(rt: HostRuntime) -> Result<(), Fail> {
     let unit = unit(rt.alloc(), int, tree)?;
     let sites = Sites::of(rt.alloc(), &unit)?;
     assert_eq!(rt; sites.find(span(20, 30)), Some(1));
-    assert_eq!(rt; sites.find(span(20, 21)), Some(500001));
-    let way = sites.path(rt.alloc(), 500001)?;
-    assert_eq!(rt; way.items().len(), 500000);
+    assert_eq!(rt; sites.find(span(20, 21)), Some(100001));
+    let way = sites.path(rt.alloc(), 100001)?;
+    assert_eq!(rt; way.items().len(), 100000);
     Ok(())
 }
