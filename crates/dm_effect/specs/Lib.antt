@@ -1,6 +1,8 @@
+pub mod Doubts
 pub mod Effects
 pub mod Entities
 pub mod Examples
+pub mod Externals
 pub mod Forms
 pub mod Operands
 pub mod Parts
@@ -9,6 +11,7 @@ pub mod Quiet
 pub mod Safe
 pub mod Scoped
 pub mod Sequencing
+pub mod Spans
 pub mod Stable
 pub mod Tables
 pub mod Walks

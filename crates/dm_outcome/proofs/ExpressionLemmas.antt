@@ -1,16 +1,15 @@
 -- The typing of expressions and type names gives the same where types have other numbers, and what is known behind it is the same by the
 -- other numbers.
-use Rattle.std.specs.Prelude.{◌≡◌, ℕ, ℤ, pos, ◌+ℤ◌, negsuc, Bool, true, false, ◌&&◌, not, if◌then◌else◌, List, [], ◌∷◌, ◌++◌, length, Option, Some, None, is_some, option_and_then, unwrap_or, slice_get, bytes_eq, codes, refl}
-use Rattle.std.proofs.Common.{sym, ap, ap₂, ◌∙◌, subst}
+use Rattle.std.specs.Prelude.{◌≡◌, ℕ, ℤ, pos, ◌+ℤ◌, negsuc, Bool, true, false, ◌&&◌, not, if◌then◌else◌, List, [], ◌∷◌, length, Option, Some, None, is_some, option_and_then, unwrap_or, bytes_eq, codes, refl}
+use Rattle.std.proofs.Common.{sym, ap, ap₂, subst}
 use Rattle.std.proofs.lemmas.List.{length-map}
 use Rattle.dm_token.specs.declared.place.Span.{Span}
-use Rattle.dm_token.specs.declared.token.CToken.{CToken}
 use Rattle.dm_int.specs.declared.Kind.TheVariants as k
 use Rattle.dm_int.specs.declared.Op.{Op}
 use Rattle.dm_type.specs.declared.shape.Shape.{Shape}
 use Rattle.dm_type.specs.CTypes.{CType, integer, struct, bare}
-use Rattle.dm_type.specs.Layouts.{contained, struct_layout}
-use Rattle.dm_type.specs.Tables.{Table, with_struct, with_content}
+use Rattle.dm_type.specs.Layouts.{contained}
+use Rattle.dm_type.specs.Tables.{Table, with_content}
 use Rattle.dm_scope.specs.Scopes.{number_of, is_declared}
 use Rattle.dm_syn.specs.declared.symbol.Symbol.{Symbol}
 use Rattle.dm_syn.specs.declared.symbol.Symbol.TheVariants as symbol
@@ -24,13 +23,13 @@ use Rattle.dm_tree.specs.Trees as label
 use Rattle.dm_tree.specs.Scenes.{is_lvalue, is_integer, is_scalar, is_function}
 use Rattle.dm_tree.specs.Units.{Declaration}
 use Rattle.dm_typing.specs.declared.extent.Extent.{Extent}
-use Rattle.dm_typing.specs.Rules.{named_by_sort, indexed, member_by_name, may_be_counted, signed, may_be_cast, operated, rule_of, arms, is_modifiable, is_assignable, called, updated}
+use Rattle.dm_typing.specs.Rules.{named_by_sort, signed, rule_of}
 use Rattle.dm_typing.specs.Operators.{row_at, operator_of_row, operator_of_assignment, sign_of_row}
-use Rattle.dm_typing.specs.Known.{meaning_of, Known, Setting, Outcome, given, broken, after, with_it, obeys, if_given, declaring, tag_key, tag_entry, place_at}
-use Rattle.dm_typing.specs.Conversions.{as_value, made, is_complete, complete_target, constant_of}
-use Rattle.dm_typing.specs.Specifiers.{type_said, are_allowed, Said, Where, elsewhere, nothing_said, with_said_const}
-use Rattle.dm_typing.specs.Typing.{may_be_used, comma_of, constant_tree, literal_tree, index_tree, is_name, is_function_label, number_if_struct, fields, is_file_scope, enumerator_entry, is_int, with_constant, length_fits, is_result, natural, parameter_entry, is_named, named, typed_index, typed_member, typed_arrow, typed_count, typed_sign, typed_prefix, typed_sizeof, typed_sizeof_name, typed_cast, typed_operation, typed_binary, typed_choice, typed_update, typed_assignment, typed_call, tag_declared, new_struct, spelled, tag_inside, tag_seen, struct_named, enum_named, struct_begun, with_new_struct, beginning, TypedMember, struct_ended, enumerator_declared, enumerator_valued, Step, pointing, arraying, calling, stepped, derived, direct_at, length_of, adjusted, is_new_parameter, parameter_declared, typed_parameter, parameter_at, entered, left, name_of, typed_field, typed_said, TypedName, name_ended, extent, typed_within, typed_values, typed_name, typed_specifiers, words_said, word_said, fields_of, fields_declared, fields_with, enumerators_of, enumerator_of, steps_of, direct_steps, parameters_of, parameter_of, typed}
-use Rattle.dm_outcome.proofs.Renumbered.{Renumbers, moved, moved_struct, table_at, at_one, at_other}
+use Rattle.dm_typing.specs.Known.{meaning_of, Known, Setting, Outcome, given, broken, after, with_it, obeys, if_given, declaring}
+use Rattle.dm_typing.specs.Conversions.{as_value, made}
+use Rattle.dm_typing.specs.Specifiers.{type_said, are_allowed, Said, Where, elsewhere, nothing_said}
+use Rattle.dm_typing.specs.Typing.{may_be_used, comma_of, index_tree, is_name, is_function_label, number_if_struct, fields, is_file_scope, enumerator_entry, is_int, with_constant, natural, parameter_entry, is_named, named, typed_index, typed_member, typed_arrow, typed_count, typed_sign, typed_prefix, typed_sizeof, typed_sizeof_name, typed_cast, typed_operation, typed_binary, typed_choice, typed_update, typed_assignment, typed_call, tag_declared, new_struct, tag_inside, tag_seen, struct_named, enum_named, struct_begun, with_new_struct, beginning, TypedMember, struct_ended, enumerator_declared, enumerator_valued, Step, pointing, arraying, calling, stepped, derived, direct_at, length_of, adjusted, is_new_parameter, parameter_declared, typed_parameter, parameter_at, entered, left, name_of, typed_field, typed_said, name_ended, extent, typed_within, typed_values, typed_name, typed_specifiers, words_said, word_said, fields_of, fields_declared, fields_with, enumerators_of, enumerator_of, steps_of, direct_steps, parameters_of, parameter_of, typed}
+use Rattle.dm_outcome.proofs.Renumbered.{Renumbers, moved_struct, table_at, at_one, at_other}
 use Rattle.dm_outcome.proofs.TableLemmas.{fields-laid-out, struct-added, content-added}
 use Rattle.dm_outcome.proofs.RuleLemmas.{complete-same, target-same, length-same, result-same, constant-of-same, indexed-same, member-same, modifiable-same, counted-same, cast-same, operated-same, arms-same, assignable-same, called-same, updated-same, begun-same}
 

@@ -1,5 +1,5 @@
 -- The typing of initialisers gives the same where types have other numbers.
-use Rattle.std.specs.Prelude.{◌≡◌, ℕ, zero, suc, ◌+◌, ℤ, Bool, true, false, ◌&&◌, ◌||◌, not, if◌then◌else◌, List, [], ◌∷◌, length, Option, Some, None, is_some, option_map, option_and_then, nat_lt, refl}
+use Rattle.std.specs.Prelude.{◌≡◌, ℕ, zero, suc, ◌+◌, Bool, true, false, ◌&&◌, ◌||◌, not, if◌then◌else◌, List, [], ◌∷◌, length, Option, Some, None, is_some, option_map, option_and_then, nat_lt, refl}
 use Rattle.std.proofs.Common.{sym, ap, ap₂, ◌∙◌, subst}
 use Rattle.std.proofs.lemmas.List.{length-map}
 use Rattle.dm_token.specs.declared.place.Span.{Span}
@@ -7,23 +7,21 @@ use Rattle.dm_int.specs.declared.Op.TheVariants as o
 use Rattle.dm_type.specs.declared.shape.Shape.{Shape}
 use Rattle.dm_type.specs.declared.shape.Struct.{Struct}
 use Rattle.dm_type.specs.CTypes.{CType, void, integer, pointer, array as array_type, struct as struct_type, function as function_type, const}
-use Rattle.dm_type.specs.Tables.{Table}
 use Rattle.dm_syn.specs.Trees.{Expr, Initialiser, Initialisers}
 use Rattle.dm_syn.specs.Trees as tree
 use Rattle.dm_syn.specs.Spans.{expr_span}
-use Rattle.dm_tree.specs.Constants.{is_constant_form, constant_value}
-use Rattle.dm_tree.specs.Initialisers.{Reach, nowhere, place, start, element_address, subscripted, reach_at, reach, reaches}
+use Rattle.dm_tree.specs.Constants.{is_constant_form}
+use Rattle.dm_tree.specs.Initialisers.{Reach, nowhere, start, element_address, subscripted, reach_at, reach, reaches}
 use Rattle.dm_tree.specs.Trees.{Label, Spans, Tree, Trees, node, no_trees, more_trees, kind_of, listed}
 use Rattle.dm_tree.specs.Trees as label
-use Rattle.dm_tree.specs.Scenes.{Scene, is_scalar, part_type}
-use Rattle.dm_typing.specs.Known.{Known, Setting, Outcome, given, broken, after, obeys, if_given}
-use Rattle.dm_typing.specs.Conversions.{as_value, as_type, constant_of, is_null}
-use Rattle.dm_typing.specs.Rules.{is_assignable}
+use Rattle.dm_tree.specs.Scenes.{is_scalar, part_type}
+use Rattle.dm_typing.specs.Known.{Known, Setting, Outcome, given, obeys}
+use Rattle.dm_typing.specs.Conversions.{as_value}
 use Rattle.dm_typing.specs.Sound.{scene_of}
 use Rattle.dm_typing.specs.Typing.{typed}
-use Rattle.dm_edecl.specs.Initialising.{Initial, Initials, no_initials, with_first, enclosed, single, comma_at, has_comma, have_commas, values_in, is_constant_expression, is_place, is_start, is_address_constant, is_static_value, has_value, scalar_initialised, is_string_for, initialised_by, First, deeper, first_if_scalar, first_in_array, first_in_struct, first_within, first_scalar, braced, zero_initialised, expressions_alone, all_expressions_alone, misplaced, scalar_in_braces, is_zero_list, all_zero, if_part, typed_initialiser, typed_initialisers}
+use Rattle.dm_edecl.specs.Initialising.{single, comma_at, has_comma, have_commas, values_in, is_constant_expression, is_place, is_start, is_address_constant, is_static_value, has_value, scalar_initialised, is_string_for, initialised_by, First, deeper, first_if_scalar, first_in_array, first_in_struct, first_within, first_scalar, zero_initialised, expressions_alone, all_expressions_alone, misplaced, scalar_in_braces, is_zero_list, all_zero, if_part, typed_initialiser, typed_initialisers}
 use Rattle.dm_outcome.proofs.Renumbered.{Renumbers, moved, moved_struct, table_at, at_one, at_other}
-use Rattle.dm_outcome.proofs.TableLemmas.{and-then-same, chosen, constant-value-same, part-same}
+use Rattle.dm_outcome.proofs.TableLemmas.{and-then-same, constant-value-same, part-same}
 use Rattle.dm_outcome.proofs.RuleLemmas.{constant-of-same, null-same, assignable-same}
 use Rattle.dm_outcome.proofs.ExpressionLemmas.{Both, gives, breaks, after-both, obeys-both, if-both, expr-both}
 

@@ -1,12 +1,12 @@
 -- Any two lists of shapes go on to lists that have the same types, and so one is the other with other numbers.
-use Rattle.std.specs.Prelude.{unwrap_or, if◌then◌else◌, ◌≡◌, ℕ, zero, suc, ◌+◌, ◌<◌, ◌≤◌, Bool, true, false, ◌||◌, List, [], ◌∷◌, ◌++◌, length, map, fold, Option, Some, None, slice_get, refl}
-use Rattle.std.proofs.Common.{sym, ap, ap₂, ◌∙◌, subst, arith, append_assoc, append-nil}
+use Rattle.std.specs.Prelude.{unwrap_or, if◌then◌else◌, ◌≡◌, ℕ, zero, suc, ◌+◌, ◌≤◌, Bool, true, false, ◌||◌, List, [], ◌∷◌, ◌++◌, length, map, fold, Option, Some, None, slice_get, refl}
+use Rattle.std.proofs.Common.{sym, ap, ap₂, ◌∙◌, arith, append_assoc, append-nil}
 use Rattle.std.proofs.lemmas.List.{get_or-append-add}
 use Rattle.std.proofs.lemmas.List.Sums.{fold-append}
 use Rattle.std.proofs.lemmas.Option.{slice_get_past, unwrap_or-slice_get, get_or_from_slice_get}
 use Rattle.dm_type.specs.declared.shape.Shape.{Shape}
 use Rattle.dm_type.specs.declared.shape.Shape.TheVariants.{Void, Integer, Pointer, Array, Struct, Function, Const}
-use Rattle.dm_type.specs.CTypes.{CType, void, integer, pointer, array, struct, function, all_of, with_const}
+use Rattle.dm_type.specs.CTypes.{CType, void, pointer, array, function, all_of, with_const}
 use Rattle.dm_type.specs.TableLaws.{injected}
 use Rattle.dm_type.specs.Tables.{at, written_out, types_of}
 use Rattle.dm_typing.specs.Conversions.{is_same}

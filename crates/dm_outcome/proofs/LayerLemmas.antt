@@ -1,5 +1,5 @@
 -- The layers of a unit's tokens come to one answer.
-use Rattle.std.specs.Prelude.{◌≡◌, ℕ, List, map, Option, Some, None, MatchOption, slice_get, Result, Ok, Err, refl}
+use Rattle.std.specs.Prelude.{◌≡◌, ℕ, List, map, Option, Some, None, MatchOption, slice_get, Result, Ok, Err}
 use Rattle.std.proofs.Common.{sym, ap, ◌∙◌, subst, inl, inr}
 use Rattle.dm_token.specs.declared.stop.Limit.{Limit}
 use Rattle.dm_token.specs.declared.stop.Refusal.{Refusal}
@@ -60,6 +60,9 @@ module _ (one-syntax : (tokens : List CToken) (a b : List External) → IsSyntax
 
   -- ---- a refusal is one
 
+  same-stops : (one other : Refusal) → ◌≡◌ {A = Result (List CToken) Refusal} (Err one) (Err other) → stop.Refused other ≡ stop.Refused one
+  same-stops one other same = cc
+
   abbrev IsRefusalOf : Refusal → Option CToken → Type 0
   IsRefusalOf refusal found = MatchOption found ⊥ (λ token. refusal ≡ record { number = 16; detail = 0; place = token.place })
 
@@ -73,7 +76,7 @@ module _ (one-syntax : (tokens : List CToken) (a b : List External) → IsSyntax
       one-token (slice_get made first.0) one other first.2 (subst (λ at. IsRefusalOf other (slice_get made at)) place second.2)
 
   one-refusal : (one other : Refusal) → HasLayers tokens (Err (stop.Refused one)) → HasLayers tokens (Err (stop.Refused other)) → stop.Refused other ≡ stop.Refused one
-  one-refusal one other (inl first) (inl second) = let same : Err {A = List CToken} one ≡ Err other = sym first ∙ second in cc
+  one-refusal one other (inl first) (inl second) = same-stops one other (sym first ∙ second)
   one-refusal one other (inl first) (inr (made, are, rest)) = absurd (not-both made one are first)
   one-refusal one other (inr (made, are, rest)) (inl second) = absurd (not-both made other are second)
   one-refusal one other (inr (made, are, inl first)) (inr (others, again, inl second)) =

@@ -1,5 +1,5 @@
 -- A unit comes to one typed unit, or to one refusal.
-use Rattle.std.specs.Prelude.{◌≡◌, ℕ, ◌&&◌, List, [], ◌∷◌, map, length, Option, Some, None, option_map, Result, Ok, Err, refl}
+use Rattle.std.specs.Prelude.{◌≡◌, ℕ, ◌&&◌, List, [], ◌∷◌, map, Option, Some, None, option_map, Result, Ok, Err, refl}
 use Rattle.std.specs.List.{list_all}
 use Rattle.std.proofs.Common.{sym, ap, ap₂, ◌∙◌, subst, arith}
 use Rattle.std.proofs.lemmas.Bool.{and_parts}
@@ -12,23 +12,22 @@ use Rattle.dm_type.specs.declared.shape.Member.{Member}
 use Rattle.dm_type.specs.declared.shape.Shape.{Shape}
 use Rattle.dm_type.specs.declared.shape.Struct.{Struct}
 use Rattle.dm_type.specs.Tables.{Table, at, types_of, type_of}
-use Rattle.dm_syn.specs.Sources.{Source}
 use Rattle.dm_syn.specs.Trees.{External}
 use Rattle.dm_tree.specs.declared.unit.CoreUnit.{CoreUnit}
 use Rattle.dm_tree.specs.TypeNumbers.{entry_has_known}
 use Rattle.dm_tree.specs.Units.{TypedUnit}
 use Rattle.dm_tree.specs.Views.{view_of_unit}
-use Rattle.dm_typing.specs.Known.{Known, Outcome, given, broken}
-use Rattle.dm_typing.specs.Views.{Begins, table_over, refusal_at}
+use Rattle.dm_typing.specs.Known.{Outcome, given, broken}
+use Rattle.dm_typing.specs.Views.{table_over, refusal_at}
 use Rattle.dm_edecl.specs.Units.{unit_setting, typed_unit}
 use Rattle.dm_reading.specs.Elaborated.{Elaborates}
-use Rattle.dm_outcome.specs.Outcomes.{shown_member, shown_content, shown_struct, AreSameStructs, IsSameUnit, AreOneOutcome}
-use Rattle.dm_outcome.proofs.Renumbered.{Renumbers, moved_member, moved_content, moved_struct, moved, table_at, at_one, at_other}
+use Rattle.dm_outcome.specs.Outcomes.{shown_member, shown_content, shown_struct, IsSameUnit, AreOneOutcome}
+use Rattle.dm_outcome.proofs.Renumbered.{Renumbers, moved_member, moved_content, moved}
 use Rattle.dm_outcome.proofs.ExpressionLemmas.{Both, gives, breaks}
 use Rattle.dm_outcome.proofs.UnitLemmas.{unit-both}
 use Rattle.dm_outcome.proofs.JoinLemmas.{joined, begins-joined, new_number, renumbers}
 use Rattle.dm_outcome.proofs.PaddingLemmas.{padded, begins-padded, kinds-stay}
-use Rattle.dm_outcome.proofs.SeenLemmas.{trees_below, struct_below, unit_below, unit-bounded, unit-same, structs-same}
+use Rattle.dm_outcome.proofs.SeenLemmas.{trees_below, struct_below, unit-bounded, unit-same, structs-same}
 
 -- ---- what two answers with other numbers say of one another
 
@@ -48,7 +47,7 @@ module _ (one other : List Shape) (number : ℕ → ℕ) (re : Renumbers one oth
   members-moved old new first second [] = refl
   members-moved old new first second (member ∷ others) =
       let kind : type_of new (number member.kind) ≡ type_of old member.kind =
-          ap (λ shapes. at (types_of shapes) (number member.kind)) second ∙ re.kinds member.kind ∙ sym (ap (λ shapes. at (types_of shapes) member.kind) first) in
+      ap (λ shapes. at (types_of shapes) (number member.kind)) second ∙ re.kinds member.kind ∙ sym (ap (λ shapes. at (types_of shapes) member.kind) first) in
       ap₂ (λ type rest. (member.name, type) ∷ rest) kind (members-moved old new first second others)
 
   content-moved : (old new : Table) → old.shapes ≡ one → new.shapes ≡ other → (content : Option Content)
@@ -92,7 +91,7 @@ module _ (tokens : List CToken) (externals : List External) where
       let stay_here = kinds-stay n one.1.shapes others in
       let stay_there = kinds-stay m other.1.shapes shapes in
       let structs : other.1.structs ≡ moved (new_number shapes others) one.1.structs =
-          sym (ap (λ (types : Table). types.structs) k.1) ∙ same.1 ∙ ap (λ (types : Table). moved (new_number shapes others) types.structs) g.1 in
+      sym (ap (λ (types : Table). types.structs) k.1) ∙ same.1 ∙ ap (λ (types : Table). moved (new_number shapes others) types.structs) g.1 in
       record {
         unit = sym (unit-same m other.1 back stay_there other.0 there.0 in_there.0) ∙ same.0 ∙ unit-same n one.1 front stay_here one.0 here.0 in_here.0;
         structs = sym (structs-same m other.1 back stay_there other.1.structs in_there.1)

@@ -1,22 +1,21 @@
 -- The rules on expressions say the same where types have other numbers.
-use Rattle.std.specs.Prelude.{◌≡◌, ℕ, ℤ, Bool, true, false, ◌&&◌, ◌||◌, not, if◌then◌else◌, List, [], ◌∷◌, length, Option, Some, None, is_some, option_map, option_and_then, refl}
-use Rattle.std.proofs.Common.{ap, ap₂, ◌∙◌}
+use Rattle.std.specs.Prelude.{◌≡◌, ℕ, ◌&&◌, ◌||◌, not, if◌then◌else◌, List, [], ◌∷◌, Option, Some, None, is_some, option_map, option_and_then, refl}
+use Rattle.std.proofs.Common.{ap, ap₂}
 use Rattle.std.proofs.lemmas.List.{length-map}
 use Rattle.dm_int.specs.declared.Kind.{Kind}
 use Rattle.dm_int.specs.declared.Kind.TheVariants as k
 use Rattle.dm_int.specs.declared.Op.{Op}
 use Rattle.dm_int.specs.declared.Op.TheVariants as o
-use Rattle.dm_type.specs.declared.layout.Layout.{Layout}
 use Rattle.dm_type.specs.declared.shape.Shape.{Shape}
 use Rattle.dm_type.specs.CTypes.{CType, CTypes, void, integer, pointer, array, struct, function as function_type, const, no_types, more_types, bare, is_const}
 use Rattle.dm_tree.specs.Constants.{integer_kind}
-use Rattle.dm_tree.specs.Scenes.{is_lvalue, target, is_integer, is_pointer, is_scalar, is_void, is_array, is_function, are_alike}
+use Rattle.dm_tree.specs.Scenes.{is_lvalue, target, is_integer, is_pointer, is_void, is_array, is_function, are_alike}
 use Rattle.dm_tree.specs.Trees.{Label, Tree, Trees, node, no_trees, more_trees, kind_of}
 use Rattle.dm_tree.specs.Trees as label
 use Rattle.dm_tree.specs.Units.{Declaration}
 use Rattle.dm_typing.specs.Known.{Known}
-use Rattle.dm_typing.specs.Conversions.{is_complete, if_complete, complete_target, has_const, as_type, constant_of, is_zero_value, is_zero, is_null}
-use Rattle.dm_typing.specs.Rules.{Pair, pair, points_to_complete, point_alike, is_void_pointer, indexed, member_in, member_of_struct, member_by_name, is_modifiable, may_be_counted, may_become_pointer, may_be_cast, of_pointer_and_integer, equated, of_others, of_kinds, operated, with_const_if, pointer_arms, arms_by_targets, both_as, arms_of_types, arms_of_kinds, arms, keeps_const, pointer_assignable, assignable_to, is_assignable, put_before, passed, called, moves, updated_by, updated}
+use Rattle.dm_typing.specs.Conversions.{is_complete, if_complete, complete_target, as_type, constant_of, is_zero_value, is_zero, is_null}
+use Rattle.dm_typing.specs.Rules.{pair, points_to_complete, point_alike, is_void_pointer, indexed, member_in, member_of_struct, member_by_name, is_modifiable, may_be_counted, may_become_pointer, may_be_cast, of_pointer_and_integer, equated, of_others, of_kinds, operated, pointer_arms, arms_by_targets, both_as, arms_of_types, arms_of_kinds, arms, keeps_const, pointer_assignable, assignable_to, is_assignable, put_before, passed, called, moves, updated_by, updated}
 use Rattle.dm_typing.specs.Typing.{is_among, may_have_members, struct_begun, number_if_struct, length_fits, is_result}
 use Rattle.dm_outcome.proofs.Renumbered.{Renumbers, moved_struct, at_one, at_other}
 use Rattle.dm_outcome.proofs.TableLemmas.{and-then-same, chosen, members-there, size-same, member-found, const-same, constant-same}

@@ -1,15 +1,14 @@
 -- The typing of declarations and statements gives the same where types have other numbers, and what is known behind it is the same by the
 -- other numbers.
-use Rattle.std.specs.Prelude.{◌≡◌, ℕ, ℤ, Bool, true, false, ◌&&◌, ◌||◌, not, if◌then◌else◌, List, [], ◌∷◌, ◌++◌, length, Option, Some, None, slice_get, refl}
+use Rattle.std.specs.Prelude.{◌≡◌, ℕ, ℤ, Bool, true, false, ◌&&◌, ◌||◌, not, if◌then◌else◌, List, [], ◌∷◌, Option, Some, None, slice_get, refl}
 use Rattle.std.specs.FinMap as finite
-use Rattle.std.proofs.Common.{sym, ap, ap₂, ◌∙◌, subst}
+use Rattle.std.proofs.Common.{sym, ap, ◌∙◌, subst}
 use Rattle.dm_token.specs.declared.place.Span.{Span}
 use Rattle.dm_int.specs.declared.Kind.{Kind}
 use Rattle.dm_type.specs.declared.shape.Shape.{Shape}
 use Rattle.dm_type.specs.CTypes.{CType}
 use Rattle.dm_type.specs.Tables.{Table}
-use Rattle.dm_scope.specs.Scopes.{Scopes, number_of}
-use Rattle.dm_syn.specs.Spans.{expr_span, declarator_span, declaration_span}
+use Rattle.dm_syn.specs.Spans.{expr_span, declarator_span}
 use Rattle.dm_syn.specs.Trees.{Expr, Initialiser, Specifiers, Declarator, Item, ForStart, Stmt, BlockItems, BlockItem, SwitchItems, SwitchItem}
 use Rattle.dm_syn.specs.Trees as tree
 use Rattle.dm_tree.specs.Constants.{integer_kind}
@@ -20,16 +19,15 @@ use Rattle.dm_tree.specs.Trees.{Tree, kind_of}
 use Rattle.dm_tree.specs.Trees as label
 use Rattle.dm_tree.specs.Typing.{has_linkage}
 use Rattle.dm_tree.specs.Units as unit
-use Rattle.dm_typing.specs.Known.{Known, Setting, Outcome, given, broken, after, with_it, obeys}
-use Rattle.dm_typing.specs.Conversions.{as_value, as_type, as_kind, is_complete}
-use Rattle.dm_typing.specs.Rules.{is_assignable}
+use Rattle.dm_typing.specs.Known.{Known, Setting, Outcome}
+use Rattle.dm_typing.specs.Conversions.{as_kind}
 use Rattle.dm_typing.specs.Specifiers.{Where, of_declaration, nothing_said}
-use Rattle.dm_typing.specs.Typing.{typed, words_said, typed_said, steps_of, derived}
+use Rattle.dm_typing.specs.Typing.{typed, words_said, typed_said, steps_of}
 use Rattle.dm_edecl.specs.Standing.{Standing, Progress, goes_on, stops, further, typing, collecting, keeps, opened, closed, in_scope, knowing, known_behind}
-use Rattle.dm_edecl.specs.Linkages.{Storage, is_extern, is_number, kind_with, kind_from_here, kind_seen, agrees_if_there, meaning_here, is_linked_if_there, is_same_typedef, may_be_declared, number_shared, number_before, number_here, known_kind, naming, named_here, declared_here, function_here, object_here, with_link, with_link_if, entry_of}
+use Rattle.dm_edecl.specs.Linkages.{Storage, is_extern, kind_from_here, kind_seen, agrees_if_there, meaning_here, is_linked_if_there, is_same_typedef, may_be_declared, number_shared, number_before, number_here, naming, named_here, declared_here, function_here, object_here, with_link, with_link_if, entry_of}
 use Rattle.dm_edecl.specs.Initialising.{Initial, completed, expressions_alone, typed_initialiser}
-use Rattle.dm_edecl.specs.Declaring.{Specified, specified_by, specified, is_alone, typed_declarator, name_at, is_misplaced_static, is_complete_or_array, may_be_object, may_be_main, declarable, Local, local_plain, local_initialised, with_lengths, may_be_initialised, may_define, object_defined, initialised, defines_object, item_plain, item_initialised, item_with, typed_item, typed_items, is_function_entry, are_functions, is_there, may_be_inline, constants_of, declared_by, typed_declaration}
-use Rattle.dm_edecl.specs.Statements.{Within, in_loop, in_switch, statement, typed_value, typed_optional, typed_condition, typed_optional_condition, Subject, subject, typed_subject, CaseValue, is_label_among, case_value, typed_case, full_statement, returned, typed_return, declaration_tree, declared_in, typed_start, for_statement, typed_stmt, typed_items_in, typed_item_in, typed_switch_items, typed_switch_item}
+use Rattle.dm_edecl.specs.Declaring.{Specified, specified, is_alone, typed_declarator, name_at, is_misplaced_static, may_be_object, may_be_main, declarable, Local, local_plain, local_initialised, with_lengths, may_be_initialised, may_define, object_defined, initialised, defines_object, item_plain, item_initialised, item_with, typed_item, typed_items, is_function_entry, are_functions, is_there, may_be_inline, typed_declaration}
+use Rattle.dm_edecl.specs.Statements.{Within, in_loop, in_switch, statement, typed_value, typed_optional, typed_condition, typed_optional_condition, typed_subject, is_label_among, case_value, typed_case, returned, typed_return, declared_in, typed_start, for_statement, typed_stmt, typed_items_in, typed_item_in, typed_switch_items, typed_switch_item}
 use Rattle.dm_outcome.proofs.Renumbered.{Renumbers, moved, table_at, at_one, at_other}
 use Rattle.dm_outcome.proofs.RuleLemmas.{complete-same, constant-of-same, assignable-same}
 use Rattle.dm_outcome.proofs.ExpressionLemmas.{Both, gives, breaks, after-both, with-both, obeys-both, if-both, words-both, said-both, steps-both, derived-both}

@@ -1,5 +1,5 @@
 -- What tables say is the same where types have other numbers.
-use Rattle.std.specs.Prelude.{◌≡◌, ℕ, zero, suc, ℤ, pos, Bool, true, false, ◌||◌, if◌then◌else◌, List, [], ◌∷◌, ◌++◌, length, map, Option, Some, None, is_some, option_map, option_and_then, slice_get, slice_set, bytes_eq, refl, ◌+◌, nat_lt}
+use Rattle.std.specs.Prelude.{◌≡◌, ℕ, zero, suc, ℤ, pos, Bool, true, false, ◌||◌, if◌then◌else◌, List, [], ◌∷◌, length, map, Option, Some, None, is_some, option_map, option_and_then, slice_get, slice_set, bytes_eq, refl, ◌+◌}
 use Rattle.std.proofs.Common.{sym, ap, ap₂, ◌∙◌}
 use Rattle.std.proofs.lemmas.List.{map-append, map-set, length-map}
 use Rattle.std.proofs.lemmas.Option.{slice_get-map}
@@ -10,7 +10,7 @@ use Rattle.dm_type.specs.declared.shape.Content.{Content}
 use Rattle.dm_type.specs.declared.shape.Member.{Member}
 use Rattle.dm_type.specs.CTypes.{CType, void, integer, pointer, array, struct, function as function_type, const, with_const, is_const}
 use Rattle.dm_type.specs.Layouts.{layout_of, size_of, times, if_fits, padded, followed_by, joined, nothing, struct_layout, contained}
-use Rattle.dm_type.specs.Tables.{Table, at, types_of, type_of, tag_of, content_of, members_of, with_struct, with_content}
+use Rattle.dm_type.specs.Tables.{Table, type_of, tag_of, content_of, members_of, with_struct, with_content}
 use Rattle.dm_tree.specs.Constants.{is_constant_form, kinds_in, value_at, constant_value, constant_values, constant}
 use Rattle.dm_tree.specs.Scenes.{member_type, part_type}
 use Rattle.dm_tree.specs.Trees.{Label, Tree, Trees, node, no_trees, more_trees}
@@ -18,7 +18,7 @@ use Rattle.dm_tree.specs.Trees as label
 use Rattle.dm_tree.specs.Units.{Declaration}
 use Rattle.dm_typing.specs.Conversions.{any_member, any_of, element, members_in, has_const_within, has_const}
 use Rattle.dm_typing.specs.Rules.{found_in}
-use Rattle.dm_typing.specs.Typing.{TypedMember, number_among, number_of_type, fields}
+use Rattle.dm_typing.specs.Typing.{TypedMember, fields}
 use Rattle.dm_outcome.proofs.Renumbered.{Renumbers, moved_member, moved_content, moved_struct, moved, table_at}
 
 pub and-then-same : {A B : Type 0} (found : Option A) (f g : A → Option B) → ((it : A) → f it ≡ g it) → option_and_then f found ≡ option_and_then g found

@@ -1,6 +1,5 @@
 -- The typing of units gives the same where types have other numbers.
-use Rattle.std.specs.Prelude.{◌≡◌, ℕ, Bool, true, false, ◌&&◌, not, if◌then◌else◌, List, [], ◌∷◌, ◌++◌, Option, Some, None, is_some, refl}
-use Rattle.std.proofs.Common.{ap, ap₂}
+use Rattle.std.specs.Prelude.{ℕ, Bool, true, false, ◌&&◌, not, if◌then◌else◌, List, [], ◌∷◌, ◌++◌, Option, Some, None, is_some, refl}
 use Rattle.dm_token.specs.declared.place.Span.{Span}
 use Rattle.dm_token.specs.declared.token.CToken.{CToken}
 use Rattle.dm_type.specs.declared.shape.Shape.{Shape}
@@ -12,14 +11,14 @@ use Rattle.dm_syn.specs.Trees.{Specifiers, Declarator, Parameters, Parameter, St
 use Rattle.dm_syn.specs.Trees as tree
 use Rattle.dm_tree.specs.Trees.{Tree}
 use Rattle.dm_tree.specs.Units as unit
-use Rattle.dm_typing.specs.Known.{Known, Setting, Outcome, given, broken, after, with_it, obeys}
+use Rattle.dm_typing.specs.Known.{Known, Setting, Outcome, given}
 use Rattle.dm_typing.specs.Specifiers.{of_definition}
-use Rattle.dm_typing.specs.Typing.{TypedParameter, parameter_of, parameter_at, entered, is_no_parameters, without_void}
-use Rattle.dm_edecl.specs.Standing.{Standing, Progress, goes_on, stops, opened}
-use Rattle.dm_edecl.specs.Linkages.{entry_of, function_here, number_here, is_defined, with_whole_kinds}
-use Rattle.dm_edecl.specs.Declaring.{Specified, specified, typed_declarator, name_at, fits_main, typed_declaration}
+use Rattle.dm_typing.specs.Typing.{TypedParameter, parameter_of, parameter_at, entered, is_no_parameters}
+use Rattle.dm_edecl.specs.Standing.{Standing, Progress, opened}
+use Rattle.dm_edecl.specs.Linkages.{entry_of, function_here, number_here, is_defined}
+use Rattle.dm_edecl.specs.Declaring.{Specified, typed_declarator, name_at, fits_main, typed_declaration}
 use Rattle.dm_edecl.specs.Statements.{Within, typed_items_in}
-use Rattle.dm_edecl.specs.Units.{is_only, may_be_defined, defined_parameter, defined_parameters, own_defined, Heading, innermost, typed_heading, numbers_of, body_within, typed_body, external_of, function_defined, typed_external, typed_externals, unit_setting, beginning, unit_of, typed_unit}
+use Rattle.dm_edecl.specs.Units.{is_only, may_be_defined, defined_parameter, defined_parameters, own_defined, Heading, typed_heading, body_within, typed_body, function_defined, typed_external, typed_externals, unit_setting, beginning, unit_of, typed_unit}
 use Rattle.dm_outcome.proofs.Renumbered.{Renumbers, at_one, at_other}
 use Rattle.dm_outcome.proofs.RuleLemmas.{complete-same}
 use Rattle.dm_outcome.proofs.ExpressionLemmas.{Both, gives, breaks, after-both, with-both, obeys-both, parameter-both}

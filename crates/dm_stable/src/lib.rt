@@ -1,0 +1,16 @@
+//! Arguments that may be evaluated at another time or more often (ISO/IEC 9899:2011, 6.5): those whose value stays the same while the
+//! expression round them is evaluated, and those whose evaluation can't be undefined.
+#![tactic(auto)]
+
+mod kept;
+mod kinds;
+mod names;
+mod safety;
+mod set;
+mod stability;
+mod steady;
+
+pub use names::Names;
+pub use safety::{has_safe_form, safe};
+pub use stability::{is_stable, stable};
+pub use steady::has_steady_leaves;
