@@ -1,5 +1,5 @@
 -- The premises of the laws, for the example.
-use Rattle.std.specs.Prelude.{nat_eq, ◌≡◌, refl, ℕ, ◌+◌, ◌==◌, Bool, true, false, ◌&&◌, All, [], ◌∷◌, Some, None, slice_get, IsTrue, if◌then◌else◌}
+use Rattle.std.specs.Prelude.{nat_eq, ◌≡◌, refl, ℕ, ◌+◌, ◌==◌, Bool, true, false, ◌&&◌, All, [], ◌∷◌, ◌++◌, Some, None, slice_get, IsTrue, if◌then◌else◌}
 use Rattle.std.specs.List.{IsDistinct}
 use Rattle.std.proofs.Common.{arith, ap, sym, subst, inl}
 use Rattle.std.proofs.lemmas.Bool.{false≢true}
@@ -13,6 +13,7 @@ use Rattle.dm_tree.specs.Units.{Declaration, External, defines_function}
 use Rattle.dm_tree.specs.Views.{view_of_unit}
 use Rattle.dm_meaning.specs.Machines.{Goes, RunsTo}
 use Rattle.dm_meaning.specs.Memory.{Block}
+use Rattle.dm_meaning.specs.Operations.{object_named}
 use Rattle.dm_meaning.specs.Statements.{is_automatic_declaration}
 use Rattle.dm_meaning.specs.Steps.{Step}
 use Rattle.dm_meaning.specs.Units.{Begins, machine_of}
@@ -28,10 +29,12 @@ use Rattle.dm_sound.proofs.FillLemmas.{declares_fill}
 use Rattle.dm_sound.proofs.UnitLemmas.{unit_typed}
 use Rattle.dm_effect.specs.Scoped.{is_scoped, is_automatic, IsScopedUnit}
 use Rattle.dm_initialised.specs.Settled.{IsSettledProgram}
+use Rattle.dm_initialised.specs.Living.{IsLivingState}
 use Rattle.dm_initialised.specs.SetStates.{IsSetState}
 use Rattle.dm_initialised.specs.Units.{FormGives, IsInitialisedUnit}
 use Rattle.dm_initialised.specs.Examples.{entry, one, declaration, back, external, unit, program, needs, no_needs, main, beginning, behind}
 use Rattle.dm_initialised.proofs.BeginLemmas.{begins_set}
+use Rattle.dm_initialised.proofs.LivingLemmas.{run_lives}
 use Rattle.dm_initialised.proofs.UnitLemmas.{unit_settled}
 
 -- ---- the unit
@@ -98,6 +101,12 @@ unit_begins = (All-nil _, (λ i. i), ((λ i j e. e), λ i. refl), main, refl, re
 pub unit_runs : RunsTo (machine_of program) [] 0 beginning
 unfolding Goes
 unit_runs = record { start = beginning; begins = unit_begins; goes = refl }
+
+pub beginning_lives : IsLivingState beginning
+beginning_lives = run_lives program [] 0 beginning unit_runs
+
+pub object_there : object_named (beginning.statics ++ beginning.frame.objects) 1 ≡ Some 1
+object_there = refl
 
 pub beginning_typed : IsTypedState program beginning
 beginning_typed = begins_typed program program_typed (declares_fill program program_typed.scope.table program_typed.scope.proper) [] beginning unit_begins

@@ -70,7 +70,7 @@ module _ (needs : ℕ → Bool) where
   own_settled (suc count) scope scopes [] h = (tt, tt)
   own_settled (suc count) scope scopes (tree ∷ trees) h = let rest = own_settled count scope scopes trees h.1 in ((h.0, rest.0), rest.1)
 
-tasks_assoc : (a b c : List Task) → (a ++ b) ++ c ≡ a ++ (b ++ c)
+pub tasks_assoc : (a b c : List Task) → (a ++ b) ++ c ≡ a ++ (b ++ c)
 tasks_assoc [] b c = refl
 tasks_assoc (task ∷ a) b c = ap (λ (tasks : List Task). task ∷ tasks) (tasks_assoc a b c)
 

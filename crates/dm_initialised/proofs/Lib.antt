@@ -7,4 +7,5 @@ pub mod BeginLemmas
 pub mod NameLemmas
 pub mod UnitLemmas
 pub mod RunLemmas
+pub mod LivingLemmas
 pub mod ExampleLemmas

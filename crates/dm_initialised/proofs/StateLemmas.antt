@@ -38,7 +38,7 @@ use Rattle.dm_initialised.proofs.ObjectLemmas.{named_new, named_beside, stay_mad
 use Rattle.dm_initialised.proofs.ItemLemmas.{items_there, items_back, items_set}
 use Rattle.dm_initialised.proofs.StatementLemmas.{TurnedSet, Set, unfolded_set, statement_set, declarator_set, initialiser_set, concluded_set, ended_set, break_set, continue_set}
 
-nothing_behind : (tasks : List Task) → tasks ++ [] ≡ tasks
+pub nothing_behind : (tasks : List Task) → tasks ++ [] ≡ tasks
 nothing_behind [] = refl
 nothing_behind (task ∷ tasks) = ap (λ (others : List Task). task ∷ others) (nothing_behind tasks)
 

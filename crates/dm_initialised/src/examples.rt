@@ -1,8 +1,9 @@
 //! A small program that meets the premises of the laws.
 
-ghost use Rattle.std.specs.Prelude.{[]};
+ghost use Rattle.std.specs.Prelude.{◌≡◌, [], ◌++◌, Some};
 ghost use Rattle.dm_tree.specs.Views.{view_of_unit};
 ghost use Rattle.dm_meaning.specs.Machines.{RunsTo};
+ghost use Rattle.dm_meaning.specs.Operations.{object_named};
 ghost use Rattle.dm_meaning.specs.Steps.{Step};
 ghost use Rattle.dm_meaning.specs.Units.{Begins, machine_of};
 ghost use Rattle.dm_effect.specs.Scoped.{IsScopedUnit};
@@ -10,6 +11,7 @@ ghost use Rattle.dm_sound.specs.Examples as typed;
 ghost use Rattle.dm_sound.specs.TypedRuns.{IsTypedProgram};
 ghost use Rattle.dm_sound.specs.TypedStates.{IsTypedState};
 ghost use Rattle.dm_initialised.specs.Examples as examples;
+ghost use Rattle.dm_initialised.specs.Living.{IsLivingState};
 ghost use Rattle.dm_initialised.specs.SetStates.{IsSetState};
 ghost use Rattle.dm_initialised.specs.Settled.{IsSettledProgram};
 ghost use Rattle.dm_initialised.specs.Units.{IsInitialisedUnit};
@@ -41,4 +43,11 @@ pub fn set_unit()
 pub fn set_core_unit()
     ensures scoped { IsScopedUnit (view_of_unit typed.types typed.core_unit) }
     ensures initialised { IsInitialisedUnit examples.no_needs (view_of_unit typed.types typed.core_unit) }
+{}
+
+/// The beginning of its run meets those premises of `steps_keep_named_objects_alive` and `named_objects_are_alive` that the others don't have:
+/// `x` has an object.
+pub fn living_state()
+    ensures living { IsLivingState examples.beginning }
+    ensures named { object_named (examples.beginning.statics ++ examples.beginning.frame.objects) 1 ≡ Some 1 }
 {}

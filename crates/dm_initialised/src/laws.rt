@@ -1,10 +1,12 @@
-ghost use Rattle.std.specs.Prelude.{ℕ, Bool, List};
+ghost use Rattle.std.specs.Prelude.{◌≡◌, ℕ, Bool, List, ◌++◌, Some};
 ghost use Rattle.dm_type.specs.Tables.{Table};
 ghost use Rattle.dm_tree.specs.declared.unit.CoreUnit.{CoreUnit};
 ghost use Rattle.dm_tree.specs.TypeNumbers.{IsTypedUnit};
 ghost use Rattle.dm_tree.specs.Units.{TypedUnit};
 ghost use Rattle.dm_tree.specs.Views.{view_of_unit};
 ghost use Rattle.dm_meaning.specs.Machines.{RunsTo};
+ghost use Rattle.dm_meaning.specs.Lifetimes.{IsAlive};
+ghost use Rattle.dm_meaning.specs.Operations.{object_named};
 ghost use Rattle.dm_meaning.specs.Programs.{Program};
 ghost use Rattle.dm_meaning.specs.States.{State};
 ghost use Rattle.dm_meaning.specs.Steps.{Step};
@@ -13,6 +15,7 @@ ghost use Rattle.dm_effect.specs.Scoped.{IsScopedUnit};
 ghost use Rattle.dm_sound.specs.TypedRuns.{IsTypedProgram};
 ghost use Rattle.dm_sound.specs.TypedTrees.{IsSoundTable};
 ghost use Rattle.dm_sound.specs.TypedStates.{IsTypedState};
+ghost use Rattle.dm_initialised.specs.Living.{IsLivingState};
 ghost use Rattle.dm_initialised.specs.SetStates.{IsSetState, NamesAreSet};
 ghost use Rattle.dm_initialised.specs.Settled.{IsSettledProgram};
 ghost use Rattle.dm_initialised.specs.Units.{IsInitialisedUnit};
@@ -57,4 +60,21 @@ pub fn units_name_what_is_set()
         → IsTypedUnit types one → IsScopedUnit (view_of_unit types one) → IsInitialisedUnit needs (view_of_unit types one)
         → RunsTo (machine_of (program_of types (view_of_unit types one))) input n state
         → NamesAreSet (program_of types (view_of_unit types one)) needs state }
+{}
+
+/// Each step of any program keeps those objects alive that declarations name afterwards, and no two of them one.
+pub fn steps_keep_named_objects_alive()
+    ensures { (program : Program) (state other : State) → IsLivingState state → Step program state other → IsLivingState other }
+{}
+
+/// So, in each state of each run of any program on bytes they are, in the function that is running, in those that wait, and in static
+/// storage.
+pub fn named_objects_stay_alive()
+    ensures { (program : Program) (input : List ℕ) (n : ℕ) (state : State) → RunsTo (machine_of program) input n state → IsLivingState state }
+{}
+
+/// In each of these states, an object that a declaration names where control is, is alive.
+pub fn named_objects_are_alive()
+    ensures { (program : Program) (input : List ℕ) (n : ℕ) (state : State) (d m : ℕ) → RunsTo (machine_of program) input n state
+        → object_named (state.statics ++ state.frame.objects) d ≡ Some m → IsAlive state.world.memory m }
 {}
