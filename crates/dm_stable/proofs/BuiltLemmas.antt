@@ -9,7 +9,7 @@ use Rattle.dm_tree.specs.Trees as label
 use Rattle.dm_tree.specs.Trees.{Label, Tree, Trees, trees}
 use Rattle.dm_tree.specs.Views.{opened, opened_form, view}
 use Rattle.dm_tree.proofs.ViewLemmas.{view-core, opened-Comma}
-use Rattle.dm_effect.specs.Forms.{Ruling, by_parts, ruled, is_built, are_built}
+use Rattle.dm_effect.specs.Forms.{Ruling, by_parts, ruled, is_built}
 use Rattle.dm_stable.specs.Built.{is_built_form, are_built_all, are_there, is_some_tree}
 
 and_true : (p : Bool) → (p && true) ≡ p

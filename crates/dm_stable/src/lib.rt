@@ -4,12 +4,14 @@
 
 mod kept;
 mod kinds;
+mod laws;
 mod names;
 mod safety;
 mod set;
 mod stability;
 mod steady;
 
+pub use laws::typed_units_have_known_entries;
 pub use names::Names;
 pub use safety::{has_safe_form, safe};
 pub use stability::{is_stable, stable};

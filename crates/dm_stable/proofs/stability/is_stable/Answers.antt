@@ -1,5 +1,5 @@
 -- It acts, or all round it is quiet, or it is steady.
-use Rattle.std.proofs.Common.{◌≡◌, ℕ, Bool, true, false, ◌&&◌, ◌||◌, List, refl, ap, sym, ◌∙◌}
+use Rattle.std.proofs.Common.{◌≡◌, true, false, ◌&&◌, ◌||◌, List, ap, sym, ◌∙◌}
 use Rattle.std.specs.List.{list_all}
 use Rattle.dm_tree.specs.declared.unit.CoreUnit.{CoreUnit}
 use Rattle.dm_tree.specs.Trees.{Tree}

@@ -1,5 +1,5 @@
 -- Down the left operands of commas the tree is built as long as each right operand is; parts are built one after another.
-use Rattle.std.proofs.Common.{◌≡◌, ℕ, ◌<◌, Bool, true, false, ◌&&◌, List, [], ◌++◌, map, Option, Bor, Some, None, ap, refl, sym, ◌∙◌, rules, arith}
+use Rattle.std.proofs.Common.{◌≡◌, ℕ, ◌<◌, Bool, true, false, ◌&&◌, List, [], ◌++◌, map, Option, Bor, ap, refl, sym, ◌∙◌, rules, arith}
 use Rattle.std.specs.Option.{option_copied, option_map}
 use denote.Param.Weighed.{most}
 use Rattle.dm_type.specs.Tables.{Table, type_of, no_type}
@@ -7,7 +7,7 @@ use Rattle.dm_tree.specs.declared.tree.Core as q
 use Rattle.dm_tree.specs.declared.tree.Core.{Core, out-Core, size-Core}
 use Rattle.dm_tree.specs.declared.tree.Form.{size-Form}
 use Rattle.dm_tree.specs.declared.tree.Local.{Local}
-use Rattle.dm_tree.specs.Trees.{Tree, trees}
+use Rattle.dm_tree.specs.Trees.{trees}
 use Rattle.dm_tree.specs.Views.{expressions_of_locals, if_there, opened_form, view, view_of_local}
 use Rattle.dm_effect.specs.declared.parts.Parts.{Parts}
 use Rattle.dm_effect.specs.Forms.{Ruling, is_built, are_built, ruled}

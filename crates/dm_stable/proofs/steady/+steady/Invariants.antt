@@ -1,5 +1,5 @@
 -- What is left is built as the whole is. A tree's depth measures the walk.
-use Rattle.std.proofs.Common.{◌≡◌, ◌+◌, ◌*◌, ◌≤◌, map, max, length}
+use Rattle.std.proofs.Common.{◌≡◌, ◌+◌, ◌*◌, ◌≤◌, map, length}
 use Rattle.std.specs.Option.{option_copied, option_map_or}
 use denote.Param.Weighed.{most}
 use Rattle.dm_type.specs.Tables.{Table}

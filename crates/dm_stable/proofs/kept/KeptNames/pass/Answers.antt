@@ -1,5 +1,5 @@
 -- It is a local, and its address is taken or not.
-use Rattle.std.proofs.Common.{◌≡◌, Bool, true, false, ◌&&◌, not, List, ap, sym, ◌∙◌}
+use Rattle.std.proofs.Common.{◌≡◌, true, false, ◌&&◌, not, List, ap, sym, ◌∙◌}
 use Rattle.std.specs.List.{list_any}
 use Rattle.std.specs.Prelude.{slice_get}
 use Rattle.dm_tree.specs.Trees.{Tree}

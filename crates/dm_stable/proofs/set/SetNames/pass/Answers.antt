@@ -1,5 +1,5 @@
 -- By the entry of the object.
-use Rattle.std.proofs.Common.{◌≡◌, Bool, true, ◌&&◌, Option, Some, ap, sym, ◌∙◌, rules}
+use Rattle.std.proofs.Common.{◌≡◌, true, ◌&&◌, Option, ap, sym, ◌∙◌}
 use Rattle.dm_tree.specs.Scenes.{is_integer}
 use Rattle.dm_tree.specs.Units.{Declaration}
 use Rattle.dm_tree.specs.Views.{view, view_of_declared, view_of_unit}
