@@ -1,0 +1,4 @@
+pub mod Standing
+pub mod Agreement
+pub mod Units
+pub mod Examples

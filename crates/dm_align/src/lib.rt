@@ -1,0 +1,10 @@
+//! Units before and after the edit of a macro's definition (ISO/IEC 9899:2011, 6.9): when they are the same but for the declaration that
+//! the edit adds, and for what stands where runs of the macro stood.
+#![tactic(auto)]
+
+mod examples;
+
+pub use examples::{
+    added_declarations_are_aligned, calls_in_calls_agree, converted_calls_agree, other_trees_differ,
+    runs_in_sizeof_are_not_placed,
+};
