@@ -1,5 +1,5 @@
 -- Small units before and after the edit of a macro: the examples of `src/examples.rt`. Tokens are counted from 0 in each unit.
-use Rattle.std.specs.Prelude.{ℕ, ◌+◌, ◌-◌, true, List, [], ◌∷◌, Some, None, Option, pos, codes}
+use Rattle.std.specs.Prelude.{ℕ, ◌+◌, ◌-◌, true, false, List, [], ◌∷◌, Some, None, pos, codes}
 use Rattle.dm_int.specs.declared.Kind.TheVariants.{Int, UInt, Char}
 use Rattle.dm_int.specs.declared.Op.TheVariants.{Add, Greater}
 use Rattle.dm_token.specs.declared.place.Place.{Place}
@@ -12,7 +12,7 @@ use Rattle.dm_tree.specs.declared.unit.Linkage.TheVariants.{External, Internal, 
 use Rattle.dm_tree.specs.declared.unit.Sort.TheVariants.{Object, Function, Enumerator}
 use Rattle.dm_tree.specs.Trees.{Label, number, enumerator, object, function, read, convert, binary, choose, call, sizeof_tree, block, full, return, one_expression, Tree, node, trees}
 use Rattle.dm_tree.specs.Units.{Declaration, External as Outer, declares, defines_function, TypedUnit}
-use Rattle.dm_align.specs.Agreement.{Added, added_function, added_enumerator, added_constant, Rewriting}
+use Rattle.dm_align.specs.Agreement.{added_function, added_enumerator, added_constant, Rewriting}
 use Rattle.dm_align.specs.Units.{Insertion, rewriting_of}
 
 -- ---- trees

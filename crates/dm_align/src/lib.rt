@@ -5,6 +5,6 @@
 mod examples;
 
 pub use examples::{
-    added_declarations_are_aligned, calls_in_calls_agree, converted_calls_agree, other_trees_differ,
-    runs_in_sizeof_are_not_placed,
+    added_declarations_are_aligned, calls_in_calls_agree, converted_calls_agree,
+    other_trees_differ, runs_in_sizeof_are_not_placed,
 };
