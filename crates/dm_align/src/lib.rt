@@ -3,8 +3,10 @@
 #![tactic(auto)]
 
 mod examples;
+mod laws;
 
 pub use examples::{
     added_declarations_are_aligned, calls_in_calls_agree, converted_calls_agree,
     other_trees_differ, runs_in_sizeof_are_not_placed,
 };
+pub use laws::{old_declarations_have_new_numbers, units_are_aligned_with_themselves};

@@ -1,0 +1,2 @@
+pub mod SelfLemmas
+pub mod NumberLemmas
