@@ -1,2 +1,5 @@
 pub mod SelfLemmas
 pub mod NumberLemmas
+pub mod TypeLemmas
+pub mod StepLemmas
+pub mod InitialLemmas

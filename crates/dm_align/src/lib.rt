@@ -3,7 +3,12 @@
 #![tactic(auto)]
 
 mod examples;
+mod head;
+mod initial;
 mod laws;
+mod moves;
+mod parts;
+mod types;
 
 pub use examples::{
     added_declarations_are_aligned, calls_in_calls_agree, converted_calls_agree,

@@ -1,0 +1,61 @@
+-- Declarators and initialisers of the code, form by form.
+use Rattle.std.proofs.Common.{rules, ◌≡◌, ◌↔◌, ℕ, Bool, IsTrue, List, map, Option, Some, None, refl, sym, ap, ◌∙◌, subst}
+use Rattle.dm_type.specs.Tables.{Table}
+use Rattle.dm_tree.specs.declared.tree.Core.{Core}
+use Rattle.dm_tree.specs.declared.tree.Core as q
+use Rattle.dm_tree.specs.declared.tree.Form.{Form}
+use Rattle.dm_tree.specs.declared.tree.Form.TheOpen as layer
+use Rattle.dm_tree.specs.declared.tree.Form.TheFolds as folds
+use Rattle.dm_tree.specs.declared.tree.Initial.{Initial}
+use Rattle.dm_tree.specs.declared.tree.Initial.TheVariants as initials
+use Rattle.dm_tree.specs.declared.tree.Local.{Local, out-Local}
+use Rattle.dm_tree.specs.Trees.{Declarator, Initialiser, in_braces, Tree}
+use Rattle.dm_tree.specs.Views.{Opened, OpenedInitial, OpenedLocal, opened_form, view, view_of_local, items_of, form_layer, initial_layer, core_layer, local_layer}
+use Rattle.dm_meaning.specs.Wholes.{view_of_initial}
+use Rattle.dm_align.specs.declared.moves.Block.{Block}
+use Rattle.dm_align.specs.Moves.{moved_past}
+use Rattle.dm_align.proofs.StepLemmas.{SameInitial, SameItems, SameDeclarator}
+
+module _ (types : Table) where
+  pub braced : (initial : Initial) (list : List Initial) → initial ≡ initials.Parts list → (view_of_initial types initial).initialiser ≡ in_braces (items_of (map (view_of_initial types) list))
+  braced initial list is = ap (λ (one : Initial). (view_of_initial types one).initialiser) is ∙ opened-Parts
+    where
+      opened-Parts : (view_of_initial types (initials.Parts list)).initialiser ≡ in_braces (items_of (map (view_of_initial types) list))
+      opened-Parts = search (rules, q.the_lemmas)
+
+  abbrev local_seen : layer.Local-F Form Initial Core Local → OpenedLocal
+  local_seen y = local_layer (folds.map-Local Form Initial Core Local Opened OpenedInitial Tree OpenedLocal (opened_form types) (view_of_initial types) (view types) (view_of_local types) y)
+
+  local-seen : (local : Local) → view_of_local types local ≡ local_seen (out-Local local)
+  local-seen local = folds.fold_out-Local Opened OpenedInitial Tree OpenedLocal (form_layer types) initial_layer (core_layer types) local_layer local
+
+  pub declarator-with : (local : Local) (initial : Initial) → (out-Local local).initial ≡ Some initial
+      → (view_of_local types local).declarator ≡ record { declared = (out-Local local).declared; defines = (out-Local local).defines; initialiser = Some (view_of_initial types initial).initialiser }
+  declarator-with local initial is =
+      ap (λ (one : OpenedLocal). one.declarator) (local-seen local)
+      ∙ ap (λ (initial : Option Initial). (local_seen (record { declared = (out-Local local).declared; defines = (out-Local local).defines; initial = initial })).declarator) is
+
+-- initialisers in braces are the same where their items are
+pub braces-same : (a b : Table) (new old : Initial) (list others : List Initial) → new ≡ initials.Parts list → old ≡ initials.Parts others
+    → SameItems a b list others ↔ SameInitial a b new old
+braces-same a b new old list others first second =
+    (λ e. braced a new list first ∙ (ap in_braces e ∙ sym (braced b old others second)), λ e.
+    let whole : in_braces (items_of (map (view_of_initial a) list)) ≡ in_braces (items_of (map (view_of_initial b) others)) = sym (braced a new list first) ∙ (e ∙ braced b old others second) in
+    cc)
+
+-- declarators with initialisers are the same where these are
+pub initialised-same : (a b : Table) (block : Option Block) (new old : Local) (initial other : Initial) → (out-Local new).initial ≡ Some initial → (out-Local old).initial ≡ Some other
+    → (out-Local new).declared ≡ moved_past block (out-Local old).declared → (out-Local new).defines ≡ (out-Local old).defines
+    → SameInitial a b initial other ↔ SameDeclarator a b block new old
+initialised-same a b block new old initial other first second number defines =
+    (λ e. declarator-with a new initial first ∙ (together e ∙ sym (ap (λ (one : Declarator). record one { declared = moved_past block one.declared }) (declarator-with b old other second))), λ e. injected
+    (ap (λ (one : Declarator). one.initialiser) (sym (declarator-with a new initial first) ∙ (e ∙ ap (λ (one : Declarator). record one { declared = moved_past block one.declared }) (declarator-with b old other second)))))
+  where
+    made : ℕ → Bool → Initialiser → Declarator
+    made number defines one = record { declared = number; defines = defines; initialiser = Some one }
+    together : (view_of_initial a initial).initialiser ≡ (view_of_initial b other).initialiser
+        → made (out-Local new).declared (out-Local new).defines (view_of_initial a initial).initialiser
+        ≡ made (moved_past block (out-Local old).declared) (out-Local old).defines (view_of_initial b other).initialiser
+    together e i = made (number i) (defines i) (e i)
+    injected : Some (view_of_initial a initial).initialiser ≡ Some (view_of_initial b other).initialiser → (view_of_initial a initial).initialiser ≡ (view_of_initial b other).initialiser
+    injected e = cc
