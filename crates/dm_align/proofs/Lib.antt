@@ -3,3 +3,7 @@ pub mod NumberLemmas
 pub mod TypeLemmas
 pub mod StepLemmas
 pub mod InitialLemmas
+pub mod PartLemmas
+pub mod HeadLemmas
+pub mod AgreeLemmas
+pub mod StandingLemmas

@@ -1,5 +1,5 @@
 -- Two lists compared in step.
-use Rattle.std.proofs.Common.{◌≡◌, ◌↔◌, ℕ, Bool, true, false, IsTrue, List, [], ◌∷◌, length, map, Option, refl, sym, ap, ◌∙◌, subst}
+use Rattle.std.proofs.Common.{◌≡◌, ◌↔◌, Bool, true, false, IsTrue, List, [], ◌∷◌, length, map, Option, refl, sym, ap, ◌∙◌, subst}
 use Rattle.std.proofs.lemmas.Bool.{false≢true}
 use Rattle.dm_type.specs.Tables.{Table}
 use Rattle.dm_tree.specs.declared.tree.Initial.{Initial}
@@ -51,7 +51,6 @@ module _ {A B : Type 0} (Same : List A → List B → Type 0) (One : A → B →
   goes-on x xs y ys first second test says passed =
       through (λ same. (says.0 passed, same), λ both. both.1) (here x xs y ys first second)
 
-
   ends : (r : List B) → (test : Bool) → (IsTrue test ↔ (length r ≡ 0)) → IsTrue test ↔ Same [] r
   ends [] test says = (λ e. empty, λ e. says.1 refl)
   ends (y ∷ ys) test says = (λ e. absurd (no-length (says.0 e)), λ same. absurd (short y ys same))
@@ -77,6 +76,7 @@ items-more a b x y xs ys =
     first : Initialisers → Initialiser
     first no_items = (view_of_initial a x).initialiser
     first (more_items one others) = one
+
     behind : Initialisers → Initialisers
     behind no_items = no_items
     behind (more_items one others) = others
@@ -97,13 +97,16 @@ SameDeclarator a b block new old = (view_of_local a new).declarator ≡ renamed_
 
 pub declarators-more : (a b : Table) (block : Option Block) (x y : Local) (xs ys : List Local)
     → SameDeclarators a b block (x ∷ xs) (y ∷ ys) ↔ (SameDeclarator a b block x y × SameDeclarators a b block xs ys)
-declarators-more a b block x y xs ys =
-    (λ e. (ap first e, ap behind e), λ both. ap (λ one. one ∷ declarators_of (map (view_of_local a) xs)) both.0
-    ∙ ap (λ (others : List Declarator). renamed_declarator (moved_past block) (view_of_local b y).declarator ∷ others) both.1)
+declarators-more a b block x y xs ys = (
+  λ e. (ap first e, ap behind e),
+  λ both. ap (λ one. one ∷ declarators_of (map (view_of_local a) xs)) both.0
+      ∙ ap (λ (others : List Declarator). renamed_declarator (moved_past block) (view_of_local b y).declarator ∷ others) both.1,
+)
   where
     first : List Declarator → Declarator
     first [] = (view_of_local a x).declarator
     first (one ∷ others) = one
+
     behind : List Declarator → List Declarator
     behind [] = []
     behind (one ∷ others) = others

@@ -3,6 +3,8 @@ pub mod SameTypes
 pub mod Moves
 pub mod Heads
 pub mod Parts
+pub mod Runs
+pub mod Comparing
 pub mod Agreement
 pub mod Units
 pub mod Examples

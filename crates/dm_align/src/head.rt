@@ -5,14 +5,14 @@ ghost use Rattle.dm_type.specs.Tables.{Table};
 ghost use Rattle.dm_tree.specs.TypeNumbers.{are_known_in_form};
 ghost use Rattle.dm_tree.specs.Views.{opened_form};
 ghost use Rattle.dm_meaning.specs.Replaced.{relabelled};
-ghost use Rattle.dm_align.specs.Heads.{label_of_head, plain_label, IsKnownHead};
+ghost use Rattle.dm_align.specs.Heads.{label_of_head, declaring, plain_label, IsDeclaration, IsKnownHead};
 ghost use Rattle.dm_align.specs.Moves.{moved_past};
 
 use crate::initial::are_same_declarators;
 use crate::moves::{Block, is_moved};
 use crate::types::is_same_type;
 use dm_int::Op;
-use dm_tree::{Form, Local, Sign};
+use dm_tree::{Form, Sign};
 use dm_type::{TypeId, Types};
 
 /// A form, and what it has beside the trees.
@@ -31,8 +31,8 @@ pub(crate) enum Head<'a> {
     /// `++` or `--`: whether it adds, and whether it stands before its operand.
     Count(bool, bool),
     SizeofKind(TypeId),
-    /// How many array lengths and enumerator values the declaration has, and its declarators.
-    Declare(usize, &'a [Local]),
+    /// A declaration itself.
+    Declare(&'a Form),
     /// Which of the first three parts are there.
     For(bool, bool, bool),
     Plain(Plain),
@@ -87,7 +87,7 @@ pub(crate) fn head_of(form: &Form) -> Head<'_>
             object: _,
         } => Head::Count(*plus, *before),
         Form::SizeofKind(kind, _) => Head::SizeofKind(*kind),
-        Form::Declare(lengths, locals) => Head::Declare(lengths.len(), locals.items()),
+        Form::Declare(_, _) => Head::Declare(form),
         Form::For(a, b, c, _) => Head::For(a.is_some(), b.is_some(), c.is_some()),
         Form::Read(_) => Head::Plain(Plain::Read),
         Form::Decay(_) => Head::Plain(Plain::Decay),
@@ -128,7 +128,9 @@ pub(crate) fn is_same_label(
     requires old { IsTrue (are_known_in_form (length old_types.now.shapes) old.now) }
     ensures { IsTrue result ↔ ((opened_form new_types.now new.now).label ≡ relabelled (moved_past block) (opened_form old_types.now old.now).label) }
 {
-    is_same_head(block, new_types, &head_of(new), old_types, &head_of(old))
+    let head = head_of(new);
+    let other = head_of(old);
+    is_same_head(block, new_types, &head, old_types, &other)
 }
 
 fn is_same_head(
@@ -158,14 +160,28 @@ fn is_same_head(
         }
         (Head::Count(plus, before), Head::Count(other, place)) => plus == other && before == place,
         (Head::SizeofKind(a), Head::SizeofKind(b)) => is_same_type(new_types, *a, old_types, *b),
-        (Head::Declare(lengths, locals), Head::Declare(count, others)) => {
-            lengths == count && are_same_declarators(block, locals, others)
-        }
+        (Head::Declare(a), Head::Declare(b)) => is_same_declaration(block, a, b),
         (Head::For(a, b, c), Head::For(first, second, third)) => {
             a == first && b == second && c == third
         }
         (Head::Plain(a), Head::Plain(b)) => is_same_plain(*a, *b),
         _ => false,
+    }
+}
+
+fn is_same_declaration(block: Option<Block>, new: &Form, old: &Form) -> bool
+    requires new { IsDeclaration new.now }
+    requires old { IsDeclaration old.now }
+    ensures { (a b : Table) → IsTrue result ↔ (declaring (opened_form a new.now).label ≡ relabelled (moved_past block) (declaring (opened_form b old.now).label)) }
+{
+    match (new, old) {
+        (Form::Declare(lengths, locals), Form::Declare(others, declarators)) => {
+            if lengths.len() != others.len() {
+                return false;
+            }
+            are_same_declarators(block, locals.items(), declarators.items())
+        }
+        _ => unreachable!(),
     }
 }
 

@@ -58,7 +58,8 @@ pub(crate) fn parts_of(alloc: Global, form: &Form) -> Result<Vec<&Core>, Memory>
         Form::Convert(a, list) | Form::Call(a, list) | Form::Switch(a, list) => {
             led(alloc, Some(a), list.items())
         }
-        Form::SizeofKind(_, list) | Form::Block(list) => led(alloc, None, list.items()),
+        Form::SizeofKind(_, list) => led(alloc, None, list.items()),
+        Form::Block(list) => led(alloc, None, list.items()),
         Form::If(a, b, c) => optional(alloc, &[Some(a.get()), Some(b.get()), inside(c)]),
         Form::For(a, b, c, body) => optional(
             alloc,

@@ -1,5 +1,5 @@
 -- What is left is the same where all are.
-use Rattle.std.proofs.Common.{◌≡◌, ◌↔◌, ◌≤◌, map, length, ◌+◌, ◌*◌}
+use Rattle.std.proofs.Common.{◌↔◌, ◌≤◌, length, ◌+◌, ◌*◌}
 use denote.Param.Weighed.{most}
 use Rattle.dm_type.specs.Tables.{Table}
 use Rattle.dm_tree.specs.declared.tree.Initial.{size-Initial}

@@ -25,11 +25,11 @@ compare_shapes-returns-then-are_same_types-clause-means t c =
     let old : Table = c.args.old.now in
     let here = c.in-Function-Function in
     let same = functions-same new old (type_of new c.args.a) (type_of old c.args.b) here.first here.second here.parameters here.others
-        (c.shape.ensures.exact ∙ ap (as_is (types_of new.shapes)) here.is-0) (c.shape-2.ensures.exact ∙ ap (as_is (types_of old.shapes)) here.is-1) in
+    (c.shape.ensures.exact ∙ ap (as_is (types_of new.shapes)) here.is-0) (c.shape-2.ensures.exact ∙ ap (as_is (types_of old.shapes)) here.is-1) in
     let passed : same_listed (map (type_of new) here.parameters) (map (type_of old) here.others) ≡ true =
-        ap (λ xs. same_listed (map (type_of new) xs) (map (type_of old) here.others)) (sym c.items.ensures)
-        ∙ ap (λ xs. same_listed (map (type_of new) c.items.result.now) (map (type_of old) xs)) (sym c.items-in-Function-Function.ensures)
-        ∙ sym c.are_same_types.ensures ∙ c.if-are_same_types.true in (
+    ap (λ xs. same_listed (map (type_of new) xs) (map (type_of old) here.others)) (sym c.items.ensures)
+    ∙ ap (λ xs. same_listed (map (type_of new) c.items.result.now) (map (type_of old) xs)) (sym c.items-in-Function-Function.ensures)
+    ∙ sym c.are_same_types.ensures ∙ c.if-are_same_types.true in (
       search rules,
       search rules,
       same ∙ ap (λ r. same_type (type_of new here.first) (type_of old here.second) && r) passed ∙ and-true (same_type (type_of new here.first) (type_of old here.second)),
@@ -41,11 +41,11 @@ compare_shapes-returns-else-are_same_types-clause-means t c =
     let old : Table = c.args.old.now in
     let here = c.in-Function-Function in
     let same = functions-same new old (type_of new c.args.a) (type_of old c.args.b) here.first here.second here.parameters here.others
-        (c.shape.ensures.exact ∙ ap (as_is (types_of new.shapes)) here.is-0) (c.shape-2.ensures.exact ∙ ap (as_is (types_of old.shapes)) here.is-1) in
+    (c.shape.ensures.exact ∙ ap (as_is (types_of new.shapes)) here.is-0) (c.shape-2.ensures.exact ∙ ap (as_is (types_of old.shapes)) here.is-1) in
     let failed : same_listed (map (type_of new) here.parameters) (map (type_of old) here.others) ≡ false =
-        ap (λ xs. same_listed (map (type_of new) xs) (map (type_of old) here.others)) (sym c.items.ensures)
-        ∙ ap (λ xs. same_listed (map (type_of new) c.items.result.now) (map (type_of old) xs)) (sym c.items-in-Function-Function.ensures)
-        ∙ sym c.are_same_types.ensures ∙ c.if-are_same_types.false in
+    ap (λ xs. same_listed (map (type_of new) xs) (map (type_of old) here.others)) (sym c.items.ensures)
+    ∙ ap (λ xs. same_listed (map (type_of new) c.items.result.now) (map (type_of old) xs)) (sym c.items-in-Function-Function.ensures)
+    ∙ sym c.are_same_types.ensures ∙ c.if-are_same_types.false in
     same ∙ ap (λ r. same_type (type_of new here.first) (type_of old here.second) && r) failed ∙ and-never (same_type (type_of new here.first) (type_of old here.second))
 
 pub is_same_type-returns-in-Known-clause-fact : goal.is_same_type-returns-in-Known-clause-fact
