@@ -7,7 +7,7 @@ use Rattle.dm_tree.specs.Paths.{Path, tree_in, tree_at}
 use Rattle.dm_tree.specs.Trees.{Label, declare, case, Declarator, Spans, Tree, Trees, node, no_trees, more_trees, label_of, trees_of, listed, is_statement}
 use Rattle.dm_tree.specs.Units.{Declaration, External, ExternalForm, declares, defines_function, TypedUnit}
 use Rattle.dm_meaning.specs.Statements.{Local, expressions_of, with_expressions}
-use Rattle.dm_sites.specs.Sites.{Site, whole, initial_sites, declarator_sites, statement_parts, operand_sites, part_sites, own_site, sites_in, sites_below, all_sites, form_sites, external_sites, sites_of_unit}
+use Rattle.dm_sites.specs.Sites.{Site, whole, initial_sites, declarator_sites, statement_parts, operand_site, operand_sites, part_sites, own_site, sites_in, sites_below, all_sites, form_sites, external_sites, sites_of_unit}
 use Rattle.dm_sites.proofs.PlaceLemmas.{tree_of, whole-trees, operand-trees, declarator-trees}
 
 abbrev pub Leads : Site → Type 0
