@@ -5,3 +5,5 @@ mod PlaceLemmas
 mod ArgumentPlaceLemmas
 mod ArgumentStepLemmas
 mod CallLemmas
+mod FactLemmas
+mod NodeLemmas

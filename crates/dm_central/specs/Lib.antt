@@ -2,3 +2,5 @@ pub mod Arguments
 pub mod Agreement
 pub mod ArgumentSteps
 pub mod Outcomes
+pub mod Added
+pub mod NodeSteps

@@ -5,5 +5,5 @@ mod laws;
 
 pub use laws::{
     agreement_beside_less, agreement_kept, argument_places, argument_steps, begun_agreement,
-    call_steps, moved_operands,
+    call_steps, common_facts, moved_operands, node_steps,
 };
