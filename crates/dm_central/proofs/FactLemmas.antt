@@ -149,7 +149,7 @@ AllSameFacts change no_runs no_runs = Unit {0}
 AllSameFacts change (more_runs first rest) (more_runs other others) = SameFacts change first other × AllSameFacts change rest others
 AllSameFacts change parts others = ⊥
 
-begun_kind : (tree : Tree) → kind_of_run (begun tree) ≡ kind_of tree
+pub begun_kind : (tree : Tree) → kind_of_run (begun tree) ≡ kind_of tree
 begun_kind (node label kind spans parts) = refl
 
 begun_function : (tree : Tree) → may_give (label_of tree) ≡ true → function_named (begun tree) ≡ None
@@ -365,7 +365,7 @@ module _ (change : Called) (added : IsAdded change) (stage : Stage) (mode : Mode
       let place = at_once_there change stage mode world beside added.distinct added.own kind other inner passed there.holes there.run there.is position in
       subst (λ run. IsAmong lock (locks_in run)) (sym place.is) (locks_lift place.hole there.run lock there.among)
 
-  abbrev as_call : (beside : List Effect) (doing : Doing) (kind : CType) (other : Run) (inner : Runs) → IsPassed change stage mode world beside doing kind other inner → IsPassed change stage mode world beside (evaluates call) kind other inner
+  abbrev pub as_call : (beside : List Effect) (doing : Doing) (kind : CType) (other : Run) (inner : Runs) → IsPassed change stage mode world beside doing kind other inner → IsPassed change stage mode world beside (evaluates call) kind other inner
   as_call beside doing kind other inner h = record {
     safe = h.safe;
     elsewhere = h.elsewhere;

@@ -7,3 +7,9 @@ mod ArgumentStepLemmas
 mod CallLemmas
 mod FactLemmas
 mod NodeLemmas
+mod OpenEffectLemmas
+mod OutcomeLemmas
+mod EnteredLemmas
+mod DiagramLemmas
+mod EntryLemmas
+mod ApartLemmas

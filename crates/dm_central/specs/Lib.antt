@@ -4,3 +4,5 @@ pub mod ArgumentSteps
 pub mod Outcomes
 pub mod Added
 pub mod NodeSteps
+pub mod Entries
+pub mod Apart

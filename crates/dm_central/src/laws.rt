@@ -1,11 +1,11 @@
-ghost use Rattle.std.specs.Prelude.{◌≡◌, ◌⊎◌, ℕ, Bool, true, false, List, [], Some, option_map};
+ghost use Rattle.std.specs.Prelude.{◌≡◌, ◌⊎◌, ℕ, Bool, true, false, List, [], length, Some, option_map};
 ghost use Rattle.dm_token.specs.declared.place.Place.{Place};
 ghost use Rattle.dm_type.specs.CTypes.{CType};
 ghost use Rattle.dm_tree.specs.Trees.{call, Tree};
 ghost use Rattle.dm_meaning.specs.Among.{IsAmong};
 ghost use Rattle.dm_meaning.specs.Called.{Called};
 ghost use Rattle.dm_meaning.specs.CalledWithAll.{given, AreDistinct};
-ghost use Rattle.dm_meaning.specs.Expressions.{Move, goes, calls, lifted, moves_in, kind_of_run, function_named, node_step};
+ghost use Rattle.dm_meaning.specs.Expressions.{Move, goes, calls, lifted, moves_in, kind_of_run, function_named, node_step, moves};
 ghost use Rattle.dm_meaning.specs.Extending.{AreAmong};
 ghost use Rattle.dm_meaning.specs.Operations.{of_value, Operand, World, Objects};
 ghost use Rattle.dm_meaning.specs.Running.{Doing, evaluates, Run, done, Runs, more_runs, begun, Open, every, first_open, others_open, open_parts, Hole, Holes, all_filled_in, AreOpen, locks_in, operands_in};
@@ -14,15 +14,18 @@ ghost use Rattle.dm_meaning.specs.Values.{At, Value};
 ghost use Rattle.dm_meaning.proofs.MatchLemmas.{may_stand};
 ghost use Rattle.dm_meaning.proofs.PassRunLemmas.{AllYield, MoveYieldsAll};
 ghost use Rattle.dm_meaning.proofs.RunLemmas.{redone};
+ghost use Rattle.dm_rewrite.specs.Closed.{MemoryAvoids, IsClosedIn};
 ghost use Rattle.dm_rewrite.specs.Computed.{Computed, computed, IsPure};
 ghost use Rattle.dm_rewrite.specs.Effects.{Effect, Stage, effects_of, ChangesOnly, IsNoMore};
 ghost use Rattle.dm_rewrite.specs.PureSteps.{Meets};
 ghost use Rattle.dm_central.specs.Added.{IsAdded};
-ghost use Rattle.dm_central.specs.Agreement.{Mode, outside, is_inside, IsReading, AreUnbegun, open_effects, beside_first, before_rest, BegunOutside, IsPassed, RunAgrees, RunsAgree};
-ghost use Rattle.dm_central.specs.Arguments.{Way, untouched, AllFollowed, ReadsFirst, StandsOpen};
+ghost use Rattle.dm_central.specs.Agreement.{Entry, Mode, outside, inside, is_inside, IsReading, AreUnbegun, open_effects, beside_first, before_rest, BegunOutside, IsPassed, RunAgrees, RunsAgree};
+ghost use Rattle.dm_central.specs.Arguments.{ReadsApart, Way, untouched, AllFollowed, ReadsFirst, StandsOpen};
+ghost use Rattle.dm_central.specs.Apart.{ReadsFreeNames};
 ghost use Rattle.dm_central.specs.ArgumentSteps.{IsAtOnce, StandsOnce, ArgumentStep};
+ghost use Rattle.dm_central.specs.Entries.{entries_for};
 ghost use Rattle.dm_central.specs.NodeSteps.{new_scene, old_stage, MeanTheSame};
-ghost use Rattle.dm_central.specs.Outcomes.{StepAgrees, StepsAgree, Met, IsAtCall, calling, calling_hole, IsEntering};
+ghost use Rattle.dm_central.specs.Outcomes.{StepAgrees, StepsAgree, Met, AreSafe, IsClaimed, AreReady, Entered, IsAtCall, calling, calling_hole, IsEntering};
 
 /// Trees that agree still do in a later world that differs only in what others may write.
 pub fn agreement_kept()
@@ -153,4 +156,46 @@ pub fn node_steps()
         → StepAgrees change (old_stage change objects closed quiet) mode world beside
         (node_step (new_scene change news) world fewer (redone change.rename doing) kind place parts operands)
         (node_step (old_stage change objects closed quiet).scene world locks doing kind at others operands) }
+{}
+
+/// Each step of a tree of the new program is met in a tree of the old one that agrees with it, where closed objects are only named, parameters can
+/// be read, and the expressions that always come to something do.
+pub fn tree_steps()
+    ensures each { (change : Called) → IsAdded change → (news objects : Objects) (closed : List ℕ) (quiet : ℕ → Bool) (mode : Mode)
+        → MeanTheSame change mode news objects → (world : World) (fewer locks : List At) → AreAmong fewer locks
+        → AreReady change mode news (old_stage change objects closed quiet) world fewer
+        → ((n : ℕ) → IsAmong n closed → MemoryAvoids n world.memory) → AreSafe (old_stage change objects closed quiet) mode world locks
+        → (beside : List Effect) (run other : Run) → RunAgrees change (old_stage change objects closed quiet) mode world beside run other
+        → ((n : ℕ) → IsAmong n closed → IsClosedIn n objects other)
+        → (move : Move Run Hole) → IsAmong move (moves (new_scene change news) world fewer run)
+        → Met change (old_stage change objects closed quiet) mode world locks beside other move }
+    // A parameter's read, alone: it is met so, or names the parameter, which is still to be read.
+    ensures read { (change : Called) → IsAdded change → (news objects : Objects) (closed : List ℕ) (quiet : ℕ → Bool) (mode : Mode)
+        → MeanTheSame change mode news objects → (world : World) (fewer locks : List At) → AreAmong fewer locks
+        → AreReady change mode news (old_stage change objects closed quiet) world fewer
+        → ((n : ℕ) → IsAmong n closed → MemoryAvoids n world.memory) → AreSafe (old_stage change objects closed quiet) mode world locks
+        → (beside : List Effect) (run other : Run) → IsReading change mode run other
+        → (move : Move Run Hole) → IsAmong move (moves (new_scene change news) world fewer run)
+        → Met change (old_stage change objects closed quiet) mode world locks beside other move
+        ⊎ ((later : Run) × (move ≡ goes world later) × IsReading change mode later other) }
+{}
+
+/// Where the added function is entered, its body agrees with the expression that the old program has.
+pub fn entered_expressions()
+    // It does in any world, wherever its parameters' objects are: where it reads one, the old program has the value, or the untouched argument.
+    ensures agrees { (change : Called) (stage : Stage) (world : World) (values : List Value) (kind : CType) (run : Run)
+        (entered : Entered change stage world values kind run) (stored : List ℕ) → length stored ≡ length change.added.parameters
+        → (inner_stage : Stage) (later : World) (beside : List Effect)
+        → RunAgrees change inner_stage (inside (entries_for change.added.parameters stored values entered.ways)) later beside (begun change.body) run
+        ⊎ IsReading change (inside (entries_for change.added.parameters stored values entered.ways)) (begun change.body) run }
+    // The untouched argument comes to the value of the parameter, if to anything.
+    ensures claimed { (change : Called) (stage : Stage) (world : World) (values : List Value) (kind : CType) (run : Run)
+        (entered : Entered change stage world values kind run) (stored : List ℕ) (entry : Entry)
+        → IsAmong entry (entries_for change.added.parameters stored values entered.ways) → IsClaimed stage world entry.value entry.stood }
+{}
+
+/// A tree that reads objects by their names alone reads nothing that trees beside it write, where these have no effect on those objects. So a local
+/// object to which no pointer leads may be read late.
+pub fn named_reads_are_apart()
+    ensures { (stage : Stage) (effects : List Effect) (tree : Tree) → ReadsFreeNames stage effects tree → ReadsApart stage effects (begun tree) }
 {}
