@@ -62,6 +62,7 @@ module _ (change : Called) (stage : Stage) (mode : Mode) (world later : World) w
   abbrev passed_kept : (beside : List Effect) (doing : Doing) (kind : CType) (other : Run) (inner : Runs) → ChangesOnly stage beside world later → IsPassed change stage mode world beside doing kind other inner
       → IsPassed change stage mode later beside doing kind other inner
   passed_kept beside doing kind other inner k h = record {
+    safe = h.safe;
     elsewhere = h.elsewhere;
     is = h.is;
     typed = h.typed;
@@ -73,6 +74,8 @@ module _ (change : Called) (stage : Stage) (mode : Mode) (world later : World) w
     followed =
         all_followed_kept stage (effects_in stage inner ++ beside) world later
         (changes_more stage beside (effects_in stage inner ++ beside) world later (λ effect l. among_right effect (effects_in stage inner) beside l) k) h.ways inner h.followed;
+    late = h.late;
+    closed = h.closed;
   }
 
   included_first : (opens : Open) (before beside : List Effect) (others : Runs) → Included beside (beside_first stage opens before beside others)
@@ -132,10 +135,11 @@ all_followed_first stage world beside (untouched tree ∷ ways) (more_trees firs
   all_followed_first stage world beside ways rest h.3,
 )
 
-module _ (change : Called) (stage : Stage) (world : World) where
-  abbrev passed_first : (beside : List Effect) (label : Label) (kind : CType) (other : Tree) (arguments : Trees) → IsCall change stage beside label kind other arguments
-      → IsPassed change stage outside world beside (evaluates label) kind (begun other) (all_begun arguments)
+module _ (change : Called) (stage : Stage) (safe : Tree → Bool) (world : World) where
+  abbrev passed_first : (beside : List Effect) (label : Label) (kind : CType) (other : Tree) (arguments : Trees) → IsCall change stage safe beside label kind other arguments
+      → IsPassed change stage (outside safe) world beside (evaluates label) kind (begun other) (all_begun arguments)
   passed_first beside label kind other arguments h = record {
+    safe = safe;
     elsewhere = refl;
     is = ap evaluates h.is;
     typed = h.typed;
@@ -145,31 +149,33 @@ module _ (change : Called) (stage : Stage) (world : World) where
     each = h.each;
     once = h.once;
     followed = all_followed_first stage world (effects_in stage (all_begun arguments) ++ beside) h.ways arguments h.untouched_ones;
+    late = h.late;
+    closed = h.closed;
   }
 
   mutual
     -- They agree in every world.
-    pub begun_agrees : (beside : List Effect) (tree other : Tree) → BegunOutside change stage beside tree other → RunAgrees change stage outside world beside (begun tree) (begun other)
+    pub begun_agrees : (beside : List Effect) (tree other : Tree) → BegunOutside change stage safe beside tree other → RunAgrees change stage (outside safe) world beside (begun tree) (begun other)
     begun_agrees beside (node label kind spans parts) (node other other_kind other_spans others) (inl h) =
         inl (ap evaluates h.0, h.1, refl, all_begun_agree [] beside (open_of other) parts others h.2)
     begun_agrees beside (node label kind spans parts) (node other other_kind other_spans others) (inr h) =
         inr (all_begun h.0, passed_first beside label kind (node other other_kind other_spans others) h.0 h.1, begun_passes beside h.1.kinds parts h.0 h.2)
 
-    pub all_begun_agree : (before beside : List Effect) (opens : Open) (trees others : Trees) → AllBegun change stage before beside opens trees others
-        → RunsAgree change stage outside world before beside opens (all_begun trees) (all_begun others)
+    pub all_begun_agree : (before beside : List Effect) (opens : Open) (trees others : Trees) → AllBegun change stage safe before beside opens trees others
+        → RunsAgree change stage (outside safe) world before beside opens (all_begun trees) (all_begun others)
     all_begun_agree before beside opens no_trees no_trees h = tt
     all_begun_agree before beside opens no_trees (more_trees other others) h = absurd h
     all_begun_agree before beside opens (more_trees first rest) no_trees h = absurd h
     all_begun_agree before beside opens (more_trees first rest) (more_trees other others) h =
         (by_open (first_open opens) refl (begun_agrees (beside_first stage opens before beside (all_begun others)) first other h.0), all_begun_agree (before_rest stage opens before (begun other)) beside (others_open opens) rest others h.1)
       where
-        by_open : (b : Bool) → first_open opens ≡ b → RunAgrees change stage outside world (beside_first stage opens before beside (all_begun others)) (begun first) (begun other)
-            → IfOpen b (RunAgrees change stage outside world (beside_first stage opens before beside (all_begun others)) (begun first) (begun other) ⊎ IsReading change outside (begun first) (begun other)) (AreUnbegun change stage outside beside (begun first) (begun other))
+        by_open : (b : Bool) → first_open opens ≡ b → RunAgrees change stage (outside safe) world (beside_first stage opens before beside (all_begun others)) (begun first) (begun other)
+            → IfOpen b (RunAgrees change stage (outside safe) world (beside_first stage opens before beside (all_begun others)) (begun first) (begun other) ⊎ IsReading change (outside safe) (begun first) (begun other)) (AreUnbegun change stage (outside safe) beside (begun first) (begun other))
         by_open true e later = inl later
-        by_open false e later = record { tree = first; was = other; is = refl; stands = refl; agrees = subst (λ b. BegunOutside change stage (if b then before ++ (open_effects stage (others_open opens) (all_begun others) ++ beside) else beside) first other) e h.0 }
+        by_open false e later = record { tree = first; was = other; is = refl; stands = refl; agrees = subst (λ b. BegunOutside change stage safe (if b then before ++ (open_effects stage (others_open opens) (all_begun others) ++ beside) else beside) first other) e h.0 }
 
-    begun_passes : (beside : List Effect) (kinds : List CType) (parts arguments : Trees) → BegunPasses change stage beside kinds parts arguments
-        → PassesRun change stage outside world beside kinds (all_begun parts) (all_begun arguments)
+    begun_passes : (beside : List Effect) (kinds : List CType) (parts arguments : Trees) → BegunPasses change stage safe beside kinds parts arguments
+        → PassesRun change stage (outside safe) world beside kinds (all_begun parts) (all_begun arguments)
     begun_passes beside kinds no_trees arguments h = absurd h
     begun_passes beside kinds (more_trees named rest) arguments h = (h.0, h.1, all_begun_agree [] beside every rest arguments h.2)
 
@@ -227,8 +233,8 @@ module _ (stage : Stage) where
   followed_beside_less world beside beside' c (untouched tree ∷ ways) (more_runs first rest) h =
       (record { pure = h.0.pure; pure_aside = h.0.pure_aside; typed = h.0.typed; apart = apart_beside_less beside beside' (begun tree) c h.0.apart; follows = h.0.follows }, followed_beside_less world beside beside' c ways rest h.1)
 
-module _ (change : Called) (stage : Stage) where
-  abbrev call_beside_less : (beside beside' : List Effect) → IsNoMore stage beside beside' → (label : Label) (kind : CType) (other : Tree) (arguments : Trees) → IsCall change stage beside label kind other arguments → IsCall change stage beside' label kind other arguments
+module _ (change : Called) (stage : Stage) (safe : Tree → Bool) where
+  abbrev call_beside_less : (beside beside' : List Effect) → IsNoMore stage beside beside' → (label : Label) (kind : CType) (other : Tree) (arguments : Trees) → IsCall change stage safe beside label kind other arguments → IsCall change stage safe beside' label kind other arguments
   call_beside_less beside beside' c label kind other arguments h = record {
     is = h.is;
     typed = h.typed;
@@ -238,15 +244,17 @@ module _ (change : Called) (stage : Stage) where
     each = h.each;
     once = h.once;
     untouched_ones = untouched_beside_less stage (effects_in stage (all_begun arguments) ++ beside) (effects_in stage (all_begun arguments) ++ beside') (no_more_both stage (effects_in stage (all_begun arguments)) beside (effects_in stage (all_begun arguments)) beside' (λ n free. free) c) h.ways arguments h.untouched_ones;
+    late = h.late;
+    closed = h.closed;
   }
 
   mutual
-    begun_beside_less : (beside beside' : List Effect) → IsNoMore stage beside beside' → (tree other : Tree) → BegunOutside change stage beside tree other → BegunOutside change stage beside' tree other
+    begun_beside_less : (beside beside' : List Effect) → IsNoMore stage beside beside' → (tree other : Tree) → BegunOutside change stage safe beside tree other → BegunOutside change stage safe beside' tree other
     begun_beside_less beside beside' c (node label kind spans parts) other (inl h) = inl (h.0, h.1, all_begun_beside_less [] [] beside beside' (λ n free. free) c (open_of (label_of other)) parts (trees_of other) h.2)
     begun_beside_less beside beside' c (node label kind spans parts) other (inr h) = inr (h.0, call_beside_less beside beside' c label kind other h.0 h.1, begun_passes_beside_less beside beside' c h.1.kinds parts h.0 h.2)
 
-    all_begun_beside_less : (before before' beside beside' : List Effect) → IsNoMore stage before before' → IsNoMore stage beside beside' → (opens : Open) (trees others : Trees) → AllBegun change stage before beside opens trees others
-        → AllBegun change stage before' beside' opens trees others
+    all_begun_beside_less : (before before' beside beside' : List Effect) → IsNoMore stage before before' → IsNoMore stage beside beside' → (opens : Open) (trees others : Trees) → AllBegun change stage safe before beside opens trees others
+        → AllBegun change stage safe before' beside' opens trees others
     all_begun_beside_less before before' beside beside' b c opens no_trees no_trees h = tt
     all_begun_beside_less before before' beside beside' b c opens no_trees (more_trees other others) h = absurd h
     all_begun_beside_less before before' beside beside' b c opens (more_trees first rest) no_trees h = absurd h
@@ -255,18 +263,20 @@ module _ (change : Called) (stage : Stage) where
       all_begun_beside_less (before_rest stage opens before (begun other)) (before_rest stage opens before' (begun other)) beside beside' (no_more_rest stage opens before before' (begun other) b) c (others_open opens) rest others h.1,
     )
 
-    begun_passes_beside_less : (beside beside' : List Effect) → IsNoMore stage beside beside' → (kinds : List CType) (parts arguments : Trees) → BegunPasses change stage beside kinds parts arguments → BegunPasses change stage beside' kinds parts arguments
+    begun_passes_beside_less : (beside beside' : List Effect) → IsNoMore stage beside beside' → (kinds : List CType) (parts arguments : Trees) → BegunPasses change stage safe beside kinds parts arguments → BegunPasses change stage safe beside' kinds parts arguments
     begun_passes_beside_less beside beside' c kinds no_trees arguments h = absurd h
     begun_passes_beside_less beside beside' c kinds (more_trees named rest) arguments h = (h.0, h.1, all_begun_beside_less [] [] beside beside' (λ n free. free) c every rest arguments h.2)
 
+module _ (change : Called) (stage : Stage) where
   mode_beside_less : (mode : Mode) (beside beside' : List Effect) → IsNoMore stage beside beside' → (tree other : Tree) → BegunAgrees change stage mode beside tree other → BegunAgrees change stage mode beside' tree other
-  mode_beside_less outside beside beside' c tree other h = begun_beside_less beside beside' c tree other h
+  mode_beside_less (outside safe) beside beside' c tree other h = begun_beside_less change stage safe beside beside' c tree other h
   mode_beside_less (inside entries) beside beside' c tree other h = h
 
   module _ (mode : Mode) (world : World) where
     abbrev passed_beside_less : (beside beside' : List Effect) → IsNoMore stage beside beside' → (doing : Doing) (kind : CType) (other : Run) (inner : Runs) → IsPassed change stage mode world beside doing kind other inner
         → IsPassed change stage mode world beside' doing kind other inner
     passed_beside_less beside beside' c doing kind other inner h = record {
+      safe = h.safe;
       elsewhere = h.elsewhere;
       is = h.is;
       typed = h.typed;
@@ -276,6 +286,8 @@ module _ (change : Called) (stage : Stage) where
       each = h.each;
       once = h.once;
       followed = followed_beside_less stage world (effects_in stage inner ++ beside) (effects_in stage inner ++ beside') (no_more_both stage (effects_in stage inner) beside (effects_in stage inner) beside' (λ n free. free) c) h.ways inner h.followed;
+      late = h.late;
+      closed = h.closed;
     }
 
     mutual

@@ -7,7 +7,7 @@ use Rattle.dm_type.specs.CTypes.{CType}
 use Rattle.dm_tree.specs.Trees.{object, store, update, count, call, Tree}
 use Rattle.dm_meaning.specs.Among.{IsAmong}
 use Rattle.dm_meaning.specs.Values.{At, Value}
-use Rattle.dm_meaning.specs.Operations.{of_value, World, Scene}
+use Rattle.dm_meaning.specs.Operations.{of_value, Objects, World, Scene}
 use Rattle.dm_meaning.specs.Running.{Doing, evaluates, gives_truth, gives_value, Run, done, to_do, Runs, no_runs, more_runs, begun, Open, every, first_open, others_open, open_parts, Hole, here, within, Holes, in_first, in_others, filled_in, all_filled_in, IsOpen, AreOpen, hole_in, holes_in}
 use Rattle.dm_meaning.specs.Expressions.{Move, goes, calls, fails, exits, lifted, moves, moves_in, kind_of_run}
 use Rattle.dm_meaning.specs.Steps.{lacks_value}
@@ -21,16 +21,17 @@ use Rattle.dm_meaning.proofs.PassRunLemmas.{AllYield, MoveYieldsAll, all_filled_
 use Rattle.dm_rewrite.specs.Computed.{Computed, computed, IsPure, ArePure, is_pure_doing}
 use Rattle.dm_rewrite.specs.PureSteps.{Meets}
 use Rattle.dm_rewrite.specs.Aside.{Claims, Follows, IsForeseen}
-use Rattle.dm_rewrite.specs.Closed.{MemoryAvoids, only_closed, IsClosedInAll}
+use Rattle.dm_rewrite.specs.Closed.{Avoids, MemoryAvoids, May, only_closed, may_name, unseen, names_first, IsPlace, FirstIs, IsClosedIn, IsClosedInAll}
 use Rattle.dm_rewrite.specs.Effects.{Effect, on_others, Stage, target_effects, own_effects, effects_of, effects_in, lock_effects, call_effects, IsFree, ChangesOnly, IsNoMore}
 use Rattle.dm_rewrite.proofs.SettleLemmas.{FailsBeside, hopeless, locked_out, undefined_meets}
 use Rattle.dm_rewrite.proofs.AsideLemmas.{filled_pure, part_pure, fails_inside, part_foreseen}
 use Rattle.dm_rewrite.proofs.EffectLemmas.{writes_keep, moves_write}
 use Rattle.dm_rewrite.proofs.ShrinkEffectLemmas.{MovesCalm, runs_calm}
+use Rattle.dm_rewrite.proofs.ClosedRunLemmas.{runs_clear}
 use Rattle.dm_central.specs.Arguments.{Way, at_once, untouched, IsFollowed, AllFollowed, runs_at, trees_at, StandsWhole, ReadsFirst}
-use Rattle.dm_central.specs.Agreement.{Mode, outside, IsPassed, RunAgrees, RunsAgree}
+use Rattle.dm_central.specs.Agreement.{Mode, is_inside, AreClosedIn, IsPassed, RunAgrees, RunsAgree}
 use Rattle.dm_central.specs.ArgumentSteps.{IsAtOnce, StepsAtOnce, StepsAside, FailsNow, ArgumentStep}
-use Rattle.dm_central.specs.Outcomes.{AgreesBehind, AllAgreeBehind, StepAgrees, StepsAgree, Met, AreSafe}
+use Rattle.dm_central.specs.Outcomes.{AvoidsClosed, Entered, GivesOne, AgreesBehind, AllAgreeBehind, StepAgrees, StepsAgree, Met, AreSafe}
 use Rattle.dm_central.proofs.AgreementLemmas.{Included, changes_more, all_followed_kept, no_more_both, followed_beside_less}
 use Rattle.dm_central.proofs.ArgumentStepLemmas.{argument_step}
 use Rattle.dm_central.proofs.ArgumentPlaceLemmas.{at_once_there, first_there}
@@ -59,7 +60,7 @@ module _ (stage : Stage) where
 
   mutual
     -- what a part may write, the whole may
-    effect_inside : (hole : Hole) (run : Run) → Included (effects_of stage run) (effects_of stage (filled_in hole run))
+    pub effect_inside : (hole : Hole) (run : Run) → Included (effects_of stage run) (effects_of stage (filled_in hole run))
     effect_inside here run effect k = k
     effect_inside (within doing kind place holes) run effect k =
         among_right effect (own_effects stage doing (all_filled_in holes run)) (effects_in stage (all_filled_in holes run)) (effects_inside holes run effect k)
@@ -107,7 +108,7 @@ module _ (stage : Stage) where
     same_no_more was now e n free = subst (λ es. IsFree stage.closed es n) e free
 
     mutual
-      filled_no_more : (hole : Hole) → IsOpen hole → IsNoMore stage (effects_of stage (filled_in hole run)) (effects_of stage (filled_in hole filler))
+      pub filled_no_more : (hole : Hole) → IsOpen hole → IsNoMore stage (effects_of stage (filled_in hole run)) (effects_of stage (filled_in hole filler))
       filled_no_more here o = less
       filled_no_more (within doing own place holes) o =
           no_more_both stage (own_effects stage doing (all_filled_in holes run)) (effects_in stage (all_filled_in holes run)) (own_effects stage doing (all_filled_in holes filler)) (effects_in stage (all_filled_in holes filler))
@@ -118,6 +119,41 @@ module _ (stage : Stage) where
           no_more_both stage (effects_of stage (filled_in hole run)) (effects_in stage rest) (effects_of stage (filled_in hole filler)) (effects_in stage rest) (filled_no_more hole o.1) (λ n free. free)
       all_filled_no_more opens (in_others first holes) o =
           no_more_both stage (effects_of stage first) (effects_in stage (all_filled_in holes run)) (effects_of stage first) (effects_in stage (all_filled_in holes filler)) (λ n free. free) (all_filled_no_more (others_open opens) holes o)
+
+-- ---- closed objects
+
+-- the parts of a node
+abbrev parts_of_run : Run → Runs
+parts_of_run (done kind result locks) = no_runs
+parts_of_run (to_do doing kind place parts) = parts
+
+-- a value without pointers to the object stands in the place of a part
+module _ (n : ℕ) (objects : Objects) (run : Run) (kind : CType) (value : Value) (locks : List At) (avoids : Avoids n value) where
+  some_parts : (holes : Holes) → all_filled_in holes run ≡ no_runs → ⊥
+  some_parts (in_first hole rest) e = cc
+  some_parts (in_others first holes) e = cc
+
+  no_place : (doing : Doing) (own : CType) (place : Place) (holes : Holes) → IsPlace n objects (to_do doing own place (all_filled_in holes run)) → ⊥
+  no_place doing own place holes (inl h) = some_parts holes (ap parts_of_run h.3)
+  no_place doing own place holes (inr h) = cc h.2
+
+  first_filled : (may : May) (hole : Hole) → (IsClosedIn n objects (filled_in hole run) → IsClosedIn n objects (filled_in hole (done kind (of_value value) locks)))
+      → FirstIs may (IsClosedIn n objects (filled_in hole run)) (IsPlace n objects (filled_in hole run))
+      → FirstIs may (IsClosedIn n objects (filled_in hole (done kind (of_value value) locks))) (IsPlace n objects (filled_in hole (done kind (of_value value) locks)))
+  first_filled only_closed hole below h = below h
+  first_filled may_name hole below (inl h) = inl (below h)
+  first_filled may_name here below (inr h) = inl avoids
+  first_filled may_name (within doing own place holes) below (inr h) = absurd (no_place doing own place holes h)
+  first_filled unseen hole below h = tt
+
+  mutual
+    filled_closed : (hole : Hole) → IsClosedIn n objects (filled_in hole run) → IsClosedIn n objects (filled_in hole (done kind (of_value value) locks))
+    filled_closed here h = avoids
+    filled_closed (within doing own place holes) h = (h.0, all_filled_closed (names_first doing) holes h.1)
+
+    all_filled_closed : (may : May) (holes : Holes) → IsClosedInAll n objects may (all_filled_in holes run) → IsClosedInAll n objects may (all_filled_in holes (done kind (of_value value) locks))
+    all_filled_closed may (in_first hole rest) h = (first_filled may hole (λ x. filled_closed hole x) h.0, h.1)
+    all_filled_closed may (in_others first holes) h = (h.0, all_filled_closed only_closed holes h.1)
 
 -- ---- trees that come to nothing, or read what is locked
 
@@ -147,8 +183,7 @@ module _ (scene : Scene) (world : World) (locks : List At) where
 module _ (change : Called) (stage : Stage) (mode : Mode) (world : World) (locks : List At) (beside : List Effect) (distinct : AreDistinct change.added.parameters)
     (own : (p : ℕ) → IsAmong p change.added.parameters → (c : ℕ) → change.rename c ≡ p → ⊥)
     (kind : CType) (place : Place) (other : Run) (inner : Runs) (passed : IsPassed change stage mode world beside (evaluates call) kind other inner) (named : Run) (is_named : IsNamedRun change named)
-    (avoid : (n : ℕ) → IsAmong n stage.closed → MemoryAvoids n world.memory) (closed : (n : ℕ) → IsAmong n stage.closed → IsClosedInAll n stage.scene.objects only_closed inner)
-    (safe : AreSafe stage world locks change.added.parameters change.body passed.ways) where
+    (avoid : (n : ℕ) → IsAmong n stage.closed → MemoryAvoids n world.memory) (safe : AreSafe stage mode world locks) where
   -- ---- what steps of the old arguments change
 
   lifts : (holes : Holes) (run : Run) (m : Move Run Hole) → AreOpen every holes → inner ≡ all_filled_in holes run → IsAmong m (moves stage.scene world locks run)
@@ -156,7 +191,16 @@ module _ (change : Called) (stage : Stage) (mode : Mode) (world : World) (locks 
   lifts holes run m o e k = subst (λ rs. IsAmong (lifted (all_filled_in holes) (holes_in holes) m) (moves_in stage.scene world locks every rs)) (sym e) (moves_lift stage.scene world locks every holes run m o k)
 
   shrinks : (m : Move Runs Holes) → IsAmong m (moves_in stage.scene world locks every inner) → MovesCalm stage world locks every inner m
-  shrinks m k = runs_calm stage world locks avoid only_closed every (λ e. absurd (cc)) inner closed m k
+  shrinks m k = runs_calm stage world locks avoid only_closed every (λ e. absurd (cc)) inner passed.closed m k
+
+  -- the old arguments stay closed
+  still_closed : (later : Runs) (after : World) → IsAmong (goes after later) (moves_in stage.scene world locks every inner) → AreClosedIn stage later
+  still_closed later after k n c = (runs_clear n stage.scene world (avoid n c) locks only_closed every (λ e. absurd (cc)) inner (passed.closed n c) (goes after later) k).0
+
+  closed_behind : (g : ℕ) (values : List Value) (type : CType) (holes : Holes) → IsAmong (calls g values type holes) (moves_in stage.scene world locks every inner) → (value : Value) (own_locks : List At)
+      → AvoidsClosed stage value → AreClosedIn stage (all_filled_in holes (done type (of_value value) own_locks))
+  closed_behind g values type holes k value own_locks avoids n c =
+      (runs_clear n stage.scene world (avoid n c) locks only_closed every (λ e. absurd (cc)) inner (passed.closed n c) (calls g values type holes) k).1 value own_locks (avoids n c)
 
   argument_changes : (holes : Holes) (run later : Run) (after : World) → AreOpen every holes → inner ≡ all_filled_in holes run → IsAmong (goes after later) (moves stage.scene world locks run)
       → ChangesOnly stage (effects_in stage inner) world after × IsNoMore stage (effects_in stage inner) (effects_in stage (all_filled_in holes later))
@@ -197,8 +241,10 @@ module _ (change : Called) (stage : Stage) (mode : Mode) (world : World) (locks 
 
   -- the call stands for another expression, with other arguments
   abbrev passed_later : (at : World) (later : Runs) (now : Run) → StandsWhole change (given change.added.parameters passed.kinds) (given change.added.parameters (trees_at passed.ways)) (given change.added.parameters (runs_at passed.ways later)) change.body now
-      → length (run_list later) ≡ length (run_list inner) → AllFollowed stage at (effects_in stage later ++ beside) passed.ways later → IsPassed change stage mode at beside (evaluates call) kind now later
-  passed_later at later now stands same_length followed = record {
+      → length (run_list later) ≡ length (run_list inner) → AllFollowed stage at (effects_in stage later ++ beside) passed.ways later → AreClosedIn stage later
+      → IsPassed change stage mode at beside (evaluates call) kind now later
+  passed_later at later now stands same_length followed closed = record {
+    safe = passed.safe;
     elsewhere = passed.elsewhere;
     is = refl;
     typed = passed.typed;
@@ -208,6 +254,8 @@ module _ (change : Called) (stage : Stage) (mode : Mode) (world : World) (locks 
     each = same_length ∙ passed.each;
     once = passed.once;
     followed = followed;
+    late = passed.late;
+    closed = closed;
   }
 
   agrees_later : (at : World) (parts later : Runs) (now : Run) → IsPassed change stage mode at beside (evaluates call) kind now later → AllYield passed.kinds parts → RunsAgree change stage mode at [] beside every parts later
@@ -220,19 +268,19 @@ module _ (change : Called) (stage : Stage) (mode : Mode) (world : World) (locks 
       → AllFollowed stage world (effects_in stage later ++ beside) passed.ways later
   still_followed later k h =
       followed_beside_less stage world (effects_in stage inner ++ beside) (effects_in stage later ++ beside)
-      (no_more_both stage (effects_in stage inner) beside (effects_in stage later) beside (runs_calm stage world locks avoid only_closed every (λ e. absurd (cc)) inner closed (goes world later) k).0 (λ m free. free)) passed.ways later h
+      (no_more_both stage (effects_in stage inner) beside (effects_in stage later) beside (runs_calm stage world locks avoid only_closed every (λ e. absurd (cc)) inner passed.closed (goes world later) k).0 (λ m free. free)) passed.ways later h
 
   -- a step aside: the old program stands still
-  aside_met : (x n : Move Runs Holes) → MoveYieldsAll passed.kinds x → StepsAgree change stage mode world beside x n → IsAmong n (moves_in stage.scene world locks every inner)
+  aside_met : (x n : Move Runs Holes) → MoveYieldsAll passed.kinds x → StepsAgree change stage mode world [] beside every x n → IsAmong n (moves_in stage.scene world locks every inner)
       → StepsAside stage world (effects_in stage inner ++ beside) passed.ways inner n → Met change stage mode world locks beside other (lifted calling_run calling_hole x)
-  aside_met x n y agrees among aside = by_move x y (subst (StepsAgree change stage mode world beside x) aside.is agrees)
+  aside_met x n y agrees among aside = by_move x y (subst (StepsAgree change stage mode world [] beside every x) aside.is agrees)
     where
-      by_move : (z : Move Runs Holes) → MoveYieldsAll passed.kinds z → StepsAgree change stage mode world beside z (goes world aside.later) → Met change stage mode world locks beside other (lifted calling_run calling_hole z)
+      by_move : (z : Move Runs Holes) → MoveYieldsAll passed.kinds z → StepsAgree change stage mode world [] beside every z (goes world aside.later) → Met change stage mode world locks beside other (lifted calling_run calling_hole z)
       by_move (goes after parts) y k =
           let here = subst (λ m. IsAmong m (moves_in stage.scene world locks every inner)) aside.is among in
           let p =
           passed_later world aside.later other
-          (subst (λ rs. StandsWhole change (given change.added.parameters passed.kinds) (given change.added.parameters (trees_at passed.ways)) (given change.added.parameters rs) change.body other) (sym aside.same) passed.stands) aside.count (still_followed aside.later here aside.followed) in
+          (subst (λ rs. StandsWhole change (given change.added.parameters passed.kinds) (given change.added.parameters (trees_at passed.ways)) (given change.added.parameters rs) change.body other) (sym aside.same) passed.stands) aside.count (still_followed aside.later here aside.followed) (still_closed aside.later world here) in
           inr (inl (record {
             run = calling_run parts;
             is = ap (λ w. goes w (calling_run parts)) k.0;
@@ -256,10 +304,10 @@ module _ (change : Called) (stage : Stage) (mode : Mode) (world : World) (locks 
 
   -- an untouched argument comes to nothing: so the old program can go wrong, since it may evaluate it at once
   failed_met : FailsNow stage world locks passed.ways → (m : Move Run Hole) → Met change stage mode world locks beside other m
-  failed_met failing m = by_place (safe failing.tree failing.among)
+  failed_met failing m = by_place (passed.late failing.tree failing.among)
     where
-      by_place : (Meets locks (computed stage.scene world (begun failing.tree)) → ⊥) ⊎ ((p : ℕ) → given change.added.parameters passed.ways p ≡ Some (untouched failing.tree) → ReadsFirst p change.body) → Met change stage mode world locks beside other m
-      by_place (inl never) = absurd (never failing.meets)
+      by_place : (passed.safe failing.tree ≡ true) ⊎ ((p : ℕ) → given change.added.parameters passed.ways p ≡ Some (untouched failing.tree) → ReadsFirst p change.body) → Met change stage mode world locks beside other m
+      by_place (inl e) = absurd (safe passed.safe passed.elsewhere failing.tree e failing.meets)
       by_place (inr reads) =
           let there = first_there change stage mode world beside distinct own kind other inner passed failing.tree failing.among reads in
           inr (inr (inr (inl (record {
@@ -272,19 +320,19 @@ module _ (change : Called) (stage : Stage) (mode : Mode) (world : World) (locks 
           }))))
 
   -- a step of an argument that stands in the old program
-  at_once_met : (x n : Move Runs Holes) → MoveYieldsAll passed.kinds x → StepsAgree change stage mode world beside x n → (s : StepsAtOnce stage.scene world locks passed.ways inner n) → IsAmong n (moves_in stage.scene world locks every inner) → Met change stage mode world locks beside other (lifted calling_run calling_hole x)
+  at_once_met : (x n : Move Runs Holes) → MoveYieldsAll passed.kinds x → StepsAgree change stage mode world [] beside every x n → (s : StepsAtOnce stage.scene world locks passed.ways inner n) → IsAmong n (moves_in stage.scene world locks every inner) → Met change stage mode world locks beside other (lifted calling_run calling_hole x)
   at_once_met x n y agrees s among =
       let part = at_once_there change stage mode world beside distinct own kind other inner passed s.holes s.run s.is s.position in
       let opened = part.opened s.opened in
       inl (record {
         step = lifted (filled_in part.hole) (hole_in part.hole) s.step;
         among = subst (λ r. IsAmong (lifted (filled_in part.hole) (hole_in part.hole) s.step) (moves stage.scene world locks r)) (sym part.is) (move_lifts stage.scene world locks part.hole s.run s.step opened s.among);
-        agrees = by_step part.hole part.again s.step s.among x y (subst (StepsAgree change stage mode world beside x) s.same agrees);
+        agrees = by_step part.hole part.again s.step s.among x y (subst (StepsAgree change stage mode world [] beside every x) s.same agrees);
       })
     where
       by_step : (hole : Hole)
           → ((after : Run) → StandsWhole change (given change.added.parameters passed.kinds) (given change.added.parameters (trees_at passed.ways)) (given change.added.parameters (runs_at passed.ways (all_filled_in s.holes after))) change.body (filled_in hole after))
-          → (step : Move Run Hole) → IsAmong step (moves stage.scene world locks s.run) → (z : Move Runs Holes) → MoveYieldsAll passed.kinds z → StepsAgree change stage mode world beside z (lifted (all_filled_in s.holes) (holes_in s.holes) step)
+          → (step : Move Run Hole) → IsAmong step (moves stage.scene world locks s.run) → (z : Move Runs Holes) → MoveYieldsAll passed.kinds z → StepsAgree change stage mode world [] beside every z (lifted (all_filled_in s.holes) (holes_in s.holes) step)
           → StepAgrees change stage mode world beside (lifted calling_run calling_hole z) (lifted (filled_in hole) (hole_in hole) step)
       by_step hole again (fails cause at) k z yields c = tt
       by_step hole again (goes after later) k (goes new_after parts) yields c =
@@ -296,7 +344,8 @@ module _ (change : Called) (stage : Stage) (mode : Mode) (world : World) (locks 
           let p =
           passed_later after (all_filled_in s.holes later) (filled_in hole later) (again later) (filled_count s.holes s.run later ∙ sym (ap (λ rs. length (run_list rs)) s.is))
           (followed_beside_less stage after around (effects_in stage (all_filled_in s.holes later) ++ beside)
-          (no_more_both stage (effects_in stage inner) beside (effects_in stage (all_filled_in s.holes later)) beside changed.1 (λ m free. free)) passed.ways (all_filled_in s.holes later) moved) in
+          (no_more_both stage (effects_in stage inner) beside (effects_in stage (all_filled_in s.holes later)) beside changed.1 (λ m free. free)) passed.ways (all_filled_in s.holes later) moved)
+          (still_closed (all_filled_in s.holes later) after (lifts s.holes s.run (goes after later) s.opened s.is k)) in
           (c.0, subst (λ w. RunAgrees change stage mode w beside (calling_run parts) (filled_in hole later)) (sym c.0) (agrees_later after parts (all_filled_in s.holes later) (filled_in hole later) p yields (subst (λ w. RunsAgree change stage mode w [] beside every parts (all_filled_in s.holes later)) c.0 c.1) p refl))
       by_step hole again (goes after later) k (calls f arguments called_kind holes) yields c = absurd c
       by_step hole again (goes after later) k (fails cause at) yields c = absurd c
@@ -307,12 +356,12 @@ module _ (change : Called) (stage : Stage) (mode : Mode) (world : World) (locks 
       by_step hole again (exits status) k (fails cause at) yields c = absurd c
       by_step hole again (calls g values type inner_hole) k (calls f arguments called_kind holes) yields c =
           let changed = argument_calls s.holes s.run g values type inner_hole s.opened s.is k in
-          (c.0, c.1, c.2, λ later kept value own lacks covered. closure changed later kept value own lacks covered)
+          (c.0, c.1, c.2, λ later kept value own lacks avoids covered. closure changed later kept value own lacks avoids covered)
         where
           closure : ((effect : Effect) → IsAmong effect (call_effects stage.quiet (Some g)) → IsAmong effect (effects_in stage inner))
               × ((value : Value) (own : List At) → IsNoMore stage (call_effects stage.quiet (Some g)) (lock_effects own) → IsNoMore stage (effects_in stage inner) (effects_in stage (all_filled_in s.holes (filled_in inner_hole (done type (of_value value) own)))))
               → AgreesBehind change stage mode world beside (call_effects stage.quiet (Some g)) called_kind (calling_hole holes) (hole_in hole inner_hole)
-          closure changed later kept value own lacks covered =
+          closure changed later kept value own lacks avoids covered =
               let filler = done called_kind (of_value value) own in
               let typed : done type (of_value value) own ≡ filler = ap (λ t. done t (of_value value) own) (sym c.2) in
               let inner_run = filled_in inner_hole filler in
@@ -324,9 +373,11 @@ module _ (change : Called) (stage : Stage) (mode : Mode) (world : World) (locks 
               let p =
               passed_later later (all_filled_in s.holes inner_run) (filled_in hole inner_run) (again inner_run) (filled_count s.holes s.run inner_run ∙ sym (ap (λ rs. length (run_list rs)) s.is))
               (followed_beside_less stage later around (effects_in stage (all_filled_in s.holes inner_run) ++ beside)
-              (no_more_both stage (effects_in stage inner) beside (effects_in stage (all_filled_in s.holes inner_run)) beside no_more (λ m free. free)) passed.ways (all_filled_in s.holes inner_run) moved) in
+              (no_more_both stage (effects_in stage inner) beside (effects_in stage (all_filled_in s.holes inner_run)) beside no_more (λ m free. free)) passed.ways (all_filled_in s.holes inner_run) moved)
+              (subst (AreClosedIn stage) (all_filled_twice s.holes inner_hole (done type (of_value value) own) ∙ ap (λ r. all_filled_in s.holes (filled_in inner_hole r)) typed)
+              (closed_behind g values type (holes_in s.holes inner_hole) (lifts s.holes s.run (calls g values type inner_hole) s.opened s.is k) value own avoids)) in
               let runs =
-              subst (λ rs. RunsAgree change stage mode later [] beside every (all_filled_in holes (done called_kind (of_value value) [])) rs) (all_filled_twice s.holes inner_hole filler) (c.3 later kept value own lacks covered) in
+              subst (λ rs. RunsAgree change stage mode later [] beside every (all_filled_in holes (done called_kind (of_value value) [])) rs) (all_filled_twice s.holes inner_hole filler) (c.3 later kept value own lacks avoids covered) in
               subst (λ r. RunAgrees change stage mode later beside (filled_in (calling_hole holes) (done called_kind (of_value value) [])) r) (sym (filled_twice hole inner_hole filler))
               (agrees_later later (all_filled_in holes (done called_kind (of_value value) [])) (all_filled_in s.holes inner_run) (filled_in hole inner_run) p
               (all_filled_yield passed.kinds called_kind holes (done called_kind (of_value value) []) yields (refl, value, refl, lacks)) runs p refl)
@@ -335,7 +386,7 @@ module _ (change : Called) (stage : Stage) (mode : Mode) (world : World) (locks 
       by_step hole again (calls g values type inner_hole) k (exits status) yields c = absurd c
 
   -- A step of the old arguments meets that of the new ones.
-  pub arguments_stepped : (x n : Move Runs Holes) → MoveYieldsAll passed.kinds x → IsAmong n (moves_in stage.scene world locks every inner) → StepsAgree change stage mode world beside x n
+  pub arguments_stepped : (x n : Move Runs Holes) → MoveYieldsAll passed.kinds x → IsAmong n (moves_in stage.scene world locks every inner) → StepsAgree change stage mode world [] beside every x n
       → Met change stage mode world locks beside other (lifted calling_run calling_hole x)
   arguments_stepped x n y among agrees = by_kind (argument_step stage world locks (effects_in stage inner ++ beside) passed.ways inner passed.followed n among)
     where
@@ -432,18 +483,22 @@ module _ (change : Called) (stage : Stage) (mode : Mode) (world : World) (locks 
   same_kind (within doing own spot holes) x y f = refl
 
   -- The added function is called in an argument. The run is the expression with its own arguments, which is no name.
-  module _ (elsewhere : mode ≡ outside) (values : List Value) (called_kind : CType) (holes other_holes : Holes) (open_there : AreOpen every other_holes) (run : Run) (is_inner : inner ≡ all_filled_in other_holes run)
-      (no_name : target_effects stage.scene.objects run ≡ on_others ∷ []) (behind : AllAgreeBehind change stage mode world beside (effects_of stage run) called_kind holes other_holes)
+  module _ (elsewhere : is_inside mode ≡ false) (values : List Value) (called_kind : CType) (holes other_holes : Holes) (open_there : AreOpen every other_holes) (run : Run) (is_inner : inner ≡ all_filled_in other_holes run)
+      (no_name : target_effects stage.scene.objects run ≡ on_others ∷ []) (behind : AllAgreeBehind change stage mode world [] beside every (effects_of stage run) called_kind holes other_holes)
       (yields : MoveYieldsAll passed.kinds (calls change.added.function values called_kind holes)) where
     followed_here : AllFollowed stage world (effects_in stage inner ++ beside) passed.ways (all_filled_in other_holes run)
     followed_here = subst (AllFollowed stage world (effects_in stage inner ++ beside) passed.ways) is_inner passed.followed
+
+    value_closed : (value : Value) (own_locks : List At) → AvoidsClosed stage value → AreClosedIn stage (all_filled_in other_holes (done called_kind (of_value value) own_locks))
+    value_closed value own_locks avoids n c =
+        all_filled_closed n stage.scene.objects run called_kind value own_locks (avoids n c) only_closed other_holes (subst (IsClosedInAll n stage.scene.objects only_closed) is_inner (passed.closed n c))
 
     same_count : (after : Run) → length (run_list (all_filled_in other_holes after)) ≡ length (run_list inner)
     same_count after = filled_count other_holes run after ∙ sym (ap (λ rs. length (run_list rs)) is_inner)
 
     -- the argument stands in the old program: so does the expression
-    entered_at_once : IsAtOnce passed.ways other_holes → Met change stage mode world locks beside other (lifted calling_run calling_hole (calls change.added.function values called_kind holes))
-    entered_at_once i =
+    entered_at_once : GivesOne stage world called_kind run → kind_of_run run ≡ called_kind → Entered change stage world values called_kind run → IsAtOnce passed.ways other_holes → Met change stage mode world locks beside other (lifted calling_run calling_hole (calls change.added.function values called_kind holes))
+    entered_at_once gives typed entered i =
         let part = at_once_there change stage mode world beside distinct own kind other inner passed other_holes run is_inner i in
         inr (inr (inr (inr (inl (record {
           elsewhere = elsewhere;
@@ -456,7 +511,10 @@ module _ (change : Called) (stage : Stage) (mode : Mode) (world : World) (locks 
           run = run;
           is = part.is;
           no_name = no_name;
-          agrees = λ later kept value own_locks lacks less.
+          typed = typed;
+          gives = gives;
+          entered = entered;
+          agrees = λ later kept value own_locks lacks avoids less.
               let filler = done called_kind (of_value value) own_locks in
               let around = effects_in stage inner ++ beside in
               let within : Included (effects_of stage run) around = λ effect l.
@@ -468,19 +526,19 @@ module _ (change : Called) (stage : Stage) (mode : Mode) (world : World) (locks 
               let p =
               passed_later later (all_filled_in other_holes filler) (filled_in part.hole filler) (part.again filler) (same_count filler)
               (followed_beside_less stage later around (effects_in stage (all_filled_in other_holes filler) ++ beside)
-              (no_more_both stage (effects_in stage inner) beside (effects_in stage (all_filled_in other_holes filler)) beside fewer (λ m free. free)) passed.ways (all_filled_in other_holes filler) moved) in
+              (no_more_both stage (effects_in stage inner) beside (effects_in stage (all_filled_in other_holes filler)) beside fewer (λ m free. free)) passed.ways (all_filled_in other_holes filler) moved)
+              (value_closed value own_locks avoids) in
               agrees_later later (all_filled_in holes (done called_kind (of_value value) [])) (all_filled_in other_holes filler) (filled_in part.hole filler) p
-              (all_filled_yield passed.kinds called_kind holes (done called_kind (of_value value) []) yields (refl, value, refl, lacks)) (behind later kept value own_locks lacks less) p refl;
+              (all_filled_yield passed.kinds called_kind holes (done called_kind (of_value value) []) yields (refl, value, refl, lacks)) (behind later kept value own_locks lacks avoids less) p refl;
         })))))
 
     -- it is untouched in the old program: what the call comes to is known
-    module _ (pure : IsPure run) (gives_one : (found : Computed) → computed stage.scene world run ≡ Some found → (value : Value) × (found.result ≡ of_value value) × (lacks_value called_kind value ≡ false))
-        (typed : kind_of_run run ≡ called_kind) where
+    module _ (pure : IsPure run) (gives_one : GivesOne stage world called_kind run) (typed : kind_of_run run ≡ called_kind) where
       entered_within : (a : IsAside passed.ways world (effects_in stage inner ++ beside) other_holes run) → IsForeseen stage.scene world (begun a.tree) a.hole run
           → Met change stage mode world locks beside other (lifted calling_run calling_hole (calls change.added.function values called_kind holes))
       entered_within a h =
           let around = effects_in stage inner ++ beside in
-          let there = gives_one h.part h.is in
+          let there = gives_one pure h.part h.is in
           let value = there.0 in
           let filler = done called_kind (of_value value) [] in
           let result_is : done (kind_of_run run) h.part.result [] ≡ filler = ap (λ t. done t h.part.result []) typed ∙ ap (λ r. done called_kind r []) there.1 in
@@ -503,16 +561,18 @@ module _ (change : Called) (stage : Stage) (mode : Mode) (world : World) (locks 
             is = h.is;
             value = value;
             comes = there.1;
+            lacks = there.2;
             agrees = λ later kept.
                 let more = changes_more stage [] around world later (λ effect l. absurd l) kept in
                 let p =
                 passed_later later (all_filled_in other_holes filler) other
                 (subst (λ rs. StandsWhole change (given change.added.parameters passed.kinds) (given change.added.parameters (trees_at passed.ways)) (given change.added.parameters rs) change.body other) (sym (a.same filler ∙ sym (ap (runs_at passed.ways) is_inner))) passed.stands)
                 (same_count filler)
-                (subst (λ es. AllFollowed stage later (es ++ beside) passed.ways (all_filled_in other_holes filler)) same_effects (all_followed_kept stage around world later more passed.ways (all_filled_in other_holes filler) now)) in
+                (subst (λ es. AllFollowed stage later (es ++ beside) passed.ways (all_filled_in other_holes filler)) same_effects (all_followed_kept stage around world later more passed.ways (all_filled_in other_holes filler) now))
+                (value_closed value [] there.3) in
                 agrees_later later (all_filled_in holes filler) (all_filled_in other_holes filler) other p
                 (all_filled_yield passed.kinds called_kind holes filler yields (refl, value, refl, there.2))
-                (behind later (changes_more stage [] (effects_of stage run) world later (λ effect l. absurd l) kept) value [] there.2 (λ n free effect l. absurd l)) p refl;
+                (behind later (changes_more stage [] (effects_of stage run) world later (λ effect l. absurd l) kept) value [] there.2 there.3 (λ n free effect l. absurd l)) p refl;
           })))))
 
       entered_aside : IsAside passed.ways world (effects_in stage inner ++ beside) other_holes run → Met change stage mode world locks beside other (lifted calling_run calling_hole (calls change.added.function values called_kind holes))
@@ -523,20 +583,17 @@ module _ (change : Called) (stage : Stage) (mode : Mode) (world : World) (locks 
           by_either (inl h) = entered_within a h
           by_either (inr e) = failed_met (record { tree = a.tree; among = a.among; meets = subst (Meets locks) (sym e) tt }) _
 
-    pub arguments_entered : (IsPure run → ((found : Computed) → computed stage.scene world run ≡ Some found → (value : Value) × (found.result ≡ of_value value) × (lacks_value called_kind value ≡ false)) × (kind_of_run run ≡ called_kind))
+    pub arguments_entered : GivesOne stage world called_kind run → kind_of_run run ≡ called_kind → Entered change stage world values called_kind run
         → Met change stage mode world locks beside other (lifted calling_run calling_hole (calls change.added.function values called_kind holes))
-    arguments_entered gives = by_position (position_of passed.ways world (effects_in stage inner ++ beside) other_holes run followed_here)
+    arguments_entered gives typed entered = by_position (position_of passed.ways world (effects_in stage inner ++ beside) other_holes run followed_here)
       where
         by_position : IsAtOnce passed.ways other_holes ⊎ IsAside passed.ways world (effects_in stage inner ++ beside) other_holes run
             → Met change stage mode world locks beside other (lifted calling_run calling_hole (calls change.added.function values called_kind holes))
-        by_position (inl i) = entered_at_once i
-        by_position (inr a) =
-            let pure = part_pure a.hole run a.followed.pure_aside in
-            let one = gives pure in
-            entered_aside pure one.0 one.1 a
+        by_position (inl i) = entered_at_once gives typed entered i
+        by_position (inr a) = entered_aside (part_pure a.hole run a.followed.pure_aside) gives typed a
 
   -- it is called in a part that stands nowhere, within such an argument or in another one
-  pub arguments_entered_aside : (elsewhere : mode ≡ outside) (values : List Value) (called_kind : CType) (holes : Holes) (run : Run) → IsPure run → (found : Computed) → computed stage.scene world run ≡ Some found
+  pub arguments_entered_aside : (elsewhere : is_inside mode ≡ false) (values : List Value) (called_kind : CType) (holes : Holes) (run : Run) → IsPure run → (found : Computed) → computed stage.scene world run ≡ Some found
       → (value : Value) → found.result ≡ of_value value → lacks_value called_kind value ≡ false → MoveYieldsAll passed.kinds (calls change.added.function values called_kind holes)
       → ((later : World) → ChangesOnly stage [] world later → RunsAgree change stage mode later [] beside every (all_filled_in holes (done called_kind (of_value value) [])) inner)
       → Met change stage mode world locks beside other (lifted calling_run calling_hole (calls change.added.function values called_kind holes))
@@ -553,10 +610,11 @@ module _ (change : Called) (stage : Stage) (mode : Mode) (world : World) (locks 
         is = is;
         value = value;
         comes = comes;
+        lacks = lacks;
         agrees = λ later kept.
             let around = effects_in stage inner ++ beside in
             let more = changes_more stage [] around world later (λ effect l. absurd l) kept in
-            let p = passed_later later inner other passed.stands refl (all_followed_kept stage around world later more passed.ways inner passed.followed) in
+            let p = passed_later later inner other passed.stands refl (all_followed_kept stage around world later more passed.ways inner passed.followed) passed.closed in
             agrees_later later (all_filled_in holes (done called_kind (of_value value) [])) inner other p
             (all_filled_yield passed.kinds called_kind holes (done called_kind (of_value value) []) yields (refl, value, refl, lacks)) (behind later kept) p refl;
       })))))

@@ -76,7 +76,7 @@ module _ (change : Called) (tree_at : ℕ → Option (Option Tree)) (p : ℕ) (o
       by_parts : (others : Trees) → AreSameBut change tree_at (more_trees (node (object p) h.named_kind h.named_spans no_trees) no_trees) others → ⊥
       by_parts no_trees k = k
       by_parts (more_trees other others) (inl k, l) = not_renamed (label_of other) k.0
-      by_parts (more_trees other others) (inr (reads, k), l) = object_not_read p h.named_kind _ h.named_spans _ _ reads.is
+      by_parts (more_trees other others) (inr (reads, k, g), l) = object_not_read p h.named_kind _ h.named_spans _ _ reads.is
 
   mutual
     same_there : (tree was : Tree) → IsSameBut change tree_at tree was → ReadsFirst p tree → IsThere (begun was)
@@ -84,7 +84,7 @@ module _ (change : Called) (tree_at : ℕ → Option (Option Tree)) (p : ℕ) (o
         absurd (not_the_same (node label kind spans parts) (node other other_kind other_spans others) r h.0 h.3)
     same_there (node label kind spans parts) (node other other_kind other_spans others) (inl h) (inr r) =
         in_node other other_kind other_spans.place (open_of label) (all_begun others) (sym (open_of_relabelled change.rename other) ∙ sym (ap open_of h.0)) (all_same_there (open_of label) parts others h.3 r)
-    same_there (node label kind spans parts) was (inr (reads, e)) r =
+    same_there (node label kind spans parts) was (inr (reads, e, g)) r =
         let is_p : reads.parameter ≡ p = reads_only p reads.parameter (kind_of was) reads.named_kind reads.spans reads.named_spans (subst (ReadsFirst p) reads.is r) in
         record { hole = here; opened = tt; is = ap begun (its_own was (subst (λ d. tree_at d ≡ Some (Some was)) is_p e)) }
 
@@ -119,7 +119,7 @@ module _ (change : Called) (tree_at : ℕ → Option (Option Tree)) (p : ℕ) (o
             where
               by_same : (was : Tree) → IsSameBut change tree_at (node (object p) r.named_kind r.named_spans no_trees) was → ⊥
               by_same was (inl s) = not_renamed (label_of was) s.0
-              by_same was (inr (reads, s)) = object_not_read p r.named_kind _ r.named_spans _ _ reads.is
+              by_same was (inr (reads, s, g)) = object_not_read p r.named_kind _ r.named_spans _ _ reads.is
           by_parts (more_runs x xs) (inr (o, inl s), k) = object_not_read p r.named_kind _ r.named_spans _ _ s.reads.is
           by_parts (more_runs (done x_kind x_result x_locks) xs) (inr (o, inr s), k) = s
           by_parts (more_runs (to_do x_doing x_kind x_place x_parts) xs) (inr (o, inr s), k) = by_doing (doing_is (object p) x_doing s.0)

@@ -5,3 +5,11 @@ mod PlaceLemmas
 mod ArgumentPlaceLemmas
 mod ArgumentStepLemmas
 mod CallLemmas
+mod FactLemmas
+mod NodeLemmas
+mod OpenEffectLemmas
+mod OutcomeLemmas
+mod EnteredLemmas
+mod DiagramLemmas
+mod EntryLemmas
+mod ApartLemmas

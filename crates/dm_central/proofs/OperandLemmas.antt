@@ -96,9 +96,10 @@ module _ (change : Called) (stage : Stage) (mode : Mode) (world after : World) w
   -- The first operand, which may be evaluated, takes a step.
   pub first_moved : (before beside : List Effect) (opens : Open) (first : Run) (rest : Runs) (other : Run) (others : Runs) (first_later other_later : Run) → first_open opens ≡ true
       → RunsAgree change stage mode world before beside opens (more_runs first rest) (more_runs other others) → ChangesOnly stage (effects_of stage other) world after → IsNoMore stage (effects_of stage other) (effects_of stage other_later)
-      → RunAgrees change stage mode after (beside_first stage opens before beside others) first_later other_later → RunsAgree change stage mode after before beside opens (more_runs first_later rest) (more_runs other_later others)
+      → RunAgrees change stage mode after (beside_first stage opens before beside others) first_later other_later ⊎ IsReading change mode first_later other_later
+      → RunsAgree change stage mode after before beside opens (more_runs first_later rest) (more_runs other_later others)
   first_moved before beside opens first rest other others first_later other_later o h k c now = (
-    subst (λ b. IfOpen b (RunAgrees change stage mode after (beside_first stage opens before beside others) first_later other_later ⊎ IsReading change mode first_later other_later) (AreUnbegun change stage mode beside first_later other_later)) (sym o) (inl now),
+    subst (λ b. IfOpen b (RunAgrees change stage mode after (beside_first stage opens before beside others) first_later other_later ⊎ IsReading change mode first_later other_later) (AreUnbegun change stage mode beside first_later other_later)) (sym o) now,
     runs_beside_less change stage mode after (before_rest stage opens before other) (before_rest stage opens before other_later) beside beside (no_more_later opens before other other_later c) (λ n free. free) (others_open opens) rest others
         (runs_kept_before (before_rest stage opens before other) beside (others_open opens) rest others
         (changes_more stage (effects_of stage other) (before_rest stage opens before other) world after

@@ -52,7 +52,7 @@ module _ (change : Called) (kind_at : ℕ → Option CType) (tree_at : ℕ → O
     same_elsewhere : (tree was : Tree) → IsSameBut change tree_at tree was → times_named d tree ≡ 0
     same_elsewhere (node label kind spans parts) (node other other_kind other_spans others) (inl h) =
         sums (times_here d label) (times_named_in d parts) 0 0 (ap (times_here d) h.0 ∙ renamed_elsewhere change d own other) (all_same_elsewhere parts others h.3)
-    same_elsewhere (node label kind spans parts) was (inr (reads, e)) =
+    same_elsewhere (node label kind spans parts) was (inr (reads, e, g)) =
         ap (times_named d) reads.is ∙ reads_elsewhere reads.parameter (kind_of was) reads.named_kind reads.spans reads.named_spans (λ f. not_tree was (subst (λ q. tree_at q ≡ Some (Some was)) f e))
 
     all_same_elsewhere : (trees others : Trees) → AreSameBut change tree_at trees others → times_named_in d trees ≡ 0

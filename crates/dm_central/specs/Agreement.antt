@@ -1,7 +1,7 @@
 -- The one relation between trees under evaluation of the new program and of the old one, where calls of an added function stand in place of its
 -- expression: their arguments are evaluated in both programs at once, or stand untouched in the old one until they are read.
 --     Mode      the trees stand in other functions, or in the added one, whose parameters are known
---     BegunOutside change stage effects tree other      trees of which nothing is evaluated, beside trees with these effects
+--     BegunOutside change stage safe effects tree other      trees of which nothing is evaluated, beside trees with these effects
 --     RunAgrees change stage mode world effects run other      trees under evaluation, beside trees with these effects
 use Rattle.std.specs.Prelude.{◌≡◌, ◌⊎◌, ℕ, Bool, true, false, List, [], ◌∷◌, ◌++◌, length, map, Option, Some, None, if◌then◌else◌}
 use Rattle.dm_token.specs.declared.place.Place.{Place}
@@ -14,7 +14,7 @@ use Rattle.dm_meaning.specs.Causes.{is_other}
 use Rattle.dm_meaning.specs.Operations.{of_value, designates, World, whole}
 use Rattle.dm_meaning.specs.Running.{Doing, evaluates, Run, done, to_do, Runs, no_runs, more_runs, begun, all_begun, Open, every, first_open, others_open, open_of, open_parts}
 use Rattle.dm_meaning.specs.Replaced.{relabelled}
-use Rattle.dm_meaning.specs.Called.{Called, new_of}
+use Rattle.dm_meaning.specs.Called.{Called, new_of, Gives}
 use Rattle.dm_meaning.specs.CalledWithAll.{given, times_named}
 use Rattle.dm_meaning.specs.Extending.{AreAmong}
 use Rattle.dm_meaning.specs.Statements.{type_declared}
@@ -23,8 +23,9 @@ use Rattle.dm_meaning.proofs.MatchLemmas.{may_stand, IsNamedRun}
 use Rattle.dm_meaning.proofs.StandLemmas.{run_list}
 use Rattle.dm_meaning.proofs.PassRunLemmas.{AllYield}
 use Rattle.dm_rewrite.specs.Computed.{IsPure}
+use Rattle.dm_rewrite.specs.Closed.{only_closed, IsClosedInAll}
 use Rattle.dm_rewrite.specs.Effects.{Effect, Stage, effects_of, effects_in}
-use Rattle.dm_central.specs.Arguments.{ReadsApart, Way, at_once, untouched, AllFollowed, runs_at, trees_at, IsSameBut, StandsWhole}
+use Rattle.dm_central.specs.Arguments.{ReadsApart, Way, at_once, untouched, AllFollowed, runs_at, trees_at, IsSameBut, StandsWhole, ReadsFirst}
 
 -- ---- parameters in the added function
 
@@ -40,16 +41,17 @@ pub record Entry : Type 0 where
   pub value : Value
   pub stood : Stood
 
+-- The trees stand in other functions, where some expressions always come to something; or in the added one, with these parameters.
 pub data Mode : Type 0 where
-  outside : Mode
+  outside : (Tree → Bool) → Mode
   inside : List Entry → Mode
 
 abbrev pub is_inside : Mode → Bool
-is_inside outside = false
+is_inside (outside safe) = false
 is_inside (inside entries) = true
 
 abbrev pub entries_of : Mode → List Entry
-entries_of outside = []
+entries_of (outside safe) = []
 entries_of (inside entries) = entries
 
 -- the parameter's name, evaluated or not
@@ -59,7 +61,7 @@ named_object entry true kind place = done kind (designates (whole (numbered entr
 
 abbrev pub StandsFor : Entry → Stood → CType → Run → Type 0
 StandsFor entry a_value kind other = (locks : List At) × (other ≡ done kind (of_value entry.value) locks)
-StandsFor entry (a_tree tree) kind other = (other ≡ begun tree) × (kind ≡ kind_of tree)
+StandsFor entry (a_tree tree) kind other = (other ≡ begun tree) × (kind ≡ kind_of tree) × Gives tree
 
 -- a parameter is still to be read
 pub record IsReading (change : Called) (mode : Mode) (run other : Run) : Type 0 where
@@ -99,8 +101,17 @@ AllUntouched stage beside (untouched tree ∷ ways) (more_trees first rest) =
     (first ≡ tree) × IsPure (begun tree) × ReadsApart stage beside (begun tree) × AllUntouched stage beside ways rest
 AllUntouched stage beside ways trees = ⊥
 
+-- the closed objects are only read or written by name
+abbrev pub AreClosedIn : Stage → Runs → Type 0
+AreClosedIn stage parts = (n : ℕ) → IsAmong n stage.closed → IsClosedInAll n stage.scene.objects only_closed parts
+
+-- an untouched argument always comes to something, or its parameter is read first in the expression
+abbrev pub AreLate : (Tree → Bool) → List ℕ → Tree → List Way → Type 0
+AreLate safe parameters body ways =
+    (tree : Tree) → IsAmong (untouched tree) ways → (safe tree ≡ true) ⊎ ((p : ℕ) → given parameters ways p ≡ Some (untouched tree) → ReadsFirst p body)
+
 -- a call of the added function, where the old program has its expression with these arguments in it
-pub record IsCall (change : Called) (stage : Stage) (beside : List Effect) (label : Label) (kind : CType) (other : Tree) (arguments : Trees) : Type 0 where
+pub record IsCall (change : Called) (stage : Stage) (safe : Tree → Bool) (beside : List Effect) (label : Label) (kind : CType) (other : Tree) (arguments : Trees) : Type 0 where
   pub is : label ≡ call
   pub typed : kind ≡ kind_of change.body
   pub kinds : List CType
@@ -110,26 +121,28 @@ pub record IsCall (change : Called) (stage : Stage) (beside : List Effect) (labe
   pub each : length (run_list (all_begun arguments)) ≡ length change.added.parameters
   pub once : (d : ℕ) → given change.added.parameters ways d ≡ Some at_once → times_named d change.body ≡ 1
   pub untouched_ones : AllUntouched stage (effects_in stage (all_begun arguments) ++ beside) ways arguments
+  pub late : AreLate safe change.added.parameters change.body ways
+  pub closed : AreClosedIn stage (all_begun arguments)
 
 abbrev mutual
-  pub BegunOutside : Called → Stage → List Effect → Tree → Tree → Type 0
-  BegunOutside change stage beside (node label kind spans parts) other =
+  pub BegunOutside : Called → Stage → (Tree → Bool) → List Effect → Tree → Tree → Type 0
+  BegunOutside change stage safe beside (node label kind spans parts) other =
       ((label ≡ relabelled change.rename (label_of other)) × (kind ≡ kind_of other)
-      × AllBegun change stage [] beside (open_of (label_of other)) parts (trees_of other))
-      ⊎ ((arguments : Trees) × (called : IsCall change stage beside label kind other arguments) × BegunPasses change stage beside called.kinds parts arguments)
+      × AllBegun change stage safe [] beside (open_of (label_of other)) parts (trees_of other))
+      ⊎ ((arguments : Trees) × (called : IsCall change stage safe beside label kind other arguments) × BegunPasses change stage safe beside called.kinds parts arguments)
 
-  pub AllBegun : Called → Stage → List Effect → List Effect → Open → Trees → Trees → Type 0
-  AllBegun change stage before beside opens no_trees no_trees = Unit {0}
-  AllBegun change stage before beside opens (more_trees first rest) (more_trees other others) =
-      BegunOutside change stage (beside_first stage opens before beside (all_begun others)) first other
-      × AllBegun change stage (before_rest stage opens before (begun other)) beside (others_open opens) rest others
-  AllBegun change stage before beside opens trees others = ⊥
+  pub AllBegun : Called → Stage → (Tree → Bool) → List Effect → List Effect → Open → Trees → Trees → Type 0
+  AllBegun change stage safe before beside opens no_trees no_trees = Unit {0}
+  AllBegun change stage safe before beside opens (more_trees first rest) (more_trees other others) =
+      BegunOutside change stage safe (beside_first stage opens before beside (all_begun others)) first other
+      × AllBegun change stage safe (before_rest stage opens before (begun other)) beside (others_open opens) rest others
+  AllBegun change stage safe before beside opens trees others = ⊥
 
   -- the function's name, and the new arguments against the old ones
-  pub BegunPasses : Called → Stage → List Effect → List CType → Trees → Trees → Type 0
-  BegunPasses change stage beside kinds no_trees arguments = ⊥
-  BegunPasses change stage beside kinds (more_trees named rest) arguments =
-      IsNamedRun change (begun named) × AllYield kinds (all_begun rest) × AllBegun change stage [] beside every rest arguments
+  pub BegunPasses : Called → Stage → (Tree → Bool) → List Effect → List CType → Trees → Trees → Type 0
+  BegunPasses change stage safe beside kinds no_trees arguments = ⊥
+  BegunPasses change stage safe beside kinds (more_trees named rest) arguments =
+      IsNamedRun change (begun named) × AllYield kinds (all_begun rest) × AllBegun change stage safe [] beside every rest arguments
 
 -- the untouched arguments of a frame's parameters
 abbrev pub tree_stood : Stood → Option Tree
@@ -140,7 +153,7 @@ abbrev pub stood_at : List Entry → ℕ → Option (Option Tree)
 stood_at entries d = given (map (λ (entry : Entry). entry.parameter) entries) (map (λ (entry : Entry). tree_stood entry.stood) entries) d
 
 abbrev pub BegunAgrees : Called → Stage → Mode → List Effect → Tree → Tree → Type 0
-BegunAgrees change stage outside beside tree other = BegunOutside change stage beside tree other
+BegunAgrees change stage (outside safe) beside tree other = BegunOutside change stage safe beside tree other
 BegunAgrees change stage (inside entries) beside tree other = IsSameBut change (stood_at entries) tree other
 
 -- ---- trees under evaluation
@@ -159,7 +172,8 @@ IfOpen false open_part unbegun = unbegun
 
 -- A call of the added function that isn't evaluated yet. Its old arguments under evaluation stand in the old program, or are followed aside.
 pub record IsPassed (change : Called) (stage : Stage) (mode : Mode) (world : World) (beside : List Effect) (doing : Doing) (kind : CType) (other : Run) (inner : Runs) : Type 0 where
-  pub elsewhere : mode ≡ outside
+  pub safe : Tree → Bool
+  pub elsewhere : mode ≡ outside safe
   pub is : doing ≡ evaluates call
   pub typed : kind ≡ kind_of change.body
   pub kinds : List CType
@@ -169,6 +183,8 @@ pub record IsPassed (change : Called) (stage : Stage) (mode : Mode) (world : Wor
   pub each : length (run_list inner) ≡ length change.added.parameters
   pub once : (d : ℕ) → given change.added.parameters ways d ≡ Some at_once → times_named d change.body ≡ 1
   pub followed : AllFollowed stage world (effects_in stage inner ++ beside) ways inner
+  pub late : AreLate safe change.added.parameters change.body ways
+  pub closed : AreClosedIn stage inner
 
 abbrev mutual
   pub RunAgrees : Called → Stage → Mode → World → List Effect → Run → Run → Type 0

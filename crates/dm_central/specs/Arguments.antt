@@ -16,7 +16,7 @@ use Rattle.dm_meaning.specs.Operations.{World}
 use Rattle.dm_meaning.specs.Running.{evaluates, Run, done, to_do, Runs, no_runs, more_runs, begun, Open, first_open, others_open, open_of, open_parts, Hole, filled_in, IsOpen}
 use Rattle.dm_meaning.specs.Expressions.{kind_of_run}
 use Rattle.dm_meaning.specs.Replaced.{relabelled}
-use Rattle.dm_meaning.specs.Called.{Called, new_of, means_the_same}
+use Rattle.dm_meaning.specs.Called.{Called, new_of, means_the_same, Gives}
 use Rattle.dm_meaning.specs.Statements.{type_declared}
 use Rattle.dm_meaning.proofs.RunLemmas.{redone}
 use Rattle.dm_meaning.proofs.MatchLemmas.{may_stand}
@@ -77,11 +77,12 @@ pub record ReadsParameter (change : Called) (tree : Tree) (kind : CType) : Type 
   pub own : is_other kind (object_of (bare (type_declared (new_of change) parameter)) false) ≡ false
 
 abbrev mutual
-  -- a tree of the added function and one of the old program are the same, but for untouched arguments where the first reads parameters
+  -- A tree of the added function and one of the old program are the same, but for untouched arguments where the first reads parameters; these are
+  -- expressions that give values.
   pub IsSameBut : Called → (ℕ → Option (Option Tree)) → Tree → Tree → Type 0
   IsSameBut change tree_at (node label kind spans parts) other =
       ((label ≡ relabelled change.rename (label_of other)) × (kind ≡ kind_of other) × (means_the_same change.old (label_of other) ≡ true) × AreSameBut change tree_at parts (trees_of other))
-      ⊎ ((reads : ReadsParameter change (node label kind spans parts) (kind_of other)) × (tree_at reads.parameter ≡ Some (Some other)))
+      ⊎ ((reads : ReadsParameter change (node label kind spans parts) (kind_of other)) × (tree_at reads.parameter ≡ Some (Some other)) × Gives other)
 
   pub AreSameBut : Called → (ℕ → Option (Option Tree)) → Trees → Trees → Type 0
   AreSameBut change tree_at no_trees no_trees = Unit {0}

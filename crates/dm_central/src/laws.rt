@@ -1,23 +1,31 @@
-ghost use Rattle.std.specs.Prelude.{◌≡◌, ℕ, true, false, List, [], Some, None};
+ghost use Rattle.std.specs.Prelude.{◌≡◌, ◌⊎◌, ℕ, Bool, true, false, List, [], length, Some, option_map};
 ghost use Rattle.dm_token.specs.declared.place.Place.{Place};
 ghost use Rattle.dm_type.specs.CTypes.{CType};
 ghost use Rattle.dm_tree.specs.Trees.{call, Tree};
 ghost use Rattle.dm_meaning.specs.Among.{IsAmong};
 ghost use Rattle.dm_meaning.specs.Called.{Called};
 ghost use Rattle.dm_meaning.specs.CalledWithAll.{given, AreDistinct};
-ghost use Rattle.dm_meaning.specs.Expressions.{Move, goes, calls, lifted, moves_in};
-ghost use Rattle.dm_meaning.specs.Operations.{of_value, World};
-ghost use Rattle.dm_meaning.specs.Running.{evaluates, Run, done, Runs, more_runs, begun, Open, every, first_open, others_open, Hole, Holes, all_filled_in, AreOpen};
+ghost use Rattle.dm_meaning.specs.Expressions.{Move, goes, calls, lifted, moves_in, kind_of_run, function_named, node_step, moves};
+ghost use Rattle.dm_meaning.specs.Extending.{AreAmong};
+ghost use Rattle.dm_meaning.specs.Operations.{of_value, Operand, World, Objects};
+ghost use Rattle.dm_meaning.specs.Running.{Doing, evaluates, Run, done, Runs, more_runs, begun, Open, every, first_open, others_open, open_parts, Hole, Holes, all_filled_in, AreOpen, locks_in, operands_in};
 ghost use Rattle.dm_meaning.specs.Steps.{lacks_value};
 ghost use Rattle.dm_meaning.specs.Values.{At, Value};
+ghost use Rattle.dm_meaning.proofs.MatchLemmas.{may_stand};
 ghost use Rattle.dm_meaning.proofs.PassRunLemmas.{AllYield, MoveYieldsAll};
+ghost use Rattle.dm_meaning.proofs.RunLemmas.{redone};
+ghost use Rattle.dm_rewrite.specs.Closed.{MemoryAvoids, IsClosedIn};
 ghost use Rattle.dm_rewrite.specs.Computed.{Computed, computed, IsPure};
 ghost use Rattle.dm_rewrite.specs.Effects.{Effect, Stage, effects_of, ChangesOnly, IsNoMore};
 ghost use Rattle.dm_rewrite.specs.PureSteps.{Meets};
-ghost use Rattle.dm_central.specs.Agreement.{Mode, outside, open_effects, beside_first, before_rest, BegunOutside, IsPassed, RunAgrees, RunsAgree};
-ghost use Rattle.dm_central.specs.Arguments.{Way, untouched, AllFollowed, ReadsFirst, StandsOpen};
+ghost use Rattle.dm_central.specs.Added.{IsAdded};
+ghost use Rattle.dm_central.specs.Agreement.{Entry, Mode, outside, inside, is_inside, IsReading, AreUnbegun, open_effects, beside_first, before_rest, BegunOutside, IsPassed, RunAgrees, RunsAgree};
+ghost use Rattle.dm_central.specs.Arguments.{ReadsApart, Way, untouched, AllFollowed, ReadsFirst, StandsOpen};
+ghost use Rattle.dm_central.specs.Apart.{ReadsFreeNames};
 ghost use Rattle.dm_central.specs.ArgumentSteps.{IsAtOnce, StandsOnce, ArgumentStep};
-ghost use Rattle.dm_central.specs.Outcomes.{StepsAgree, Met, IsAtCall, calling, calling_hole, IsEntering};
+ghost use Rattle.dm_central.specs.Entries.{entries_for};
+ghost use Rattle.dm_central.specs.NodeSteps.{new_scene, old_stage, MeanTheSame};
+ghost use Rattle.dm_central.specs.Outcomes.{StepAgrees, StepsAgree, Met, AreSafe, IsClaimed, AreReady, Entered, IsAtCall, calling, calling_hole, IsEntering};
 
 /// Trees that agree still do in a later world that differs only in what others may write.
 pub fn agreement_kept()
@@ -35,8 +43,9 @@ pub fn agreement_beside_less()
 
 /// Trees of which nothing is evaluated agree in every world.
 pub fn begun_agreement()
-    ensures { (change : Called) (stage : Stage) (world : World) (beside : List Effect) (tree other : Tree)
-        → BegunOutside change stage beside tree other → RunAgrees change stage outside world beside (begun tree) (begun other) }
+    ensures { (change : Called) (stage : Stage) (safe : Tree → Bool) (world : World) (beside : List Effect) (tree other : Tree)
+        → BegunOutside change stage safe beside tree other
+        → RunAgrees change stage (outside safe) world beside (begun tree) (begun other) }
 {}
 
 /// When one operand of a node takes a step, all still agree, in the world that it leaves, where the operand writes only what it may, and no more
@@ -47,6 +56,7 @@ pub fn moved_operands()
         → RunsAgree change stage mode world before beside opens (more_runs first rest) (more_runs other others)
         → ChangesOnly stage (effects_of stage other) world after → IsNoMore stage (effects_of stage other) (effects_of stage other_later)
         → RunAgrees change stage mode after (beside_first stage opens before beside others) first_later other_later
+        ⊎ IsReading change mode first_later other_later
         → RunsAgree change stage mode after before beside opens (more_runs first_later rest) (more_runs other_later others) }
     ensures others { (change : Called) (stage : Stage) (mode : Mode) (world after : World) (before beside : List Effect) (opens : Open)
         (first : Run) (rest : Runs) (other : Run) (others rest_later others_later : Runs)
@@ -88,7 +98,7 @@ pub fn call_steps()
     ensures stepped { (change : Called) (stage : Stage) (mode : Mode) (world : World) (locks : List At) (beside : List Effect) (kind : CType)
         (place : Place) (other : Run) (inner : Runs) (named : Run) (at : IsAtCall change stage mode world locks beside kind other inner named)
         (x n : Move Runs Holes) → MoveYieldsAll at.passed.kinds x → IsAmong n (moves_in stage.scene world locks every inner)
-        → StepsAgree change stage mode world beside x n
+        → StepsAgree change stage mode world [] beside every x n
         → Met change stage mode world locks beside other (lifted (calling kind place named) (calling_hole kind place named) x) }
     // No step of them.
     ensures stood { (change : Called) (stage : Stage) (mode : Mode) (world : World) (locks : List At) (beside : List Effect) (kind : CType)
@@ -109,10 +119,83 @@ pub fn call_steps()
     // It is called where it stands nowhere in the old program.
     ensures entered_aside { (change : Called) (stage : Stage) (mode : Mode) (world : World) (locks : List At) (beside : List Effect) (kind : CType)
         (place : Place) (other : Run) (inner : Runs) (named : Run) (at : IsAtCall change stage mode world locks beside kind other inner named)
-        → mode ≡ outside → (values : List Value) (called_kind : CType) (holes : Holes) (run : Run) → IsPure run → (found : Computed)
+        → is_inside mode ≡ false → (values : List Value) (called_kind : CType) (holes : Holes) (run : Run) → IsPure run → (found : Computed)
         → computed stage.scene world run ≡ Some found → (value : Value) → found.result ≡ of_value value → lacks_value called_kind value ≡ false
         → MoveYieldsAll at.passed.kinds (calls change.added.function values called_kind holes)
         → ((later : World) → ChangesOnly stage [] world later
         → RunsAgree change stage mode later [] beside every (all_filled_in holes (done called_kind (of_value value) [])) inner)
         → Met change stage mode world locks beside other (calls change.added.function values called_kind (calling_hole kind place named holes)) }
+{}
+
+/// What trees that agree have in common.
+pub fn common_facts()
+    // They have one type, and name one function, if any.
+    ensures facts { (change : Called) → IsAdded change → (stage : Stage) (mode : Mode) (world : World) (beside : List Effect) (run other : Run)
+        → RunAgrees change stage mode world beside run other
+        → (kind_of_run run ≡ kind_of_run other) × (function_named run ≡ option_map change.rename (function_named other)) }
+    // Where the operands of the new node are evaluated, so are those of the old one, to the same results.
+    ensures operands { (change : Called) (stage : Stage) (mode : Mode) (world : World) (before beside : List Effect) (opens : Open) (parts others : Runs)
+        (operands : List Operand) → RunsAgree change stage mode world before beside opens parts others
+        → operands_in opens parts ≡ Some operands → operands_in opens others ≡ Some operands }
+    // The new tree has locked nothing that the old one hasn't.
+    ensures locks { (change : Called) → IsAdded change → (stage : Stage) (mode : Mode) (world : World) (beside : List Effect) (run other : Run)
+        → RunAgrees change stage mode world beside run other → AreAmong (locks_in run) (locks_in other) }
+    // An operand that wasn't begun agrees in any world.
+    ensures unbegun { (change : Called) (stage : Stage) (mode : Mode) (world : World) (beside : List Effect) (run other : Run)
+        → AreUnbegun change stage mode beside run other
+        → RunAgrees change stage mode world beside run other ⊎ IsReading change mode run other }
+{}
+
+/// The step of a node whose operands are evaluated agrees with that of the old node, beside at least the same locks.
+pub fn node_steps()
+    ensures { (change : Called) → IsAdded change → (news objects : Objects) (closed : List ℕ) (quiet : ℕ → Bool) (mode : Mode)
+        → MeanTheSame change mode news objects → (world : World) (fewer locks : List At) → AreAmong fewer locks → (beside : List Effect)
+        (doing : Doing) (kind : CType) (place at : Place) (parts others : Runs) (operands : List Operand)
+        → RunsAgree change (old_stage change objects closed quiet) mode world [] beside (open_parts doing) parts others
+        → may_stand change.old (is_inside mode) doing ≡ true
+        → StepAgrees change (old_stage change objects closed quiet) mode world beside
+        (node_step (new_scene change news) world fewer (redone change.rename doing) kind place parts operands)
+        (node_step (old_stage change objects closed quiet).scene world locks doing kind at others operands) }
+{}
+
+/// Each step of a tree of the new program is met in a tree of the old one that agrees with it, where closed objects are only named, parameters can
+/// be read, and the expressions that always come to something do.
+pub fn tree_steps()
+    ensures each { (change : Called) → IsAdded change → (news objects : Objects) (closed : List ℕ) (quiet : ℕ → Bool) (mode : Mode)
+        → MeanTheSame change mode news objects → (world : World) (fewer locks : List At) → AreAmong fewer locks
+        → AreReady change mode news (old_stage change objects closed quiet) world fewer
+        → ((n : ℕ) → IsAmong n closed → MemoryAvoids n world.memory) → AreSafe (old_stage change objects closed quiet) mode world locks
+        → (beside : List Effect) (run other : Run) → RunAgrees change (old_stage change objects closed quiet) mode world beside run other
+        → ((n : ℕ) → IsAmong n closed → IsClosedIn n objects other)
+        → (move : Move Run Hole) → IsAmong move (moves (new_scene change news) world fewer run)
+        → Met change (old_stage change objects closed quiet) mode world locks beside other move }
+    // A parameter's read, alone: it is met so, or names the parameter, which is still to be read.
+    ensures read { (change : Called) → IsAdded change → (news objects : Objects) (closed : List ℕ) (quiet : ℕ → Bool) (mode : Mode)
+        → MeanTheSame change mode news objects → (world : World) (fewer locks : List At) → AreAmong fewer locks
+        → AreReady change mode news (old_stage change objects closed quiet) world fewer
+        → ((n : ℕ) → IsAmong n closed → MemoryAvoids n world.memory) → AreSafe (old_stage change objects closed quiet) mode world locks
+        → (beside : List Effect) (run other : Run) → IsReading change mode run other
+        → (move : Move Run Hole) → IsAmong move (moves (new_scene change news) world fewer run)
+        → Met change (old_stage change objects closed quiet) mode world locks beside other move
+        ⊎ ((later : Run) × (move ≡ goes world later) × IsReading change mode later other) }
+{}
+
+/// Where the added function is entered, its body agrees with the expression that the old program has.
+pub fn entered_expressions()
+    // It does in any world, wherever its parameters' objects are: where it reads one, the old program has the value, or the untouched argument.
+    ensures agrees { (change : Called) (stage : Stage) (world : World) (values : List Value) (kind : CType) (run : Run)
+        (entered : Entered change stage world values kind run) (stored : List ℕ) → length stored ≡ length change.added.parameters
+        → (inner_stage : Stage) (later : World) (beside : List Effect)
+        → RunAgrees change inner_stage (inside (entries_for change.added.parameters stored values entered.ways)) later beside (begun change.body) run
+        ⊎ IsReading change (inside (entries_for change.added.parameters stored values entered.ways)) (begun change.body) run }
+    // The untouched argument comes to the value of the parameter, if to anything.
+    ensures claimed { (change : Called) (stage : Stage) (world : World) (values : List Value) (kind : CType) (run : Run)
+        (entered : Entered change stage world values kind run) (stored : List ℕ) (entry : Entry)
+        → IsAmong entry (entries_for change.added.parameters stored values entered.ways) → IsClaimed stage world entry.value entry.stood }
+{}
+
+/// A tree that reads objects by their names alone reads nothing that trees beside it write, where these have no effect on those objects. So a local
+/// object to which no pointer leads may be read late.
+pub fn named_reads_are_apart()
+    ensures { (stage : Stage) (effects : List Effect) (tree : Tree) → ReadsFreeNames stage effects tree → ReadsApart stage effects (begun tree) }
 {}

@@ -5,5 +5,6 @@ mod laws;
 
 pub use laws::{
     agreement_beside_less, agreement_kept, argument_places, argument_steps, begun_agreement,
-    call_steps, moved_operands,
+    call_steps, common_facts, entered_expressions, moved_operands, named_reads_are_apart,
+    node_steps, tree_steps,
 };

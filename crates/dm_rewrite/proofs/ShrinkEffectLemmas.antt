@@ -554,7 +554,7 @@ module _ (stage : Stage) where
         the_parts g = cc
     place_parts n doing kind place parts may (inr (other, own, e)) = absurd (cc)
 
-    all_parts : (doing : Doing) (kind : CType) (place : Place) (parts : Runs) → AllFirst (to_do doing kind place parts) → AllRuns (names_first doing) parts
+    pub all_parts : (doing : Doing) (kind : CType) (place : Place) (parts : Runs) → AllFirst (to_do doing kind place parts) → AllRuns (names_first doing) parts
     all_parts doing kind place parts h n c = by_either (h n c)
       where
         by_either : IsClosedIn n stage.scene.objects (to_do doing kind place parts) ⊎ IsPlace n stage.scene.objects (to_do doing kind place parts)
@@ -616,7 +616,7 @@ module _ (stage : Stage) where
           let from = among-map_from (lifted (more_runs first) (in_others first)) m others k in
           subst (MovesCalm opens (more_runs first rest)) (sym from.2) (rest_calm opens first rest from.0 (more from.0 from.1))
 
-      first_of : (may : May) (opened : Bool) (first : Run) (rest : Runs) → (may ≡ unseen → opened ≡ false) → opened ≡ true → AllRuns may (more_runs first rest)
+      pub first_of : (may : May) (opened : Bool) (first : Run) (rest : Runs) → (may ≡ unseen → opened ≡ false) → opened ≡ true → AllRuns may (more_runs first rest)
           → AllFirst first
       first_of may_name opened first rest shut e h = λ n c. (h n c).0
       first_of only_closed opened first rest shut e h = λ n c. inl (h n c).0
