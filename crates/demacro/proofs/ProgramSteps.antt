@@ -4,6 +4,7 @@ use Rattle.dm_token.specs.declared.stop.Memory.{Memory}
 use Rattle.dm_token.specs.declared.unit.Unit.{Unit as Source}
 use Rattle.dm_io.specs.Faults.{Rose}
 use Rattle.dm_lines.specs.Outside.{Outside, KeepsFiles, Puts}
+use Rattle.dm_lines.specs.Statuses as statuses
 use Rattle.dm_words.specs.Requests.{RunRequest, AsksToRun}
 use Rattle.dm_running.specs.Endings.{RunEnding, status_of_run, EndsRun, EndsRunAs, HoldsRun}
 use Rattle.dm_running.proofs.RunSteps.{run_earlier}
@@ -39,9 +40,9 @@ program_missing request project file told_project told_file before after why (Er
 
 -- where the run can be put and nothing fails, it is
 module _ (complete_run : (request : RunRequest) (unit : Source) (before after : Outside) (ending : RunEnding) → HoldsRun before.files request unit → EndsRun request unit before after ending
-    → ¬ Rose before.folder_faults after.folder_faults → ¬ Rose before.sink_faults after.sink_faults → (status_of_run ending ≡ 0) ⊎ (status_of_run ending ≡ 8)) where
+    → ¬ Rose before.folder_faults after.folder_faults → ¬ Rose before.sink_faults after.sink_faults → (status_of_run ending ≡ statuses.done) ⊎ (status_of_run ending ≡ statuses.memory_wanted)) where
   complete_program : (request : RunRequest) (before after : Outside) (ending : ProgramEnding) → HoldsProgramOf before.files request → EndsRunning request before after ending
-      → ¬ Rose before.folder_faults after.folder_faults → ¬ Rose before.sink_faults after.sink_faults → (status_of_program ending ≡ 0) ⊎ (status_of_program ending ≡ 8)
+      → ¬ Rose before.folder_faults after.folder_faults → ¬ Rose before.sink_faults after.sink_faults → (status_of_program ending ≡ statuses.done) ⊎ (status_of_program ending ≡ statuses.memory_wanted)
   complete_program request before after (unit_ended ending) holds ends folder sink =
       let told = holds.holds.are_told in
       let same : ends.0 ≡ holds.unit =
@@ -57,10 +58,10 @@ module _ (complete_run : (request : RunRequest) (unit : Source) (before after : 
 
 pub complete_program_for : ((w : List (List ℕ)) (a b : RunRequest) → AsksToRun w a → AsksToRun w b → a ≡ b)
     → ((request : RunRequest) (unit : Source) (before after : Outside) (ending : RunEnding) → HoldsRun before.files request unit → EndsRun request unit before after ending
-    → ¬ Rose before.folder_faults after.folder_faults → ¬ Rose before.sink_faults after.sink_faults → (status_of_run ending ≡ 0) ⊎ (status_of_run ending ≡ 8))
+    → ¬ Rose before.folder_faults after.folder_faults → ¬ Rose before.sink_faults after.sink_faults → (status_of_run ending ≡ statuses.done) ⊎ (status_of_run ending ≡ statuses.memory_wanted))
     → (words : List (List ℕ)) (request : RunRequest) (before after : Outside) (status : ℕ) → Ends words before after status → AsksToRun words request → HoldsProgramOf before.files request
-    → ¬ Rose before.folder_faults after.folder_faults → ¬ Rose before.sink_faults after.sink_faults → (status ≡ 0) ⊎ (status ≡ 8)
+    → ¬ Rose before.folder_faults after.folder_faults → ¬ Rose before.sink_faults after.sink_faults → (status ≡ statuses.done) ⊎ (status ≡ statuses.memory_wanted)
 complete_program_for once complete_run words request before after status (inr wanting) asks holds folder sink = inr wanting.0
 complete_program_for once complete_run words request before after status (inl ends) asks holds folder sink =
     let named = subst (λ asked. EndsFor asked before after status) (asks_that_run words request ends.0 once ends.1 asks) ends.2 in
-    subst (λ n. (n ≡ 0) ⊎ (n ≡ 8)) (sym named.1) (complete_program complete_run request before after named.0 holds named.2 folder sink)
+    subst (λ n. (n ≡ statuses.done) ⊎ (n ≡ statuses.memory_wanted)) (sym named.1) (complete_program complete_run request before after named.0 holds named.2 folder sink)

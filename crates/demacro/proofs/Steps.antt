@@ -20,6 +20,7 @@ use Rattle.demacro.specs.declared.applying.Committed.TheVariants.{Done, WriteFai
 use Rattle.dm_lines.specs.Puts.{PutsText}
 use Rattle.dm_lines.specs.Outside.{Outside, HasText, IsAbsent, IsTooLong, Puts, KeepsFiles}
 use Rattle.dm_lines.specs.Lines.{write_fault_line}
+use Rattle.dm_lines.specs.Statuses as statuses
 use Rattle.demacro.specs.Texts.{usage_line}
 use Rattle.dm_words.specs.Requests.{RunRequest, AsksToRun}
 use Rattle.demacro.specs.RunEndings.{EndsRunningAs}
@@ -131,7 +132,7 @@ never_left bytes program offset is (inr early) = early.unfinished program is
 
 -- where the file holds a program and nothing fails, all is done
 pub complete : (name : List ℕ) (before after : Outside) (program : Program) (ending : Ending) → HoldsProgram before.files name program → EndsAt name before after ending
-    → ¬ Rose before.folder_faults after.folder_faults → ¬ Rose before.sink_faults after.sink_faults → (status_of ending ≡ 0) ⊎ (status_of ending ≡ 8)
+    → ¬ Rose before.folder_faults after.folder_faults → ¬ Rose before.sink_faults after.sink_faults → (status_of ending ≡ statuses.done) ⊎ (status_of ending ≡ statuses.memory_wanted)
 complete name before after program (done other) holds ends folder sink = inl refl
 complete name before after program wrong_words holds ends folder sink = absurd ends
 complete name before after program file_absent holds ends folder sink =
@@ -170,12 +171,12 @@ ends_told name alias before after plan trouble (Ok status) planned is same keeps
 ends_told name alias before after plan trouble (Err error) planned is same keeps puts status_is unwritten = (keeps, unwritten)
 
 -- a call ends for want of memory, whatever its words are
-pub ends_wanting : (words : List (List ℕ)) (before after : Outside) → IsWanting before after → Ends words before after 8
+pub ends_wanting : (words : List (List ℕ)) (before after : Outside) → IsWanting before after → Ends words before after statuses.memory_wanted
 ends_wanting words before after wanting = inr (refl, wanting)
 
 -- where the arguments can't be read, the process ends as with wrong words
 pub ends_unread : (kind : ErrorKind) (before after : Outside) (status : ℕ) → KeepsFiles before after → PutsUsage before.written after.written before.sink_faults after.sink_faults status
-    → (is_want_of_memory kind ≡ true → status ≡ 8) → EndsUnread kind before after status
+    → (is_want_of_memory kind ≡ true → status ≡ statuses.memory_wanted) → EndsUnread kind before after status
 ends_unread kind before after status keeps (inl put) wanting =
     (wrong_words, put.0, (keeps, put.1), λ want. let eight = wanting want in let one = put.0 in absurd (omega arith))
 ends_unread kind before after status keeps (inr none) wanting = (memory_wanted, none.0, (keeps, none.1), λ want. refl)
@@ -186,7 +187,7 @@ at_error result error P Q is holds = subst (λ told. MatchResult told P Q) (sym 
 
 -- a call with other words puts the usage line, or ends for want of memory
 pub ends_unnamed : (words : List (List ℕ)) (before after : Outside) (result : Result ℕ Memory) → Asks words None → KeepsFiles before after → OnOk result (Puts before after usage_line)
-    → IfOk result (λ status. status ≡ 1) → OnErr result (after.written ≡ before.written) → EndsAs words before after result
+    → IfOk result (λ status. status ≡ statuses.wrong_words) → OnErr result (after.written ≡ before.written) → EndsAs words before after result
 ends_unnamed words before after (Ok status) none keeps puts is unwritten =
     inl (None, none, (wrong_words, is, (keeps, puts)))
 ends_unnamed words before after (Err error) none keeps puts is unwritten = (keeps, unwritten)
@@ -240,11 +241,11 @@ asks_that_run words request (Some (run one)) once asks is = ap (λ r. Some (run 
 
 -- where the words are good, the file holds a program and nothing fails, the status says that all is done
 pub complete_for : (words : List (List ℕ)) (name : List ℕ) (before after : Outside) (program : Program) (status : ℕ) → Ends words before after status → request_of words ≡ Some (apply name)
-    → HoldsProgram before.files name program → ¬ Rose before.folder_faults after.folder_faults → ¬ Rose before.sink_faults after.sink_faults → (status ≡ 0) ⊎ (status ≡ 8)
+    → HoldsProgram before.files name program → ¬ Rose before.folder_faults after.folder_faults → ¬ Rose before.sink_faults after.sink_faults → (status ≡ statuses.done) ⊎ (status ≡ statuses.memory_wanted)
 complete_for words name before after program status (inr wanting) asks holds folder sink = inr wanting.0
 complete_for words name before after program status (inl ends) asks holds folder sink =
     let named = subst (λ request. EndsFor request before after status) (asks_that words (apply name) ends.0 ends.1 asks) ends.2 in
-    subst (λ n. (n ≡ 0) ⊎ (n ≡ 8)) (sym named.1) (complete name before after program named.0 holds named.2 folder sink)
+    subst (λ n. (n ≡ statuses.done) ⊎ (n ≡ statuses.memory_wanted)) (sym named.1) (complete name before after program named.0 holds named.2 folder sink)
 
 -- words that ask for no run ask for another command, or for nothing
 pub asks_for_other : (words : List (List ℕ)) (found : Option Command) → ((request : RunRequest) → ¬ AsksToRun words request) → AsksForOther words found → AsksFor words found

@@ -32,6 +32,7 @@ use Rattle.demacro.proofs.Steps.{asks_that}
 use Rattle.demacro.specs.Endings.{Ends, EndsFor}
 use Rattle.demacro.specs.Words.{expand, request_of}
 use Rattle.dm_lines.specs.Stops.{line_of_stop, status_of_stop}
+use Rattle.dm_lines.specs.Statuses as statuses
 use Rattle.demacro.specs.UnitEndings.{UnitEnding, listed, unit_missing, refused, limit_passed, file_unread, listing_failed, memory_wanted, status_of_unit, IsReading, listing, EndsWith, EndsWithAs, EndsExpanding, EndsExpandingAs, HoldsUnit}
 
 -- what a call for the unit gives is its reading
@@ -42,9 +43,9 @@ is_reading (Some files) unit old new result is gives = subst (λ (loaded : Loade
 
 -- a unit that was read is listed, or its listing fails, or memory is wanted
 pub ends_listed : (unit : Source) (before after : Outside) (tokens : UnitTokens) (files : Loaded) (result : Result ℕ Memory) → IsReading before.files unit (Ok tokens) files → KeepsFiles before after
-    → (result ≡ Ok 0 → after.written ≡ appended before.written (listing tokens))
-    → (result ≡ Ok 7 → Rose before.sink_faults after.sink_faults × MayHaveAppended before.written after.written (listing tokens))
-    → IfOk result (λ status. (status ≡ 0) ⊎ (status ≡ 7)) → OnErr result (after.written ≡ before.written) → EndsWithAs unit before after result
+    → (result ≡ Ok statuses.done → after.written ≡ appended before.written (listing tokens))
+    → (result ≡ Ok statuses.output_fault → Rose before.sink_faults after.sink_faults × MayHaveAppended before.written after.written (listing tokens))
+    → IfOk result (λ status. (status ≡ statuses.done) ⊎ (status ≡ statuses.output_fault)) → OnErr result (after.written ≡ before.written) → EndsWithAs unit before after result
 ends_listed unit before after tokens files (Err error) read keeps done failed status unwritten = (keeps, unwritten)
 ends_listed unit before after tokens files (Ok status) read keeps done failed (inl is) unwritten = (listed tokens files, is, (read, keeps, done (ap Ok is)))
 ends_listed unit before after tokens files (Ok status) read keeps done failed (inr is) unwritten =
@@ -229,7 +230,7 @@ unread project file before holds why loaded other has reads =
 
 -- where the unit is read and nothing fails, only two endings are left
 complete_unit : (project file : List ℕ) (before after : Outside) (ending : UnitEnding) → HoldsUnit before.files project file → EndsExpanding project file before after ending
-    → ¬ Rose before.folder_faults after.folder_faults → ¬ Rose before.sink_faults after.sink_faults → (status_of_unit ending ≡ 0) ⊎ (status_of_unit ending ≡ 8)
+    → ¬ Rose before.folder_faults after.folder_faults → ¬ Rose before.sink_faults after.sink_faults → (status_of_unit ending ≡ statuses.done) ⊎ (status_of_unit ending ≡ statuses.memory_wanted)
 complete_unit project file before after (listed tokens files) holds ends folder sink = inl refl
 complete_unit project file before after (unit_missing why) holds ends folder sink =
     let has = subst (λ told. HasUnit told project file holds.unit) holds.are_told holds.has in
@@ -243,8 +244,8 @@ complete_unit project file before after memory_wanted holds ends folder sink = i
 
 -- where the unit is read and nothing fails, it is put
 pub complete_unit_for : (words : List (List ℕ)) (project file : List ℕ) (before after : Outside) (status : ℕ) → Ends words before after status → request_of words ≡ Some (expand project file)
-    → HoldsUnit before.files project file → ¬ Rose before.folder_faults after.folder_faults → ¬ Rose before.sink_faults after.sink_faults → (status ≡ 0) ⊎ (status ≡ 8)
+    → HoldsUnit before.files project file → ¬ Rose before.folder_faults after.folder_faults → ¬ Rose before.sink_faults after.sink_faults → (status ≡ statuses.done) ⊎ (status ≡ statuses.memory_wanted)
 complete_unit_for words project file before after status (inr wanting) asks holds folder sink = inr wanting.0
 complete_unit_for words project file before after status (inl ends) asks holds folder sink =
     let named = subst (λ request. EndsFor request before after status) (asks_that words (expand project file) ends.0 ends.1 asks) ends.2 in
-    subst (λ n. (n ≡ 0) ⊎ (n ≡ 8)) (sym named.1) (complete_unit project file before after named.0 holds named.2 folder sink)
+    subst (λ n. (n ≡ statuses.done) ⊎ (n ≡ statuses.memory_wanted)) (sym named.1) (complete_unit project file before after named.0 holds named.2 folder sink)

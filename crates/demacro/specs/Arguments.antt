@@ -7,6 +7,7 @@ use Rattle.std.specs.declared.vec.IntoIter.{IntoIter}
 use Rattle.demacro.specs.Texts.{usage_line}
 use Rattle.dm_lines.specs.Puts.{PutsText}
 use Rattle.dm_lines.specs.Outside.{Outside}
+use Rattle.dm_lines.specs.Statuses as statuses
 use Rattle.demacro.specs.Endings.{Ending, status_of, memory_wanted, EndsWithoutFile}
 
 -- what an iterator is still to give
@@ -21,7 +22,7 @@ is_want_of_memory _ = false
 -- the usage line is put and the status says so, or nothing is put for want of memory
 abbrev pub PutsUsage : Option (List ℕ) → Option (List ℕ) → ℕ → ℕ → ℕ → Type 0
 PutsUsage before after faults_before faults_after status =
-    ((status ≡ 1) × PutsText before after faults_before faults_after usage_line) ⊎ ((status ≡ 8) × (after ≡ before))
+    ((status ≡ statuses.wrong_words) × PutsText before after faults_before faults_after usage_line) ⊎ ((status ≡ statuses.memory_wanted) × (after ≡ before))
 
 -- the process ends as with wrong words, and for want of memory where the arguments can't be read for that
 abbrev pub EndsUnread : ErrorKind → Outside → Outside → ℕ → Type 0

@@ -7,6 +7,7 @@ use Rattle.demacro.specs.declared.planning.Prepared.{Prepared}
 use Rattle.demacro.specs.declared.applying.Committed.{Committed}
 use Rattle.demacro.specs.declared.applying.Committed.TheVariants.{Done, WriteFailed, OutputFailed}
 use Rattle.dm_lines.specs.Outside.{Outside, Puts}
+use Rattle.dm_lines.specs.Statuses as statuses
 
 -- memory is taken for the new bytes of the file
 abbrev pub HasRoom : Option (List ℕ) → ℕ → Type 0
@@ -33,9 +34,9 @@ IsCommitted name prepared before after OutputFailed =
 
 -- the status of each end
 abbrev pub status_after : Committed → ℕ
-status_after Done = 0
-status_after WriteFailed = 6
-status_after OutputFailed = 7
+status_after Done = statuses.done
+status_after WriteFailed = statuses.write_fault
+status_after OutputFailed = statuses.output_fault
 
 -- applying a plan ended, with this status
 abbrev pub IsCommittedAs : List ℕ → Prepared → Outside → Outside → ℕ → Type 0

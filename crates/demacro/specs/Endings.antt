@@ -16,6 +16,7 @@ use Rattle.demacro.specs.UnitEndings.{UnitEnding, status_of_unit, EndsExpanding}
 use Rattle.demacro.specs.Plans.{absent_refusal, form_refusal}
 use Rattle.demacro.specs.RunEndings.{ProgramEnding, status_of_program, EndsRunning}
 use Rattle.dm_lines.specs.Outside.{Outside, HasText, IsAbsent, IsTooLong, Puts, KeepsFiles}
+use Rattle.dm_lines.specs.Statuses as statuses
 
 -- the endings, with the program that was applied, or with the bytes that are no program and where they leave the form
 pub data Ending : Type 0 where
@@ -31,15 +32,15 @@ pub data Ending : Type 0 where
 
 -- the exit status of each
 abbrev pub status_of : Ending → ℕ
-status_of (done program) = 0
-status_of wrong_words = 1
-status_of file_absent = 3
-status_of (form_left bytes offset) = 3
-status_of file_too_long = 4
-status_of read_failed = 5
-status_of (write_failed program) = 6
-status_of (output_failed program) = 7
-status_of memory_wanted = 8
+status_of (done program) = statuses.done
+status_of wrong_words = statuses.wrong_words
+status_of file_absent = statuses.refused
+status_of (form_left bytes offset) = statuses.refused
+status_of file_too_long = statuses.limit_passed
+status_of read_failed = statuses.read_fault
+status_of (write_failed program) = statuses.write_fault
+status_of (output_failed program) = statuses.output_fault
+status_of memory_wanted = statuses.memory_wanted
 
 -- the file holds a program of the first form, which is rewritten to one with the same outcome
 pub record IsApplied (before : Outside) (name : List ℕ) (program : Program) : Type 0 where
@@ -96,7 +97,7 @@ IsWanting before after = KeepsFiles before after × (after.written ≡ before.wr
 -- A call with these words ends with this status: what the words ask for is done, or memory is wanted.
 abbrev pub Ends : List (List ℕ) → Outside → Outside → ℕ → Type 0
 Ends words before after status =
-    ((asked : Option Request) × Asks words asked × EndsFor asked before after status) ⊎ ((status ≡ 8) × IsWanting before after)
+    ((asked : Option Request) × Asks words asked × EndsFor asked before after status) ⊎ ((status ≡ statuses.memory_wanted) × IsWanting before after)
 
 -- a call that applies a file ends: with a status, or for want of memory
 abbrev pub EndsNamed : List ℕ → Outside → Outside → Result ℕ Memory → Type 0

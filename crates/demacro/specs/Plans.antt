@@ -18,6 +18,7 @@ use Rattle.demacro.specs.declared.planning.Plan.TheVariants.{Apply, Explain}
 use Rattle.dm_lines.specs.Lines.{refusal_line, limit_line, read_fault_line, write_fault_line}
 use Rattle.demacro.specs.Texts.{report_of}
 use Rattle.dm_lines.specs.Outside.{HasText, IsAbsent, IsTooLong}
+use Rattle.dm_lines.specs.Statuses as statuses
 
 -- the change of a file: none where its bytes stay, and else the new ones
 abbrev pub IsChange : List ℕ → List ℕ → Option (List ℕ) → Type 0
@@ -67,7 +68,7 @@ line_for name TooLong = limit_line limits.file_bytes name
 line_for name ReadFault = read_fault_line name
 
 abbrev pub status_for : Trouble → ℕ
-status_for NotFound = 3
-status_for (NotYet place) = 3
-status_for TooLong = 4
-status_for ReadFault = 5
+status_for NotFound = statuses.refused
+status_for (NotYet place) = statuses.refused
+status_for TooLong = statuses.limit_passed
+status_for ReadFault = statuses.read_fault

@@ -14,7 +14,9 @@ use Rattle.demacro.specs.declared.project.Sought.{Sought}
 use Rattle.demacro.specs.declared.project.Sought.TheVariants.{Found, Missing}
 use Rattle.demacro.specs.declared.project.NoUnit.{NoUnit}
 use Rattle.demacro.specs.declared.project.NoUnit.TheVariants.{ProjectName, NoManifest, TooLong, ReadFault, Manifest, Unlisted}
+use Rattle.dm_lines.specs.ManifestFaults as manifest_faults
 use Rattle.dm_lines.specs.Outside.{HasText, IsAbsent, IsTooLong}
+use Rattle.dm_lines.specs.Statuses as statuses
 use Rattle.demacro.specs.Words.{is_c_file}
 use Rattle.dm_lines.specs.Lines.{manifest_line, limit_line, read_fault_line}
 
@@ -94,36 +96,36 @@ IsLawfulUnit (Missing why) = Unit {0}
 -- the line of a manifest's fault
 abbrev pub line_of_fault : List ℕ → ManifestFault → List ℕ
 line_of_fault project Memory = []
-line_of_fault project Json = manifest_line 2 project
-line_of_fault project (Shape path) = manifest_line 3 path
-line_of_fault project (Name path) = manifest_line 4 path
-line_of_fault project (Define path) = manifest_line 5 path
-line_of_fault project (Twice path) = manifest_line 6 path
+line_of_fault project Json = manifest_line manifest_faults.json project
+line_of_fault project (Shape path) = manifest_line manifest_faults.shape path
+line_of_fault project (Name path) = manifest_line manifest_faults.name path
+line_of_fault project (Define path) = manifest_line manifest_faults.define path
+line_of_fault project (Twice path) = manifest_line manifest_faults.twice path
 line_of_fault project TooMany = limit_line limits.units project
 
 abbrev pub status_of_fault : ManifestFault → ℕ
-status_of_fault Memory = 8
-status_of_fault Json = 2
-status_of_fault (Shape path) = 2
-status_of_fault (Name path) = 2
-status_of_fault (Define path) = 2
-status_of_fault (Twice path) = 2
-status_of_fault TooMany = 4
+status_of_fault Memory = statuses.memory_wanted
+status_of_fault Json = statuses.manifest_fault
+status_of_fault (Shape path) = statuses.manifest_fault
+status_of_fault (Name path) = statuses.manifest_fault
+status_of_fault (Define path) = statuses.manifest_fault
+status_of_fault (Twice path) = statuses.manifest_fault
+status_of_fault TooMany = statuses.limit_passed
 
 -- the line that says why there is no unit
 abbrev pub line_of_no_unit : List ℕ → List ℕ → NoUnit → List ℕ
-line_of_no_unit project file ProjectName = manifest_line 4 project
-line_of_no_unit project file NoManifest = manifest_line 1 project
+line_of_no_unit project file ProjectName = manifest_line manifest_faults.name project
+line_of_no_unit project file NoManifest = manifest_line manifest_faults.absent project
 line_of_no_unit project file TooLong = limit_line limits.file_bytes project
 line_of_no_unit project file ReadFault = read_fault_line project
 line_of_no_unit project file (Manifest fault) = line_of_fault project fault
-line_of_no_unit project file Unlisted = manifest_line 7 file
+line_of_no_unit project file Unlisted = manifest_line manifest_faults.unlisted file
 
 -- and the status
 abbrev pub status_of_no_unit : NoUnit → ℕ
-status_of_no_unit ProjectName = 2
-status_of_no_unit NoManifest = 2
-status_of_no_unit TooLong = 4
-status_of_no_unit ReadFault = 5
+status_of_no_unit ProjectName = statuses.manifest_fault
+status_of_no_unit NoManifest = statuses.manifest_fault
+status_of_no_unit TooLong = statuses.limit_passed
+status_of_no_unit ReadFault = statuses.read_fault
 status_of_no_unit (Manifest fault) = status_of_fault fault
-status_of_no_unit Unlisted = 2
+status_of_no_unit Unlisted = statuses.manifest_fault

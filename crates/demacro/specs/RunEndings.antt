@@ -4,6 +4,7 @@ use Rattle.dm_token.specs.declared.stop.Memory.{Memory}
 use Rattle.dm_token.specs.declared.unit.Unit.{Unit as Source}
 use Rattle.dm_io.specs.Files.{Files}
 use Rattle.dm_lines.specs.Outside.{Outside, Puts, KeepsFiles}
+use Rattle.dm_lines.specs.Statuses as statuses
 use Rattle.dm_words.specs.Requests.{RunRequest}
 use Rattle.dm_running.specs.Endings.{RunEnding, status_of_run, EndsRun, HoldsRun}
 use Rattle.demacro.specs.declared.project.NoUnit.{NoUnit}
@@ -19,7 +20,7 @@ pub data ProgramEnding : Type 0 where
 abbrev pub status_of_program : ProgramEnding → ℕ
 status_of_program (unit_ended ending) = status_of_run ending
 status_of_program (unit_missing why) = status_of_no_unit why
-status_of_program nothing_done = 8
+status_of_program nothing_done = statuses.memory_wanted
 
 -- what each ending means
 abbrev pub EndsRunning : RunRequest → Outside → Outside → ProgramEnding → Type 0

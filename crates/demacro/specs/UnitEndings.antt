@@ -18,6 +18,7 @@ use Rattle.demacro.specs.Projects.{HasUnit, HasNoUnit, line_of_no_unit, status_o
 use Rattle.demacro.specs.Listings.{listing_of}
 use Rattle.dm_lines.specs.Lines.{refusal_line, limit_line, read_fault_line}
 use Rattle.dm_lines.specs.Outside.{Outside, Puts, KeepsFiles}
+use Rattle.dm_lines.specs.Statuses as statuses
 
 -- the endings, with what was found of the unit, and with the files by number where one of them is named
 pub data UnitEnding : Type 0 where
@@ -31,13 +32,13 @@ pub data UnitEnding : Type 0 where
 
 -- the exit status of each
 abbrev pub status_of_unit : UnitEnding → ℕ
-status_of_unit (listed tokens files) = 0
+status_of_unit (listed tokens files) = statuses.done
 status_of_unit (unit_missing why) = status_of_no_unit why
-status_of_unit (refused refusal files) = 3
-status_of_unit (limit_passed limit files) = 4
-status_of_unit (file_unread file files) = 5
-status_of_unit (listing_failed tokens files) = 7
-status_of_unit memory_wanted = 8
+status_of_unit (refused refusal files) = statuses.refused
+status_of_unit (limit_passed limit files) = statuses.limit_passed
+status_of_unit (file_unread file files) = statuses.read_fault
+status_of_unit (listing_failed tokens files) = statuses.output_fault
+status_of_unit memory_wanted = statuses.memory_wanted
 
 -- Where the files are told, the unit is read so, by a loader that knew no file before, and these are the files by number
 -- afterwards.

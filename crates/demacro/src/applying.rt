@@ -7,6 +7,7 @@ ghost use Rattle.demacro.specs.Commits.{HasRoom, HasOutputRoom, IsCommitted, cha
 
 use crate::planning::Prepared;
 use dm_io::{Folder, Sink};
+use dm_lines::statuses;
 use dm_token::{Memory, Text};
 use std::alloc::Global;
 
@@ -26,9 +27,9 @@ pub fn status_of(committed: Committed) -> u8
     ensures { result ≡ status_after committed }
 {
     match committed {
-        Committed::Done => 0,
-        Committed::WriteFailed => 6,
-        Committed::OutputFailed => 7,
+        Committed::Done => statuses::DONE,
+        Committed::WriteFailed => statuses::WRITE_FAULT,
+        Committed::OutputFailed => statuses::OUTPUT_FAULT,
     }
 }
 

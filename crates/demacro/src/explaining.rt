@@ -1,5 +1,6 @@
 ghost use Rattle.std.specs.Prelude.{◌≡◌, ◌≤◌, IfOk, OnOk, OnErr};
 ghost use Rattle.dm_lines.specs.Puts.{PutsText};
+ghost use Rattle.dm_lines.specs.Statuses as statuses;
 ghost use Rattle.demacro.specs.Plans.{absent_refusal, form_refusal, line_for, status_for};
 ghost use Rattle.demacro.specs.Projects.{line_of_fault, line_of_no_unit, status_of_fault, status_of_no_unit};
 ghost use Rattle.demacro.specs.Texts.{usage_line};
@@ -7,7 +8,9 @@ ghost use Rattle.demacro.specs.Texts.{usage_line};
 use crate::planning::Trouble;
 use crate::project::NoUnit;
 use dm_io::Sink;
-use dm_lines::{limit_line, manifest_line, put_line, read_fault_line, refusal_line};
+use dm_lines::{
+    limit_line, manifest_faults, manifest_line, put_line, read_fault_line, refusal_line, statuses,
+};
 use dm_manifest::ManifestFault;
 use dm_token::{Memory, Place, Refusal, limit_numbers, refusals};
 use std::alloc::Global;
@@ -20,12 +23,12 @@ const USAGE: &[u8] =
 #[tactic(auto, unfolding(crate::specs::Texts::usage_line))]
 pub fn explain_usage<S: Sink>(alloc: Global, out: &mut S) -> Result<u8, Memory>
     ensures put { OnOk result (PutsText (S.written out.old) (S.written out.new) (S.faults out.old) (S.faults out.new) usage_line) }
-    ensures status { IfOk result (λ status. status ≡ 1) }
+    ensures status { IfOk result (λ status. status ≡ statuses.wrong_words) }
     ensures err { OnErr result (S.written out.new ≡ S.written out.old) }
     ensures later { S.faults out.old ≤ S.faults out.new }
 {
     put_line(alloc, out, USAGE)?;
-    Ok(1)
+    Ok(statuses::WRONG_WORDS)
 }
 
 /// Puts why there is nothing to apply, and answers the status.
@@ -72,12 +75,12 @@ fn line_about_no_unit(
     ensures { IfOk result (λ line. line.items ≡ line_of_no_unit project.now file.now why.now) }
 {
     match why {
-        NoUnit::ProjectName => manifest_line(alloc, 4, project),
-        NoUnit::NoManifest => manifest_line(alloc, 1, project),
+        NoUnit::ProjectName => manifest_line(alloc, manifest_faults::NAME, project),
+        NoUnit::NoManifest => manifest_line(alloc, manifest_faults::ABSENT, project),
         NoUnit::TooLong => limit_line(alloc, limit_numbers::FILE_BYTES, project),
         NoUnit::ReadFault => read_fault_line(alloc, project),
         NoUnit::Manifest(fault) => line_about_fault(alloc, project, fault),
-        NoUnit::Unlisted => manifest_line(alloc, 7, file),
+        NoUnit::Unlisted => manifest_line(alloc, manifest_faults::UNLISTED, file),
     }
 }
 
@@ -86,11 +89,11 @@ fn line_about_fault(alloc: Global, project: &[u8], fault: &ManifestFault) -> Res
 {
     match fault {
         ManifestFault::Memory => Err(Memory),
-        ManifestFault::Json => manifest_line(alloc, 2, project),
-        ManifestFault::Shape(path) => manifest_line(alloc, 3, path.bytes()),
-        ManifestFault::Name(path) => manifest_line(alloc, 4, path.bytes()),
-        ManifestFault::Define(path) => manifest_line(alloc, 5, path.bytes()),
-        ManifestFault::Twice(path) => manifest_line(alloc, 6, path.bytes()),
+        ManifestFault::Json => manifest_line(alloc, manifest_faults::JSON, project),
+        ManifestFault::Shape(path) => manifest_line(alloc, manifest_faults::SHAPE, path.bytes()),
+        ManifestFault::Name(path) => manifest_line(alloc, manifest_faults::NAME, path.bytes()),
+        ManifestFault::Define(path) => manifest_line(alloc, manifest_faults::DEFINE, path.bytes()),
+        ManifestFault::Twice(path) => manifest_line(alloc, manifest_faults::TWICE, path.bytes()),
         ManifestFault::TooMany => limit_line(alloc, limit_numbers::UNITS, project),
     }
 }
@@ -99,10 +102,10 @@ fn status_about_no_unit(why: &NoUnit) -> u8
     ensures { result ≡ status_of_no_unit why.now }
 {
     match why {
-        NoUnit::TooLong => 4,
-        NoUnit::ReadFault => 5,
+        NoUnit::TooLong => statuses::LIMIT_PASSED,
+        NoUnit::ReadFault => statuses::READ_FAULT,
         NoUnit::Manifest(fault) => status_about_fault(fault),
-        NoUnit::ProjectName | NoUnit::NoManifest | NoUnit::Unlisted => 2,
+        NoUnit::ProjectName | NoUnit::NoManifest | NoUnit::Unlisted => statuses::MANIFEST_FAULT,
     }
 }
 
@@ -110,13 +113,13 @@ fn status_about_fault(fault: &ManifestFault) -> u8
     ensures { result ≡ status_of_fault fault.now }
 {
     match fault {
-        ManifestFault::Memory => 8,
-        ManifestFault::TooMany => 4,
+        ManifestFault::Memory => statuses::MEMORY_WANTED,
+        ManifestFault::TooMany => statuses::LIMIT_PASSED,
         ManifestFault::Json
         | ManifestFault::Shape(_)
         | ManifestFault::Name(_)
         | ManifestFault::Define(_)
-        | ManifestFault::Twice(_) => 2,
+        | ManifestFault::Twice(_) => statuses::MANIFEST_FAULT,
     }
 }
 
@@ -160,8 +163,8 @@ fn status_about(trouble: Trouble) -> u8
     ensures { result ≡ status_for trouble }
 {
     match trouble {
-        Trouble::NotFound | Trouble::NotYet(_) => 3,
-        Trouble::TooLong => 4,
-        Trouble::ReadFault => 5,
+        Trouble::NotFound | Trouble::NotYet(_) => statuses::REFUSED,
+        Trouble::TooLong => statuses::LIMIT_PASSED,
+        Trouble::ReadFault => statuses::READ_FAULT,
     }
 }

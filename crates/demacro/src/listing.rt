@@ -1,10 +1,12 @@
 ghost use Rattle.std.specs.Prelude.{◌≡◌, ◌≤◌, ◌⊎◌, ◌++◌, slice_get, Ok, IfOk, OnOk, OnErr};
 ghost use Rattle.dm_io.specs.Faults.{Rose};
 ghost use Rattle.dm_io.specs.Output.{appended, MayHaveAppended};
+ghost use Rattle.dm_lines.specs.Statuses as statuses;
 ghost use Rattle.dm_expand.specs.Predefined as predefined;
 ghost use Rattle.demacro.specs.Listings.{AgreesFrom, gap, in_one_line as stand_in_one_line, listing_of, root};
 
 use dm_io::Sink;
+use dm_lines::statuses;
 use dm_token::{Expansion, Mark, Memory, Place, Token, Trail, UnitTokens};
 use std::alloc::Global;
 
@@ -19,16 +21,20 @@ struct Cursor<'a> {
 
 /// Puts a unit's tokens, and answers the status.
 pub fn put_listing<S: Sink>(alloc: Global, out: &mut S, tokens: &UnitTokens) -> Result<u8, Memory>
-    ensures done { result ≡ Ok 0 → S.written out.new ≡ appended (S.written out.old) (listing_of tokens.now.expansions tokens.now.tokens) }
-    ensures failed { result ≡ Ok 7 → Rose (S.faults out.old) (S.faults out.new)
+    ensures done { result ≡ Ok statuses.done → S.written out.new ≡ appended (S.written out.old) (listing_of tokens.now.expansions tokens.now.tokens) }
+    ensures failed { result ≡ Ok statuses.output_fault → Rose (S.faults out.old) (S.faults out.new)
         × MayHaveAppended (S.written out.old) (S.written out.new) (listing_of tokens.now.expansions tokens.now.tokens) }
-    ensures status { IfOk result (λ status. (status ≡ 0) ⊎ (status ≡ 7)) }
+    ensures status { IfOk result (λ status. (status ≡ statuses.done) ⊎ (status ≡ statuses.output_fault)) }
     ensures err { OnErr result (S.written out.new ≡ S.written out.old) }
     ensures later { S.faults out.old ≤ S.faults out.new }
 {
     let text = listing(alloc, tokens.expansions.items(), tokens.tokens.items())?;
     out.ready(alloc, text.len())?;
-    if out.put(&text) { Ok(0) } else { Ok(7) }
+    if out.put(&text) {
+        Ok(statuses::DONE)
+    } else {
+        Ok(statuses::OUTPUT_FAULT)
+    }
 }
 
 /// The tokens' spellings. Between two tokens stands a newline where the files or the lines of their roots differ, and

@@ -4,10 +4,12 @@ ghost use Rattle.std.specs.Process.{exit_status};
 ghost use Rattle.demacro.specs.Arguments.{EndsUnread, PutsUsage, is_want_of_memory, items_of};
 ghost use Rattle.demacro.specs.Endings.{Ends};
 ghost use Rattle.dm_lines.specs.Outside.{outside};
+ghost use Rattle.dm_lines.specs.Statuses as statuses;
 
 use crate::explaining::explain_usage;
 use crate::top::run;
 use dm_io::{Folder, Sink};
+use dm_lines::statuses;
 use dm_token::Memory;
 use std::alloc::Global;
 use std::env::Args;
@@ -46,7 +48,7 @@ fn run_arguments<F: Folder, S: Sink>(
 {
     match words_of(alloc, arguments) {
         Ok(words) => run(alloc, &words, folder, out),
-        Err(Memory) => 8,
+        Err(Memory) => statuses::MEMORY_WANTED,
     }
 }
 
@@ -65,13 +67,13 @@ fn words_of(alloc: Global, mut arguments: Args) -> Result<Vec<String>, Memory>
 /// Puts the usage line, unless the arguments can't be read for want of memory, and answers the exit status.
 fn explain_unread<S: Sink>(alloc: Global, why: ErrorKind, out: &mut S) -> u8
     ensures put { PutsUsage (S.written out.old) (S.written out.new) (S.faults out.old) (S.faults out.new) result }
-    ensures wanting { is_want_of_memory why ≡ true → result ≡ 8 }
+    ensures wanting { is_want_of_memory why ≡ true → result ≡ statuses.memory_wanted }
 {
     if why == ErrorKind::OutOfMemory {
-        return 8;
+        return statuses::MEMORY_WANTED;
     }
     match explain_usage(alloc, out) {
         Ok(status) => status,
-        Err(Memory) => 8,
+        Err(Memory) => statuses::MEMORY_WANTED,
     }
 }

@@ -4,6 +4,7 @@ ghost use Rattle.dm_io.specs.Files.{HasFile};
 ghost use Rattle.dm_io.specs.Faults.{Rose};
 ghost use Rattle.demacro.specs.Words.{apply, expand as to_expand, request_of, AsksFor};
 ghost use Rattle.dm_lines.specs.Outside.{outside};
+ghost use Rattle.dm_lines.specs.Statuses as statuses;
 ghost use Rattle.demacro.specs.Commits.{IsCommittedAs};
 ghost use Rattle.demacro.specs.UnitEndings.{HoldsUnit};
 ghost use Rattle.demacro.specs.RunEndings.{HoldsProgramOf};
@@ -18,6 +19,7 @@ use crate::planning::{Plan, Prepared, make_plan};
 use crate::running::run_program;
 use crate::words::{Command, command_of};
 use dm_io::{Folder, Sink};
+use dm_lines::statuses;
 use dm_running::complete_run;
 use dm_token::{Memory, Text};
 use dm_words::{RunWords, one_run_request};
@@ -44,20 +46,20 @@ pub fn run<F: Folder, S: Sink>(alloc: Global, words: &[String], folder: &mut F, 
     ensures complete { (name : List ℕ) (program : Program) → request_of (map string_bytes words.now) ≡ Some (apply name)
         → HoldsProgram (F.files folder.old) name program
         → ¬ Rose (F.faults folder.old) (F.faults folder.new) → ¬ Rose (S.faults out.old) (S.faults out.new)
-        → (result ≡ 0) ⊎ (result ≡ 8) }
+        → (result ≡ statuses.done) ⊎ (result ≡ statuses.memory_wanted) }
 
     // Where the words are good, the project has the unit, the unit is read and nothing fails, it is put.
     ensures complete_unit { (project : List ℕ) (file : List ℕ) → request_of (map string_bytes words.now) ≡ Some (to_expand project file)
         → HoldsUnit (F.files folder.old) project file
         → ¬ Rose (F.faults folder.old) (F.faults folder.new) → ¬ Rose (S.faults out.old) (S.faults out.new)
-        → (result ≡ 0) ⊎ (result ≡ 8) }
+        → (result ≡ statuses.done) ⊎ (result ≡ statuses.memory_wanted) }
 
-    // Where the words are good, the project has the unit, its input is there, it has typings with a `main` and nothing fails,
+    // Where the words are good, the project has the unit, its input is there, it has a typing with a `main` and nothing fails,
     // its run is put.
     ensures complete_program { (request : RunRequest) → AsksToRun (map string_bytes words.now) request
         → HoldsProgramOf (F.files folder.old) request
         → ¬ Rose (F.faults folder.old) (F.faults folder.new) → ¬ Rose (S.faults out.old) (S.faults out.new)
-        → (result ≡ 0) ⊎ (result ≡ 8) }
+        → (result ≡ statuses.done) ⊎ (result ≡ statuses.memory_wanted) }
 
     ensures folder_later { F.faults folder.old ≤ F.faults folder.new }
     ensures sink_later { S.faults out.old ≤ S.faults out.new }
@@ -66,7 +68,7 @@ pub fn run<F: Folder, S: Sink>(alloc: Global, words: &[String], folder: &mut F, 
     complete_run();
     match run_words(alloc, words, folder, out) {
         Ok(status) => status,
-        Err(Memory) => 8,
+        Err(Memory) => statuses::MEMORY_WANTED,
     }
 }
 

@@ -37,29 +37,6 @@ module _ {A B C D : Type 0} (Fits : Table → A → Type 0) (view : List Shape �
       ends FitsAll seen source old now new whole (λ later. op later (known_over later now) (view later it))
       (passes Fits view source old old now whole (λ later. one later (known_over later old)) op it (begins old whole (λ later. after (one later (known_over later old)) (op later)) e) f) result g
 
--- ---- two calls
-
-module _ {A B C D E F : Type 0} (FitsA : Table → A → Type 0) (viewA : List Shape → A → B) (FitsC : Table → C → Type 0) (viewC : List Shape → C → D) (FitsE : Table → E → Type 0) (seen : List Shape → E → F)
-    (source : Source) (old : Held) (whole : List Shape → Outcome F) (one : List Shape → Known → Outcome B) (two : List Shape → Known → Outcome D) (op : List Shape → Known → B → D → Outcome F)
-    (e : (later : List Shape) → whole later ≡ after (one later (known_over later old)) (λ then_known first. after (two later then_known) (λ behind second. op later behind first second))) where
-  abbrev behind-one : List Shape → Known → B → Outcome F
-  behind-one later then_known first = after (two later then_known) (λ behind second. op later behind first second)
-
-  pub pair-fails : (new : Held) (fault : Stop) → Follows FitsA viewA source old new (Err fault) (λ later. one later (known_over later old)) → Follows FitsE seen source old new (Err fault) whole
-  pair-fails new fault f = single-fails FitsA viewA FitsE seen source old old new whole one behind-one e fault f
-
-  module _ (mid : Held) (first : A) (f : Follows FitsA viewA source old mid (Ok first) (λ later. one later (known_over later old))) where
-    pub pair-fails-then : (new : Held) (fault : Stop) → Follows FitsC viewC source mid new (Err fault) (λ later. two later (known_over later mid)) → Follows FitsE seen source old new (Err fault) whole
-    pair-fails-then new fault g =
-        single-ends FitsA viewA FitsE seen source old mid new whole one behind-one e first (Err fault) f
-        (single-fails FitsC viewC FitsE seen source mid mid new (λ later. behind-one later (known_over later mid) (viewA later first)) two (λ later behind second. op later behind (viewA later first) second) (λ later. refl) fault g)
-
-    pub pair-ends : (now new : Held) (second : C) (result : Result E Stop) → Follows FitsC viewC source mid now (Ok second) (λ later. two later (known_over later mid))
-        → Follows FitsE seen source now new result (λ later. op later (known_over later now) (viewA later first) (viewC later second)) → Follows FitsE seen source old new result whole
-    pair-ends now new second result g h =
-        single-ends FitsA viewA FitsE seen source old mid new whole one behind-one e first result f
-        (single-ends FitsC viewC FitsE seen source mid now new (λ later. behind-one later (known_over later mid) (viewA later first)) two (λ later behind second. op later behind (viewA later first) second) (λ later. refl) second result g h)
-
 -- ---- values
 
 -- two values in the place of two trees

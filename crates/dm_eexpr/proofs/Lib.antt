@@ -6,3 +6,6 @@ pub mod KeepLemmas
 pub mod CloseLemmas
 pub mod TagCycleLemmas
 pub mod AloneLemmas
+pub mod AwaitLemmas
+pub mod ExpressionCalls
+pub mod SyntaxCalls

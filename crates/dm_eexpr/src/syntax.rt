@@ -13,8 +13,8 @@ ghost use Rattle.dm_typing.specs.Views.{type_over, known_over, source_of, settin
 
 use crate::expressions::value_of;
 use dm_edeclarator::declarators::{
-    PlacedStep, Step, TypedParameter, declarator_name, derived, direct_at, length_of, parameter_at,
-    typed_parameter, with_function, with_pointers, with_step,
+    PlacedStep, Step, TypedParameter, derived, direct_at, length_of, parameter_at, typed_parameter,
+    with_function, with_pointers, with_step,
 };
 use dm_edeclarator::names::TypedName;
 use dm_edeclarator::places::{enter, leave, replace_constants};
@@ -25,7 +25,7 @@ use dm_edeclarator::tagged::{
 use dm_enames::tags::{enumerator_implied, enumerator_valued, struct_begun, struct_ended};
 use dm_syn::{
     Declarator, Direct, EnumForm, EnumItem, Expr, MemberForm, Parameter, Specifier, Specifiers,
-    StructForm, TypeName,
+    StructForm, TypeName, declarator_name,
 };
 use dm_token::{Boxed, List, Span, Stop};
 use dm_type::{Members, TypeId};

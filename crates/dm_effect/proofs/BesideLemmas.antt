@@ -27,17 +27,17 @@ range-last a (suc n) =
 abbrev pub onto : Path → List Path → List Path
 onto front ways = map (λ (way : Path). front ++ way) ways
 
-abbrev steps : List ℕ → List Path
+abbrev pub steps : List ℕ → List Path
 steps numbers = map (λ k. k ∷ []) numbers
 
-abbrev is_other : ℕ → ℕ → Bool
+abbrev pub is_other : ℕ → ℕ → Bool
 is_other n k = not (k == n)
 
 before-last : (n operand : ℕ) → steps (filter (is_other n) (range_with_len 0 operand)) ≡ others_by n (previous operand)
 before-last n zero = refl
 before-last n (suc k) = let e : suc k ≡ k + 1 = omega arith in ap (λ (m : ℕ). steps (filter (is_other n) (range_with_len 0 m))) e
 
-others-last : (n operand : ℕ) → others_by n (Some operand) ≡ others_by n (previous operand) ++ steps (filter (is_other n) (operand ∷ []))
+pub others-last : (n operand : ℕ) → others_by n (Some operand) ≡ others_by n (previous operand) ++ steps (filter (is_other n) (operand ∷ []))
 others-last n operand =
     let e : 0 + operand ≡ operand = omega arith in
     ap (λ (numbers : List ℕ). steps (filter (is_other n) numbers)) (range-last 0 operand ∙ ap (λ (k : ℕ). range_with_len 0 operand ++ k ∷ []) e)

@@ -99,15 +99,18 @@ module _ (types : Table) where
   opened-Declare lengths locals = search (rules, q.the_lemmas)
 
   -- those of a declaration
-  pub locals-Declare : (test : statements.Local → Bool) (core : Core) (lengths : List Core) (locals : List Local) → (out-Core core).form ≡ form.Declare lengths locals
-      → list_any test (locals_here (view types core)) ≡ list_any test (map as_local (map (view_of_local types) locals))
-  locals-Declare test core lengths locals is =
+  pub locals-are : (core : Core) (lengths : List Core) (locals : List Local) → (out-Core core).form ≡ form.Declare lengths locals → locals_here (view types core) ≡ map as_local (map (view_of_local types) locals)
+  locals-are core lengths locals is =
       let before = map (view types) lengths in
       let behind = expressions_of_locals (map (view_of_local types) locals) in
       let declarators = declarators_of (map (view_of_local types) locals) in
-      seen-as types core (λ tree. list_any test (locals_here tree)) (form.Declare lengths locals) (opened (label.declare (length before) declarators) (before ++ behind)) is (opened-Declare lengths locals)
-      ∙ ap (λ all. list_any test (with_expressions declarators all)) (ap (drop (length before)) (listed-trees (before ++ behind)) ∙ drop-append_seam before behind)
-      ∙ ap (list_any test) (locals-with locals)
+      seen-as types core locals_here (form.Declare lengths locals) (opened (label.declare (length before) declarators) (before ++ behind)) is (opened-Declare lengths locals)
+      ∙ ap (with_expressions declarators) (ap (drop (length before)) (listed-trees (before ++ behind)) ∙ drop-append_seam before behind)
+      ∙ locals-with locals
+
+  pub locals-Declare : (test : statements.Local → Bool) (core : Core) (lengths : List Core) (locals : List Local) → (out-Core core).form ≡ form.Declare lengths locals
+      → list_any test (locals_here (view types core)) ≡ list_any test (map as_local (map (view_of_local types) locals))
+  locals-Declare test core lengths locals is = ap (list_any test) (locals-are core lengths locals is)
 
   -- a declarator with an initialiser
   pub local-initialises : (token d : ℕ) (local : Local) (initial : Initial) → (out-Local local).initial ≡ Some initial

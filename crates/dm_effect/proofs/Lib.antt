@@ -1,6 +1,8 @@
+pub mod AroundLemmas
 pub mod BesideLemmas
 pub mod DeclaratorLemmas
 pub mod EffectLemmas
+pub mod ExternalLemmas
 pub mod PartLemmas
 pub mod QuietLemmas
 pub mod SequencingLemmas

@@ -1,18 +1,22 @@
 -- A table of quiet functions, external declaration by external declaration.
-use Rattle.std.proofs.Common.{◌≡◌, ℕ, zero, suc, ◌+◌, ◌<◌, ◌≤◌, Bool, true, false, cond, ◌&&◌, ◌||◌, nat_lt, nat_le, List, [], ◌∷◌, ◌++◌, map, length, get_or, take, drop, take_while, Option, append_assoc, length-append, refl, ap, sym, subst, ◌∙◌, arith}
+use Rattle.std.proofs.Common.{◌≡◌, ℕ, zero, suc, ◌+◌, ◌<◌, ◌≤◌, Bool, true, false, cond, ◌&&◌, ◌||◌, not, nat_lt, nat_le, List, [], ◌∷◌, ◌++◌, map, length, get_or, take, drop, take_while, Option, append_assoc, length-append, refl, ap, sym, subst, ◌∙◌, arith}
 use mathlib.Core.Path.{fun_ext}
+use Rattle.std.specs.List.{list_all, list_any}
 use Rattle.std.proofs.Math.Seq.{take-append_seam}
 use Rattle.std.proofs.lemmas.Bool.{ltb-true, ltb-false, lt-ltb}
+use Rattle.std.proofs.lemmas.List.{length-map}
 use Rattle.std.proofs.lemmas.List.Sums.{take_while-cons}
 use Rattle.dm_type.specs.Tables.{Table, no_type}
 use Rattle.dm_tree.specs.declared.tree.Core.{Core, out-Core}
 use Rattle.dm_tree.specs.declared.unit.CoreExternal.{CoreExternal}
+use Rattle.dm_tree.specs.declared.unit.CoreUnit.{CoreUnit}
 use Rattle.dm_tree.specs.Trees.{Tree, spans_of}
-use Rattle.dm_tree.specs.Views.{view, view_of_external}
+use Rattle.dm_tree.specs.Units.{External}
+use Rattle.dm_tree.specs.Views.{view, view_of_external, view_of_unit}
 use Rattle.dm_tree.proofs.ViewLemmas.{view-core}
 use Rattle.dm_effect.specs.Questions.{is_quiet_since}
-use Rattle.dm_effect.specs.Quiet.{before, ends_before, is_one_of, quiet_functions}
-use Rattle.dm_effect.specs.Tables.{IsBehind, Enters}
+use Rattle.dm_effect.specs.Quiet.{before, ends_before, is_one_of, is_quiet, is_quiet_with, quiet_functions}
+use Rattle.dm_effect.specs.Tables.{IsTable, IsBehind, Enters}
 use Rattle.dm_effect.specs.Walks.{joins}
 use Rattle.dm_effect.proofs.QuietLemmas.{quiet-last}
 
@@ -55,6 +59,37 @@ before-front types tree externals front count is counted =
     ap (map (view_of_external types)) (is ∙ (ap (λ n. take n externals) counted ∙ taken-while (λ (one : CoreExternal). nat_le one.span.after (out-Core tree).inner.first) externals))
     ∙ sym (ap (λ (whole : Tree). take_while (ends_before (spans_of whole).inner.first) (map (view_of_external types) externals)) (view-core types tree)
     ∙ while-map (view_of_external types) (ends_before (out-Core tree).inner.first) externals)
+
+-- so many external declarations stand before a tree of the code
+pub counted-before : (types : Table) (tree : Core) (externals : List CoreExternal)
+    → length (take_while (λ (one : CoreExternal). nat_le one.span.after (out-Core tree).inner.first) externals) ≡ length (before (view types tree) (map (view_of_external types) externals))
+counted-before types tree externals =
+    sym (ap length (ap (λ (whole : Tree). take_while (ends_before (spans_of whole).inner.first) (map (view_of_external types) externals)) (view-core types tree)
+    ∙ while-map (view_of_external types) (ends_before (out-Core tree).inner.first) externals)
+    ∙ length-map (take_while (λ (one : CoreExternal). nat_le one.span.after (out-Core tree).inner.first) externals) (view_of_external types))
+
+front-while : {A B : Type 0} (f : A → B) (test : B → Bool) (all : List A) → map f (take (length (take_while test (map f all))) all) ≡ take_while test (map f all)
+front-while f test all =
+    ap (λ n. map f (take n all)) (ap length (while-map f test all) ∙ length-map (take_while (λ x. test (f x)) all) f)
+    ∙ (ap (map f) (taken-while (λ x. test (f x)) all) ∙ sym (while-map f test all))
+
+-- the table says of a tree whether it is quiet
+pub table-quiet : (types : Table) (one : CoreUnit) (since : List (Option ℕ)) → IsTable one since → (tree : Tree)
+    → is_quiet_with (is_quiet_since since (length (before tree (map (view_of_external types) one.externals)))) tree ≡ is_quiet (view_of_unit types one) tree
+table-quiet types one since table tree =
+    let front : List External = before tree (map (view_of_external types) one.externals) in
+    let taken : map (view_of_external types) (take (length front) one.externals) ≡ front = front-while (view_of_external types) (ends_before (spans_of tree).inner.first) one.externals in
+    ap (λ (quiet : ℕ → Bool). is_quiet_with quiet tree)
+    (fun_ext (λ d. table.same types (length front) d) ∙ ap (λ (externals : List External). is_one_of (quiet_functions externals)) taken)
+
+pub none-fails : {X : Type 0} (test doubt : X → Bool) → ((x : X) → doubt x ≡ not (test x)) → (all : List X) → not (list_any doubt all) ≡ list_all test all
+none-fails test doubt same [] = refl
+none-fails test doubt same (x ∷ all) =
+    ap (λ b. not (b || list_any doubt all)) (same x) ∙ (turned (test x) (list_any doubt all) ∙ ap (λ b. test x && b) (none-fails test doubt same all))
+  where
+    turned : (b c : Bool) → not (not b || c) ≡ (b && not c)
+    turned true c = refl
+    turned false c = refl
 
 -- ---- one external declaration after another
 

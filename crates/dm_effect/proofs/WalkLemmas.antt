@@ -1,5 +1,5 @@
 -- What is asked of trees, tree by tree.
-use Rattle.std.proofs.Common.{◌≡◌, ℕ, max, Bool, true, false, ◌||◌, List, [], ◌∷◌, ◌++◌, length, append-nil, refl, ap, sym, ◌∙◌, arith}
+use Rattle.std.proofs.Common.{◌≡◌, ℕ, max, Bool, true, false, ◌||◌, not, List, [], ◌∷◌, ◌++◌, length, append-nil, refl, ap, sym, ◌∙◌, arith}
 use Rattle.std.specs.List.{list_any}
 use Rattle.std.specs.Option.{option_copied, option_map_or}
 use Rattle.std.proofs.lemmas.List.Folds.{list_any-append}
@@ -52,6 +52,10 @@ second-stops false q h = h
 pub second-skips : (p q : Bool) → q ≡ false → (p || q) ≡ p
 second-skips true q h = refl
 second-skips false q h = h
+
+pub twice : (b : Bool) → not (not b) ≡ b
+twice true = refl
+twice false = refl
 
 -- ---- trees in order
 

@@ -1,13 +1,17 @@
+pub mod Doubts
 pub mod Effects
 pub mod Entities
 pub mod Examples
+pub mod Externals
 pub mod Forms
 pub mod Operands
 pub mod Parts
 pub mod Questions
 pub mod Quiet
 pub mod Safe
+pub mod Scoped
 pub mod Sequencing
+pub mod Spans
 pub mod Stable
 pub mod Tables
 pub mod Walks

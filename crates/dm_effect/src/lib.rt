@@ -2,8 +2,10 @@
 //! unsequenced to another one, and which expressions write nothing, stay the same, or can't go wrong.
 #![tactic(auto)]
 
+mod around;
 mod declarators;
 mod effect;
+mod entities;
 mod examples;
 mod functions;
 mod parts;
@@ -13,10 +15,13 @@ mod sequencing;
 mod unsequenced;
 mod walk;
 
+pub use around::is_written_around;
+pub use entities::{is_addressed, is_defined, is_initialised, is_parameter, is_pure};
 pub use examples::{
     automatic_objects_are_stable, calls_of_earlier_functions_are_quiet, operands_come_first,
     set_integers_are_safe, unsequenced_operands_are_beside,
 };
+pub use parts::{Parts, parts_of};
 pub use quieting::{QuietFunctions, quiet};
 pub use sequencing::{Path, first};
 pub use unsequenced::beside;

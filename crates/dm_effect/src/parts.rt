@@ -1,11 +1,11 @@
 //! The trees directly below a node.
 
-ghost use Rattle.std.specs.Prelude.{◌≡◌, [], ◌++◌, map, option_map, List};
+ghost use Rattle.std.specs.Prelude.{◌≡◌, [], ◌++◌, false, map, option_map, List};
 ghost use Rattle.std.specs.Option.{option_copied};
 ghost use Rattle.dm_type.specs.Tables.{Table};
 ghost use Rattle.dm_tree.specs.declared.tree.Form.{size-Form};
 ghost use Rattle.dm_tree.specs.Paths.{tree_in};
-ghost use Rattle.dm_tree.specs.Trees.{Tree, trees, trees_of};
+ghost use Rattle.dm_tree.specs.Trees.{Tree, is_statement, trees, trees_of};
 ghost use Rattle.dm_tree.specs.Views.{if_there, expressions_of_items, expressions_of_locals, opened_form, view, view_of_local};
 ghost use Rattle.dm_meaning.specs.Wholes.{view_of_initial};
 ghost use Rattle.dm_effect.specs.Parts.{parts_in, found_in, AreBelow};
@@ -15,7 +15,7 @@ use dm_tree::{Core, Form, Initial, Local};
 
 /// The trees directly below a node, in order: single ones, those of a list, and those in declarators.
 #[derive(Clone, Copy)]
-pub(crate) struct Parts<'a> {
+pub struct Parts<'a> {
     pub first: Option<&'a Core>,
     pub second: Option<&'a Core>,
     pub third: Option<&'a Core>,
@@ -33,9 +33,10 @@ pub(crate) enum Search<'a> {
 }
 
 /// Those of a form.
-pub(crate) fn parts_of(form: &Form) -> Parts<'_>
+pub fn parts_of(form: &Form) -> Parts<'_>
     ensures same { (types : Table) → parts_in types result ≡ (opened_form types form.now).parts }
     ensures below { AreBelow (size-Form form.now) result }
+    ensures expression { (types : Table) → is_statement (opened_form types form.now).label ≡ false → result.locals.now ≡ [] }
 {
     match form {
         Form::Number(_)

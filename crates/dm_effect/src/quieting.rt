@@ -1,17 +1,21 @@
 //! Trees whose evaluation writes nothing.
 
 ghost use Rattle.std.specs.Prelude.{◌≡◌, ◌≤◌, ◌||◌, ◌==◌, ℕ, Bool, nat_lt, nat_le, IfOk, OnOk, length, map, take, take_while, vec_len, if◌then◌else◌};
+ghost use Rattle.std.specs.List.{list_all};
 ghost use Rattle.dm_type.specs.Tables.{Table};
 ghost use Rattle.dm_tree.specs.declared.unit.CoreExternal.{CoreExternal as OneExternal};
 ghost use Rattle.dm_tree.specs.Views.{view, view_of_external, view_of_unit};
 ghost use Rattle.dm_effect.specs.Entities.{is_this};
 ghost use Rattle.dm_effect.specs.Questions.{is_quiet_since};
 ghost use Rattle.dm_effect.specs.Quiet.{is_one_of, is_quiet, is_quiet_with, quiet_functions};
+ghost use Rattle.dm_effect.specs.Sequencing.{around};
 ghost use Rattle.dm_effect.specs.Tables.{Enters};
 ghost use Rattle.dm_effect.specs.Walks.{joins};
 
+use crate::around::{Doubt, any_around};
 use crate::functions::{is_quiet_by, returned};
 use crate::question::Question;
+use crate::sequencing::Path;
 use crate::walk::any_node;
 use dm_token::Memory;
 use dm_tree::{Core, CoreExternal, CoreExternalForm, CoreUnit};
@@ -32,7 +36,7 @@ pub fn quiet(unit: &CoreUnit, tree: &Core) -> bool
 }
 
 /// How many external declarations from the first on end before the token.
-fn count_before(externals: &[CoreExternal], first: u32) -> usize
+pub(crate) fn count_before(externals: &[CoreExternal], first: u32) -> usize
     ensures count { result ≡ length (take_while (λ (one : OneExternal). nat_le one.span.after first) externals.now) }
     ensures within { result ≤ length externals.now }
 {
@@ -80,6 +84,29 @@ impl<'a> QuietFunctions<'a> {
             done += 1;
         }
         Ok(QuietFunctions { unit, since })
+    }
+
+    /// The unit.
+    pub fn unit(&self) -> &'a CoreUnit
+        ensures { result.now ≡ self.now }
+    {
+        self.unit
+    }
+
+    /// Whether a tree of the unit is quiet.
+    pub fn is_quiet(&self, tree: &Core) -> bool
+        ensures { (types : Table) → result ≡ is_quiet (view_of_unit types self.now) (view types tree.now) }
+    {
+        let count = count_before(self.unit.externals.items(), tree.inner.first);
+        self.is_quiet_behind(count, tree)
+    }
+
+    /// Whether what stands at a place of a full expression in the unit, and all operands that are unsequenced to it, are quiet.
+    pub fn are_quiet_around(&self, full: &Core, at: &Path) -> bool
+        ensures { (types : Table) → result ≡ list_all (is_quiet (view_of_unit types self.now)) (around at.now (view types full.now)) }
+    {
+        let externals = self.unit.externals.items();
+        !any_around(full, at, Doubt::Disturbs(externals, self.since.as_slice()))
     }
 
     /// Whether a tree has no store, and calls only functions that are quiet behind the first `count` external declarations.

@@ -66,7 +66,7 @@ fn push_others(
 }
 
 /// The number before one.
-fn previous(number: usize) -> Option<usize>
+pub(crate) fn previous(number: usize) -> Option<usize>
     ensures { result ≡ operands.previous number }
 {
     if number == 0 { None } else { Some(number - 1) }
@@ -82,7 +82,7 @@ fn longer(alloc: Global, front: &[usize], number: usize) -> Result<Path, Memory>
 }
 
 /// The number of the last operand of a node that leaves its operands unsequenced.
-fn last_operand(tree: &Core) -> Option<usize>
+pub(crate) fn last_operand(tree: &Core) -> Option<usize>
     ensures { (types : Table) (n : ℕ) → others_of n (view types tree.now) ≡ others_by n result }
 {
     match &tree.form {

@@ -2,6 +2,7 @@
 use Rattle.std.specs.Prelude.{ℕ, List, [], slice_index_or}
 use Rattle.dm_token.specs.declared.stop.Stop.{Stop}
 use Rattle.dm_token.specs.declared.stop.Stop.TheVariants.{Memory, Refused, Limit, ReadFault}
+use Rattle.dm_lines.specs.Statuses as statuses
 use Rattle.dm_lines.specs.Lines.{refusal_line, limit_line, read_fault_line}
 
 -- the line, where these are the files' names by number
@@ -13,7 +14,7 @@ line_of_stop names (ReadFault file) = read_fault_line (slice_index_or names file
 
 -- the status
 abbrev pub status_of_stop : Stop → ℕ
-status_of_stop Memory = 8
-status_of_stop (Refused refusal) = 3
-status_of_stop (Limit limit) = 4
-status_of_stop (ReadFault file) = 5
+status_of_stop Memory = statuses.memory_wanted
+status_of_stop (Refused refusal) = statuses.refused
+status_of_stop (Limit limit) = statuses.limit_passed
+status_of_stop (ReadFault file) = statuses.read_fault

@@ -3,7 +3,9 @@
 
 mod joining;
 mod line;
+pub mod manifest_faults;
 mod put;
+pub mod statuses;
 mod stop;
 
 pub use joining::append_all;

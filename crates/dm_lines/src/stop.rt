@@ -6,6 +6,7 @@ ghost use Rattle.dm_lines.specs.Stops.{line_of_stop, status_of_stop};
 
 use crate::line::{limit_line, read_fault_line, refusal_line};
 use crate::put::put_line;
+use crate::statuses;
 use dm_io::Sink;
 use dm_token::{Limit, Memory, Refusal, Stop, Text};
 use std::alloc::Global;
@@ -52,10 +53,10 @@ fn status_about(stop: Stop) -> u8
     ensures { result ≡ status_of_stop stop }
 {
     match stop {
-        Stop::Memory => 8,
-        Stop::Refused(_) => 3,
-        Stop::Limit(_) => 4,
-        Stop::ReadFault(_) => 5,
+        Stop::Memory => statuses::MEMORY_WANTED,
+        Stop::Refused(_) => statuses::REFUSED,
+        Stop::Limit(_) => statuses::LIMIT_PASSED,
+        Stop::ReadFault(_) => statuses::READ_FAULT,
     }
 }
 

@@ -1,5 +1,6 @@
 mod DeclaredLemmas
 mod SourceLemmas
 mod SyntaxLemmas
+mod OneLemmas
 pub mod TokenLemmas
 pub mod ReadingLemmas

@@ -11,8 +11,8 @@ pub fn copy_of_unit(alloc: Global, unit: &Unit) -> Result<Unit, Memory>
 {
     Ok(Unit {
         file: unit.file.copy()?,
-        include: copy_of_texts(alloc, &unit.include)?,
-        define: copy_of_texts(alloc, &unit.define)?,
+        include: copy_of_texts(alloc, unit.include.items())?,
+        define: copy_of_texts(alloc, unit.define.items())?,
     })
 }
 
@@ -22,7 +22,7 @@ pub fn copy_of_definition(alloc: Global, definition: &Definition) -> Result<Defi
 {
     let name = definition.name.copy()?;
     let parameters = copy_of_parameters(alloc, &definition.parameters)?;
-    let body = copy_of_tokens(alloc, &definition.body)?;
+    let body = copy_of_tokens(alloc, definition.body.items())?;
     Ok(Definition {
         name,
         parameters,
@@ -44,25 +44,25 @@ fn copy_of_parameters(
 {
     match parameters {
         None => Ok(None),
-        Some(names) => Ok(Some(copy_of_texts(alloc, names)?)),
+        Some(names) => Ok(Some(copy_of_texts(alloc, names.items())?)),
     }
 }
 
-fn copy_of_texts(alloc: Global, texts: &List<Text>) -> Result<List<Text>, Memory>
+fn copy_of_texts(alloc: Global, texts: &[Text]) -> Result<List<Text>, Memory>
     ensures { IfOk result (λ copy. copy ≡ texts.now) }
 {
     let mut copies = List::new(alloc);
-    for text in texts.items() {
+    for text in texts {
         copies.push(text.copy()?)?;
     }
     Ok(copies)
 }
 
-fn copy_of_tokens(alloc: Global, tokens: &List<PpToken>) -> Result<List<PpToken>, Memory>
+fn copy_of_tokens(alloc: Global, tokens: &[PpToken]) -> Result<List<PpToken>, Memory>
     ensures { IfOk result (λ copy. copy ≡ tokens.now) }
 {
     let mut copies = List::new(alloc);
-    for token in tokens.items() {
+    for token in tokens {
         copies.push(token.copy()?)?;
     }
     Ok(copies)

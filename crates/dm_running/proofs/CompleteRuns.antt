@@ -1,11 +1,10 @@
--- Where nothing fails and a unit has typings with a `main`, its run is put.
-use Rattle.std.proofs.Common.{◌≡◌, ◌∙◌, ℕ, ◌<◌, ◌⊎◌, inl, inr, false, List, length, map, Option, Some, None, is_some, Ok, Err, refl, sym, ap, subst, arith}
+-- Where nothing fails and a unit has a typing with a `main`, its run is put.
+use Rattle.std.proofs.Common.{◌≡◌, ◌∙◌, ℕ, ◌<◌, ◌⊎◌, inl, inr, false, List, [], ◌∷◌, if◌then◌else◌, length, Option, Some, None, is_some, Ok, Err, refl, sym, ap, subst, arith}
 use Rattle.std.proofs.lemmas.Bool.{true≢false, false≢true}
 use Rattle.std.specs.Option.{IsSomeAnd}
 use Rattle.dm_token.specs.Limits.{source_length_limit}
 use Rattle.dm_token.specs.declared.stop.Stop.{Stop}
 use Rattle.dm_token.specs.declared.stop.Stop.TheVariants as stop
-use Rattle.dm_token.specs.declared.token.CToken.{CToken}
 use Rattle.dm_token.specs.declared.token.Token.{Token}
 use Rattle.dm_token.specs.declared.unit.Unit.{Unit as Source}
 use Rattle.dm_token.specs.declared.unit.UnitTokens.{UnitTokens}
@@ -17,20 +16,22 @@ use Rattle.dm_unit.specs.Units.{IsReadAs, setting_of, first_files, state_with, f
 use Rattle.dm_unit.specs.States.{State}
 use Rattle.dm_unit.specs.Loaders.{is_known}
 use Rattle.dm_unit.proofs.OutcomeLemmas.{one-outcome}
-use Rattle.dm_syn.specs.Trees as trees
-use Rattle.dm_syn.specs.Views as view
-use Rattle.dm_reading.specs.Elaborated.{Elaborates}
+use Rattle.dm_tree.specs.Views.{view_of_unit}
+use Rattle.dm_meaning.specs.Programs.{Program, Definition, declaration_at, declaration_of}
+use Rattle.dm_meaning.specs.Steps.{is_main}
+use Rattle.dm_meaning.specs.Units.{definitions_in, main_in, main_of, program_of as meant_of}
 use Rattle.dm_lines.specs.Outside.{Outside}
+use Rattle.dm_lines.specs.Statuses as statuses
 use Rattle.dm_reading.specs.declared.reading.Layers.{Layers}
 use Rattle.dm_reading.specs.declared.reading.Reading.{Reading}
-use Rattle.dm_reading.specs.Layered.{AreTokens, HasLayers, layers_of}
+use Rattle.dm_reading.specs.Layered.{HasLayers, layers_of}
 use Rattle.dm_read.specs.Reading.{IsReading}
-use Rattle.dm_reading.specs.Syntax.{IsSyntax, IsRefusedAt}
+use Rattle.dm_outcome.specs.Outcomes.{IsSameUnit, AreOneLayers}
 use Rattle.dm_words.specs.Requests.{RunRequest}
 use Rattle.dm_running.specs.declared.input.NoInput.{NoInput}
 use Rattle.dm_running.specs.declared.input.NoInput.TheVariants.{Missing, TooLong, ReadFault}
 use Rattle.dm_running.specs.Inputs.{HasInput, HasNoInput}
-use Rattle.dm_running.specs.Readings.{IsUnitReading, IsTypedWithMain, HasMain, MayRun, exceeds}
+use Rattle.dm_running.specs.Readings.{IsUnitReading, HasMain, MayRun, exceeds}
 use Rattle.dm_running.specs.Finishes.{ran, unput, too_many_definitions, main_missing}
 use Rattle.dm_running.specs.Endings.{RunEnding, finished, stopped, input_missing, memory_wanted, status_of_run, EndsRun, HoldsRun}
 
@@ -62,45 +63,31 @@ no-stop files unit tokens one other (stop.Limit limit) reads stops =
     absurd (one-outcome (setting_of fresh one files unit) (is_known other) (name_of other) unit.file unit.define (state_with (first_files fresh unit)) (Ok reads.0) (Err (stop.Limit limit)) reads.1.1 stops.1 tt tt)
 no-stop files unit tokens one other (stop.ReadFault file) reads stops = tt
 
--- ---- the layers behind them, where syntax is one
+-- ---- the layers behind them, where they come to one thing
 
-module _ (one_syntax : (tokens : List CToken) (a b : List trees.External) → IsSyntax tokens a → IsSyntax tokens b → a ≡ b)
-    (no_refusal : (tokens : List CToken) (externals : List trees.External) (at : ℕ) → IsSyntax tokens externals → ¬ IsRefusedAt tokens at) where
-  same_tokens : (tokens : List Token) (made others : List CToken) → AreTokens tokens (Ok made) → AreTokens tokens (Ok others) → made ≡ others
-  same_tokens tokens made others left right =
-      let same : Ok made ≡ Ok others = sym left ∙ right in
-      cc
+-- which function is `main` hangs on no table
+main_in_same : (one other : Program) → other.declared ≡ one.declared → (definitions : List Definition) → main_in other definitions ≡ main_in one definitions
+main_in_same one other same [] = refl
+main_in_same one other same (definition ∷ definitions) =
+    ap (λ declared. if is_main (declaration_at declared definition.function) then Some definition else main_in other definitions) same
+    ∙ ap (λ rest. if is_main (declaration_of one definition.function) then Some definition else rest) (main_in_same one other same definitions)
 
+main_stays : (one other : Layers) → IsSameUnit (one.core, one.types) (other.core, other.types) → HasMain one.types one.core → HasMain other.types other.core
+main_stays one other same main none =
+    main
+    (sym (main_in_same (meant_of one.types (view_of_unit one.types one.core)) (meant_of other.types (view_of_unit one.types one.core)) refl (definitions_in (view_of_unit one.types one.core).externals))
+    ∙ ap (λ unit. main_of (meant_of other.types unit)) (sym same.unit) ∙ none)
+
+module _ (one_reading : (tokens : List Token) (one other : Result Layers Stop) → HasLayers tokens one → HasLayers tokens other → AreOneLayers one other) where
   module _ (tokens : List Token) (runs : MayRun tokens) where
-    externals : List trees.External
-    externals = map view.external runs.syntax
-
-    -- each typing is one of that syntax
-    one_typing : (made : List CToken) (syntax : List trees.External) (result : _) → AreTokens tokens (Ok made) → IsSyntax made syntax → Elaborates made syntax result → IsTypedWithMain result
-    unfolding externals
-    one_typing made syntax result are is elaborates =
-        let same = same_tokens tokens made runs.made are runs.are in
-        let here : IsSyntax runs.made syntax = subst (λ these. IsSyntax these syntax) same is in
-        let alike : syntax ≡ externals = one_syntax runs.made syntax externals here runs.is in
-        runs.typed result (subst (λ these. Elaborates runs.made these result) alike (subst (λ these. Elaborates these syntax result) same elaborates))
-
     no_layer_stops : (why : Stop) → HasLayers tokens (Err why) → IsFree why
-    unfolding externals
     no_layer_stops stop.Memory has = tt
     no_layer_stops (stop.ReadFault file) has = tt
-    no_layer_stops (stop.Refused refusal) (inl none) =
-        let same : Ok runs.made ≡ Err refusal = sym runs.are ∙ none in
-        absurd cc
-    no_layer_stops (stop.Refused refusal) (inr (made, are, inl refused)) =
-        let same = same_tokens tokens made runs.made are runs.are in
-        no_refusal runs.made externals refused.0 runs.is (subst (λ these. IsRefusedAt these refused.0) same refused.1)
-    no_layer_stops (stop.Refused refusal) (inr (made, are, inr (syntax, is, elaborates))) = one_typing made (map view.external syntax) (Err (stop.Refused refusal)) are is elaborates
-    no_layer_stops (stop.Limit limit) (inl none) = none
-    no_layer_stops (stop.Limit limit) (inr (made, are, inl refused)) = refused
-    no_layer_stops (stop.Limit limit) (inr (made, are, inr (syntax, is, elaborates))) = one_typing made (map view.external syntax) (Err (stop.Limit limit)) are is elaborates
+    no_layer_stops (stop.Refused refusal) has = one_reading tokens (Ok runs.layers) (Err (stop.Refused refusal)) runs.has has
+    no_layer_stops (stop.Limit limit) has = one_reading tokens (Ok runs.layers) (Err (stop.Limit limit)) runs.has has
 
     has_main : (layers : Layers) → HasLayers tokens (Ok layers) → HasMain layers.types layers.core
-    has_main layers has = one_typing layers.tokens (map view.external layers.syntax) (Ok (layers.core, layers.types)) has.0 has.1 has.2
+    has_main layers has = main_stays runs.layers layers (one_reading tokens (Ok runs.layers) (Ok layers) runs.has has).2 runs.main
 
   -- ---- whole readings
 
@@ -137,7 +124,7 @@ module _ (one_syntax : (tokens : List CToken) (a b : List trees.External) → Is
   no_lack files (Some name) input before after ReadFault has none quiet = quiet none.1
 
   pub complete : (request : RunRequest) (unit : Source) (before after : Outside) (ending : RunEnding) → HoldsRun before.files request unit → EndsRun request unit before after ending
-      → ¬ Rose before.folder_faults after.folder_faults → ¬ Rose before.sink_faults after.sink_faults → (status_of_run ending ≡ 0) ⊎ (status_of_run ending ≡ 8)
+      → ¬ Rose before.folder_faults after.folder_faults → ¬ Rose before.sink_faults after.sink_faults → (status_of_run ending ≡ statuses.done) ⊎ (status_of_run ending ≡ statuses.memory_wanted)
   complete request unit before after (finished input reading files (ran outcome)) holds ends folder sink = inl refl
   complete request unit before after (finished input reading files (unput outcome)) holds ends folder sink = absurd (sink ends.1.3.1)
   complete request unit before after (finished input reading files too_many_definitions) holds ends folder sink =

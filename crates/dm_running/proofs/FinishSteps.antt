@@ -12,6 +12,7 @@ use Rattle.dm_run.specs.Texts.{run_text}
 use Rattle.dm_words.specs.Requests.{RunRequest}
 use Rattle.dm_running.specs.Readings.{exceeds, program_of}
 use Rattle.dm_running.specs.Finishes.{ran, unput, Runs, IsFinishedAs}
+use Rattle.dm_lines.specs.Statuses as statuses
 
 -- the run of the program that is made of a reading
 pub reading_runs : (request : RunRequest) (reading : Reading) (input : List ℕ) (made : Option Source) (program : Source) (outcome : Outcome) → exceeds reading.pp.read ≡ false → made ≡ Some program
@@ -23,13 +24,13 @@ reading_runs request reading input made program outcome few is makes runs =
     (few, subst (λ (one : Source). IsRun (meant one) request.order request.steps input outcome) same runs)
 
 module _ (request : RunRequest) (reading : Reading) (names : List (List ℕ)) (input : List ℕ) (before after : Option (List ℕ)) (faults_before faults_after : ℕ) (result : Result ℕ Memory) where
-  pub finished_run : (outcome : Outcome) → Runs request reading input outcome → (result ≡ Ok 0 → after ≡ appended before (run_text names outcome))
-      → (result ≡ Ok 7 → Rose faults_before faults_after × MayHaveAppended before after (run_text names outcome)) → IfOk result (λ status. (status ≡ 0) ⊎ (status ≡ 7))
+  pub finished_run : (outcome : Outcome) → Runs request reading input outcome → (result ≡ Ok statuses.done → after ≡ appended before (run_text names outcome))
+      → (result ≡ Ok statuses.output_fault → Rose faults_before faults_after × MayHaveAppended before after (run_text names outcome)) → IfOk result (λ status. (status ≡ statuses.done) ⊎ (status ≡ statuses.output_fault))
       → OnErr result (after ≡ before) → IsFinishedAs request reading names input before after faults_before faults_after result
   finished_run outcome runs = at result
     where
-      at : (given : Result ℕ Memory) → (given ≡ Ok 0 → after ≡ appended before (run_text names outcome))
-          → (given ≡ Ok 7 → Rose faults_before faults_after × MayHaveAppended before after (run_text names outcome)) → IfOk given (λ status. (status ≡ 0) ⊎ (status ≡ 7))
+      at : (given : Result ℕ Memory) → (given ≡ Ok statuses.done → after ≡ appended before (run_text names outcome))
+          → (given ≡ Ok statuses.output_fault → Rose faults_before faults_after × MayHaveAppended before after (run_text names outcome)) → IfOk given (λ status. (status ≡ statuses.done) ⊎ (status ≡ statuses.output_fault))
           → OnErr given (after ≡ before) → IsFinishedAs request reading names input before after faults_before faults_after given
       at (Ok status) done failed (inl is) unwritten = (ran outcome, is, (runs, done (ap Ok is)))
       at (Ok status) done failed (inr is) unwritten =

@@ -11,6 +11,7 @@ use Rattle.dm_token.specs.declared.unit.UnitTokens.{UnitTokens}
 use Rattle.dm_search.specs.Fresh.{fresh}
 use Rattle.dm_unit.specs.Units.{IsReadAs, setting_of}
 use Rattle.dm_lines.specs.Outside.{Outside, KeepsFiles, Puts}
+use Rattle.dm_lines.specs.Statuses as statuses
 use Rattle.dm_lines.specs.Stops.{line_of_stop, status_of_stop}
 use Rattle.dm_reading.specs.declared.reading.Reading.{Reading}
 use Rattle.dm_words.specs.Requests.{RunRequest}
@@ -31,7 +32,7 @@ abbrev pub status_of_run : RunEnding → ℕ
 status_of_run (finished input reading files finish) = status_of_finish finish
 status_of_run (stopped input why files) = status_of_stop why
 status_of_run (input_missing why) = status_of_no_input why
-status_of_run memory_wanted = 8
+status_of_run memory_wanted = statuses.memory_wanted
 
 -- a fault has its cause in the folder
 abbrev pub HasCause : Stop → ℕ → ℕ → Type 0
@@ -66,7 +67,7 @@ abbrev pub EndsRunAs : RunRequest → Source → Outside → Outside → Result 
 EndsRunAs request unit before after (Ok status) = (ending : RunEnding) × (status ≡ status_of_run ending) × EndsRun request unit before after ending
 EndsRunAs request unit before after (Err error) = EndsRun request unit before after memory_wanted
 
--- The files are told, the input is there, and the unit is read, has a syntax and typings with a `main`, and not too many definitions.
+-- The files are told, the input is there, and the unit is read, has a syntax and a typing with a `main`, and not too many definitions.
 pub record HoldsRun (told : Option Files) (request : RunRequest) (unit : Source) : Type 0 where
   pub files : Files
   pub are_told : told ≡ Some files

@@ -8,6 +8,7 @@ use Rattle.dm_io.specs.Output.{appended, MayHaveAppended}
 use Rattle.dm_io.specs.Faults.{Rose}
 use Rattle.dm_lines.specs.Lines.{limit_line, refusal_line}
 use Rattle.dm_lines.specs.Puts.{PutsText}
+use Rattle.dm_lines.specs.Statuses as statuses
 use Rattle.dm_meaning.specs.Units.{main_of}
 use Rattle.dm_exec.specs.declared.outcome.Outcome.{Outcome}
 use Rattle.dm_exec.specs.Outcomes.{IsRun}
@@ -24,10 +25,10 @@ pub data Finish : Type 0 where
   main_missing : Finish
 
 abbrev pub status_of_finish : Finish → ℕ
-status_of_finish (ran outcome) = 0
-status_of_finish (unput outcome) = 7
-status_of_finish too_many_definitions = 4
-status_of_finish main_missing = 3
+status_of_finish (ran outcome) = statuses.done
+status_of_finish (unput outcome) = statuses.output_fault
+status_of_finish too_many_definitions = statuses.limit_passed
+status_of_finish main_missing = statuses.refused
 
 -- a unit without `main` is refused at the beginning of its main file
 abbrev pub without_main : Refusal

@@ -6,7 +6,9 @@ use Rattle.dm_token.specs.Names.{is_normal_name}
 use Rattle.dm_io.specs.Files.{Files}
 use Rattle.dm_io.specs.Faults.{Rose}
 use Rattle.dm_lines.specs.Lines.{manifest_line, limit_line, read_fault_line}
+use Rattle.dm_lines.specs.ManifestFaults as manifest_faults
 use Rattle.dm_lines.specs.Outside.{HasText, IsAbsent, IsTooLong}
+use Rattle.dm_lines.specs.Statuses as statuses
 use Rattle.dm_running.specs.declared.input.Input.{Input}
 use Rattle.dm_running.specs.declared.input.Input.TheVariants.{Found, Lacking}
 use Rattle.dm_running.specs.declared.input.NoInput.{NoInput}
@@ -38,7 +40,7 @@ IsInputSought told name before after (Lacking why) = IsNoInputFile told name bef
 
 -- the line that says why there is none, and the status
 abbrev pub line_of_no_input : List ℕ → NoInput → List ℕ
-line_of_no_input name Missing = manifest_line 8 name
+line_of_no_input name Missing = manifest_line manifest_faults.input name
 line_of_no_input name TooLong = limit_line file_bytes name
 line_of_no_input name ReadFault = read_fault_line name
 
@@ -47,6 +49,6 @@ line_without_input None why = []
 line_without_input (Some name) why = line_of_no_input name why
 
 abbrev pub status_of_no_input : NoInput → ℕ
-status_of_no_input Missing = 2
-status_of_no_input TooLong = 4
-status_of_no_input ReadFault = 5
+status_of_no_input Missing = statuses.manifest_fault
+status_of_no_input TooLong = statuses.limit_passed
+status_of_no_input ReadFault = statuses.read_fault

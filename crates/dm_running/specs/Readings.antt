@@ -1,8 +1,6 @@
 -- The reading of a unit, and what may be run of it.
-use Rattle.std.specs.Prelude.{◌≢◌, Bool, List, map, nat_lt, Option, Some, None, Result, Ok, Err}
+use Rattle.std.specs.Prelude.{◌≢◌, Bool, List, nat_lt, Option, Some, None, Result, Ok}
 use Rattle.dm_token.specs.declared.stop.Stop.{Stop}
-use Rattle.dm_token.specs.declared.stop.Stop.TheVariants as stop
-use Rattle.dm_token.specs.declared.token.CToken.{CToken}
 use Rattle.dm_token.specs.declared.token.Token.{Token}
 use Rattle.dm_token.specs.declared.unit.Unit.{Unit as Source}
 use Rattle.dm_token.specs.declared.unit.Read.{Read}
@@ -10,15 +8,12 @@ use Rattle.dm_io.specs.Files.{Files}
 use Rattle.dm_search.specs.Loaded.{Loaded}
 use Rattle.dm_search.specs.Fresh.{fresh}
 use Rattle.dm_unit.specs.Units.{setting_of}
-use Rattle.dm_syn.specs.declared.statement.External.{External}
-use Rattle.dm_syn.specs.Views as view
 use Rattle.dm_type.specs.Tables.{Table}
 use Rattle.dm_tree.specs.declared.unit.CoreUnit.{CoreUnit}
-use Rattle.dm_reading.specs.Elaborated.{Elaborates}
+use Rattle.dm_reading.specs.declared.reading.Layers.{Layers}
 use Rattle.dm_reading.specs.declared.reading.Reading.{Reading}
-use Rattle.dm_reading.specs.Layered.{AreTokens}
+use Rattle.dm_reading.specs.Layered.{HasLayers}
 use Rattle.dm_read.specs.Reading.{IsReading}
-use Rattle.dm_reading.specs.Syntax.{IsSyntax}
 use Rattle.dm_meaning.specs.Programs.{Program}
 use Rattle.dm_meaning.specs.Units.{main_of}
 use Rattle.dm_program.specs.Sources.{meant}
@@ -41,18 +36,8 @@ program_of types core = meant (record { table = types; unit = core })
 abbrev pub HasMain : Table → CoreUnit → Type 0
 HasMain types core = main_of (program_of types core) ≢ None
 
--- what is made of a unit's syntax has a `main`, unless memory ran out
-abbrev pub IsTypedWithMain : Result (CoreUnit × Table) Stop → Type 0
-IsTypedWithMain (Ok made) = HasMain made.1 made.0
-IsTypedWithMain (Err stop.Memory) = Unit {0}
-IsTypedWithMain (Err (stop.Refused refusal)) = ⊥
-IsTypedWithMain (Err (stop.Limit refusal)) = ⊥
-IsTypedWithMain (Err (stop.ReadFault file)) = ⊥
-
--- The tokens of a unit are its tokens of phase 7 and a syntax, and each typing of it, whatever numbers its types have, has a `main`.
+-- The tokens of a unit come through all layers, and what they come to has a `main`.
 pub record MayRun (tokens : List Token) : Type 0 where
-  pub made : List CToken
-  pub are : AreTokens tokens (Ok made)
-  pub syntax : List External
-  pub is : IsSyntax made (map view.external syntax)
-  pub typed : (result : Result (CoreUnit × Table) Stop) → Elaborates made (map view.external syntax) result → IsTypedWithMain result
+  pub layers : Layers
+  pub has : HasLayers tokens (Ok layers)
+  pub main : HasMain layers.types layers.core

@@ -3,6 +3,7 @@
 ghost use Rattle.std.specs.Prelude.{◌≡◌, ◌≤◌, ◌⊎◌, Ok, IfOk, OnErr};
 ghost use Rattle.dm_io.specs.Faults.{Rose};
 ghost use Rattle.dm_io.specs.Output.{appended, MayHaveAppended};
+ghost use Rattle.dm_lines.specs.Statuses as statuses;
 ghost use Rattle.dm_tree.specs.TypeNumbers.{IsTypedUnit};
 ghost use Rattle.dm_run.specs.Texts.{run_text as text_of_run};
 ghost use Rattle.dm_words.specs.Requests.{request_of};
@@ -12,6 +13,7 @@ use crate::explaining::{explain_definitions, explain_no_main};
 use dm_definitions::exceeds_limit;
 use dm_exec::{Outcome, run_for};
 use dm_io::Sink;
+use dm_lines::statuses;
 use dm_program::Program;
 use dm_reading::Reading;
 use dm_run::run_text;
@@ -51,14 +53,18 @@ fn put_run<S: Sink>(
     names: &[Text],
     outcome: &Outcome,
 ) -> Result<u8, Memory>
-    ensures done { result ≡ Ok 0 → S.written out.new ≡ appended (S.written out.old) (text_of_run names.now outcome.now) }
-    ensures failed { result ≡ Ok 7 → Rose (S.faults out.old) (S.faults out.new)
+    ensures done { result ≡ Ok statuses.done → S.written out.new ≡ appended (S.written out.old) (text_of_run names.now outcome.now) }
+    ensures failed { result ≡ Ok statuses.output_fault → Rose (S.faults out.old) (S.faults out.new)
         × MayHaveAppended (S.written out.old) (S.written out.new) (text_of_run names.now outcome.now) }
-    ensures status { IfOk result (λ status. (status ≡ 0) ⊎ (status ≡ 7)) }
+    ensures status { IfOk result (λ status. (status ≡ statuses.done) ⊎ (status ≡ statuses.output_fault)) }
     ensures err { OnErr result (S.written out.new ≡ S.written out.old) }
     ensures later { S.faults out.old ≤ S.faults out.new }
 {
     let text = run_text(alloc, names, outcome)?;
     out.ready(alloc, text.len())?;
-    if out.put(&text) { Ok(0) } else { Ok(7) }
+    if out.put(&text) {
+        Ok(statuses::DONE)
+    } else {
+        Ok(statuses::OUTPUT_FAULT)
+    }
 }

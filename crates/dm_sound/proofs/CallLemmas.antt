@@ -25,6 +25,7 @@ use Rattle.dm_meaning.specs.Values.{null, to, Value, integer_value, pointer_valu
 use Rattle.dm_meaning.specs.Objects.{Layout}
 use Rattle.dm_meaning.specs.Memory.{Memory, look}
 use Rattle.dm_meaning.specs.Primitives.{Answer, answers, stops, refuses, byte_in, put_character, get_character, text_at, most_in, written_line, put_line, end_program, Primitive, primitives, is_primitive, primitive_in, Prim}
+use Rattle.dm_meaning.specs.Causes.{is_unset}
 use Rattle.dm_meaning.specs.Programs.{Program, Definition, layout, declaration_of, definition_in, definition_of}
 use Rattle.dm_meaning.specs.Operations.{Result, of_value, designates, Operand, World, Scene}
 use Rattle.dm_meaning.specs.Running.{Runs, no_runs, more_runs, every, but_first}
@@ -33,12 +34,13 @@ use Rattle.dm_meaning.specs.Statements.{kind_declared, type_declared}
 use Rattle.dm_meaning.specs.Units.{AreBytes}
 use Rattle.dm_meaning.proofs.OptionLemmas.{none_is_some, some_is_some, and_left, and_right}
 use Rattle.dm_meaning.proofs.GrowLemmas.{equal_of}
-use Rattle.dm_sound.specs.TypedValues.{own_type, HasType, IsGiven}
+use Rattle.dm_sound.specs.TypedValues.{own_type, has_values, HasType, IsGiven}
 use Rattle.dm_sound.specs.TypedTrees.{scene_in, IsTyped}
 use Rattle.dm_sound.specs.TypedSteps.{IsResult, AreOperands}
-use Rattle.dm_sound.specs.TypedRuns.{IsTypedProgram, IsTypedWorld, AllComeFrom, result_in, ArgumentsFit, CallFits, MoveFits}
+use Rattle.dm_sound.specs.TypedRuns.{IsTypedProgram, IsTypedWorld, AllComeFrom, result_in, ArgumentsFit, AreGivenValues, CallFits, MoveFits}
+use Rattle.dm_sound.proofs.SetLemmas.{stay_same}
 use Rattle.dm_sound.proofs.ValueLemmas.{number_same, has_own, own_bare, has_like, back_like, compatible_like, covered_like, like_whole}
-use Rattle.dm_sound.proofs.GivenLemmas.{given_number}
+use Rattle.dm_sound.proofs.GivenLemmas.{given_number, complete_values, like_values}
 use Rattle.dm_sound.proofs.OperateLemmas.{value_no_lvalue}
 use Rattle.dm_sound.proofs.ComeLemmas.{typed_parts}
 
@@ -72,20 +74,29 @@ parameter_has laid declared type q value e c given =
     (has_like laid (bare type) (bare declared) (back_like (own_type (bare declared)) (own_type (bare type)) second) value
     (has_like laid (bare q) (bare type) (back_like (own_type (bare type)) (own_type (bare q)) first) value given.typed))
 
+-- and it was set, if that type has values
+parameter_set : (laid : Layout) (declared type q : CType) (value : Value) → are_compatible (bare declared) (bare type) ≡ true → covers (bare type) (bare q) ≡ true → IsTrue (has_values (own_type declared)) → IsGiven laid (bare q) value
+    → is_unset value ≡ false
+parameter_set laid declared type q value e c h given =
+    let first = covered_like (bare type) (bare q) c given.whole in
+    let second = compatible_like (bare declared) (bare type) e (like_whole (own_type (bare type)) (own_type (bare q)) first given.whole) in
+    given.set (like_values (own_type (bare type)) (own_type (bare q)) first (like_values (own_type (bare declared)) (own_type (bare type)) second (ap has_values (own_bare declared) ∙ h)))
+
 module _ (program : Program) where
   abbrev Fitting : List ℕ → CTypes → Type 0
   Fitting ds types = ParametersFit (scene_in program void false false None) ds types
 
   argument_has : (d : ℕ) (type q : CType) (a : Tree) (given : Result) → (entry : Option Declaration) → declaration_of program d ≡ entry → IfSome entry (ParameterFits (scene_in program void false false None) type) → IsSome entry
-      → covers (bare type) (bare q) ≡ true → IsValue a → kind_of a ≡ bare q → IsResult (layout program) a given → HasType (layout program) (kind_declared entry) (value_of given)
+      → covers (bare type) (bare q) ≡ true → IsValue a → kind_of a ≡ bare q → IsResult (layout program) a given → HasType (layout program) (kind_declared entry) (value_of given) × (is_unset (value_of given) ≡ false)
   argument_has d type q a given None e fits is c v k h = absurd (false≢true is)
   argument_has d type q a (of_value value) (Some entry) e fits is c v k h =
-      parameter_has (layout program) entry.kind type q value fits.1 c (subst (λ (t : CType). IsGiven (layout program) t value) k h.1)
+      let given = subst (λ (t : CType). IsGiven (layout program) t value) k h.1 in
+      (parameter_has (layout program) entry.kind type q value fits.1 c given, parameter_set (layout program) entry.kind type q value fits.1 c (complete_values program.table entry.kind fits.2) given)
   argument_has d type q a (designates at) (Some entry) e fits is c v k h = absurd (false≢true (sym (ap not h) ∙ value_no_lvalue a v))
 
   arguments_fit : (ds : List ℕ) (types qs : CTypes) (args : Trees) (operands : List Operand) → Fitting ds types → cover_parameters types qs ≡ true → FitParameters (listed args) qs → AreOperands (layout program) every args operands
-      → ArgumentsFit program ds (map (λ x. value_of x.result) operands)
-  arguments_fit [] no_types no_types no_trees [] f c p h = tt
+      → ArgumentsFit program ds (map (λ x. value_of x.result) operands) × AreGivenValues (map (λ x. value_of x.result) operands)
+  arguments_fit [] no_types no_types no_trees [] f c p h = (tt, tt)
   arguments_fit [] no_types no_types no_trees (x ∷ operands) f c p h = absurd h
   arguments_fit [] no_types no_types (more_trees a args) operands f c p h = absurd p
   arguments_fit [] no_types (more_types q qs) args operands f c p h = absurd (false≢true c)
@@ -97,7 +108,9 @@ module _ (program : Program) where
   arguments_fit (d ∷ ds) (more_types type types) (more_types q qs) (more_trees a args) [] f c p h = absurd h
   arguments_fit (d ∷ ds) (more_types type types) (more_types q qs) (more_trees a args) (x ∷ operands) f c p h =
       let head = cover_head type q types qs c in
-      (argument_has d type q a x.result (declaration_of program d) refl f.0.0 f.0.1 head.0 p.0 p.1 h.0.1, arguments_fit ds types qs args operands f.1 head.1 p.2 h.1)
+      let one = argument_has d type q a x.result (declaration_of program d) refl f.0.0 f.0.1 head.0 p.0 p.1 h.0.1 in
+      let rest = arguments_fit ds types qs args operands f.1 head.1 p.2 h.1 in
+      ((one.0, rest.0), (one.1, rest.1))
 
   -- a call of a function that is defined, by the type of its entry
   defined_fits : (at : ℕ) (definition : Definition) (declared type kind : CType) (args : Trees) (operands : List Operand) → definition_of program at ≡ Some definition → type_declared program at ≡ declared → covers declared type ≡ true
@@ -106,7 +119,8 @@ module _ (program : Program) where
   defined_fits at definition (function_type a types) (function_type b qs) kind args operands e d c fits p h = record {
     definition = definition;
     defined = e;
-    arguments_fit = arguments_fit definition.parameters types qs args operands fits.0 (and_right (covers a b) (cover_parameters types qs) c) p.0 h;
+    arguments_fit = (arguments_fit definition.parameters types qs args operands fits.0 (and_right (covers a b) (cover_parameters types qs) c) p.0 h).0;
+    arguments_set = (arguments_fit definition.parameters types qs args operands fits.0 (and_right (covers a b) (cover_parameters types qs) c) p.0 h).1;
     result = b;
     gives = p.1;
     covered = ap (λ (t : CType). covers (result_in t) b) d ∙ and_left (covers a b) (cover_parameters types qs) c;
@@ -216,18 +230,18 @@ module _ (scene : Scene) (sound : IsTypedProgram scene.program) (world : World) 
   abbrev laid : Layout
   laid = layout scene.program
 
-  answer_moves : (tree : Tree) (place : Place) (found : Option Answer) → IsTrue (not (is_lvalue tree)) → AnswerFits laid (kind_of tree) found → MoveFits scene.program tree (answered world (kind_of tree) place found)
+  answer_moves : (tree : Tree) (place : Place) (found : Option Answer) → IsTrue (not (is_lvalue tree)) → AnswerFits laid (kind_of tree) found → MoveFits scene.program world.memory tree (answered world (kind_of tree) place found)
   answer_moves tree place None v h = tt
-  answer_moves tree place (Some (answers value input output)) v h = (record { memory = well.memory; input = h.1 }, (refl, (v, h.0)))
+  answer_moves tree place (Some (answers value input output)) v h = (record { memory = well.memory; input = h.1 }, stay_same world.memory, (refl, (v, h.0)))
   answer_moves tree place (Some (stops status)) v h = tt
   answer_moves tree place (Some (refuses cause)) v h = tt
 
   module _ (kind : CType) (spans : Spans) (parts : Trees) (place : Place) (operands : List Operand) (at : ℕ) (type : CType) (args : Trees) (p : FitsCall type (listed args) kind) (h : AreOperands laid every args operands) where
     abbrev Called : Option Definition → Type 0
-    Called o = MoveFits scene.program (node label.call kind spans parts) (called scene world kind place (map (λ x. value_of x.result) operands) at o)
+    Called o = MoveFits scene.program world.memory (node label.call kind spans parts) (called scene world kind place (map (λ x. value_of x.result) operands) at o)
 
     undefined_fits : (entry : Option Declaration) → IfSome entry (λ one. IsTrue (is_function_sort one.sort && covers one.kind type)) → IsSome entry
-        → MoveFits scene.program (node label.call kind spans parts) (undefined_called scene world kind place (map (λ x. value_of x.result) operands) entry)
+        → MoveFits scene.program world.memory (node label.call kind spans parts) (undefined_called scene world kind place (map (λ x. value_of x.result) operands) entry)
     undefined_fits None f is = tt
     undefined_fits (Some entry) f is =
         answer_moves (node label.call kind spans parts) place (Prim entry.name entry.kind laid world.memory (map (λ x. value_of x.result) operands) world.input world.output) refl
@@ -253,10 +267,10 @@ module _ (scene : Scene) (sound : IsTypedProgram scene.program) (world : World) 
   -- A step of a call calls a function that the program defines, as its definition wants it, or one of the machine's own.
   pub call_fits : (kind : CType) (spans : Spans) (parts : Trees) → IsTyped scene.program answer (node label.call kind spans parts) → (place : Place) (runs : Runs) (operands : List Operand)
       → AllComeFrom laid but_first parts runs → AreOperands laid but_first parts operands
-      → MoveFits scene.program (node label.call kind spans parts) (call_step scene world kind place (map (λ x. value_of x.result) operands) (function_named (nth_run 0 runs)))
+      → MoveFits scene.program world.memory (node label.call kind spans parts) (call_step scene world kind place (map (λ x. value_of x.result) operands) (function_named (nth_run 0 runs)))
   call_fits kind spans (more_trees (node (label.function at) type inner no_trees) args) t place runs operands h g =
       let first = typed_parts scene.program answer label.call kind spans (more_trees (node (label.function at) type inner no_trees) args) t in
-      subst (λ (o : Option ℕ). MoveFits scene.program (node label.call kind spans (more_trees (node (label.function at) type inner no_trees) args)) (call_step scene world kind place (map (λ x. value_of x.result) operands) o))
+      subst (λ (o : Option ℕ). MoveFits scene.program world.memory (node label.call kind spans (more_trees (node (label.function at) type inner no_trees) args)) (call_step scene world kind place (map (λ x. value_of x.result) operands) o))
       (sym (named_first at type inner runs args h))
       (by_definition kind spans (more_trees (node (label.function at) type inner no_trees) args) place operands at type args t.typed.0 g (definition_of scene.program at) refl first.0.typed.0.0 first.0.typed.0.1)
   call_fits kind spans parts t place runs operands h g = absurd t.typed.0

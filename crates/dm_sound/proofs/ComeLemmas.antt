@@ -4,7 +4,7 @@ use Rattle.std.proofs.Common.{subst, inl, inr}
 use Rattle.std.proofs.lemmas.Bool.{false≢true}
 use Rattle.dm_int.specs.declared.Kind.{Kind}
 use Rattle.dm_type.specs.CTypes.{CType}
-use Rattle.dm_tree.specs.Trees.{Label, Spans, Tree, Trees, node, no_trees, more_trees, kind_of, trees_of, listed}
+use Rattle.dm_tree.specs.Trees.{Label, Spans, Tree, Trees, node, no_trees, more_trees, trees_of, listed}
 use Rattle.dm_tree.specs.Trees as label
 use Rattle.dm_tree.specs.Typing.{AreWellTyped, inside, switch_kind}
 use Rattle.dm_meaning.specs.Values.{Value}

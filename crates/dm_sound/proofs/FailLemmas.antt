@@ -13,7 +13,7 @@ use Rattle.dm_tree.specs.Constants.{integer_kind}
 use Rattle.dm_tree.specs.Initialisers.{is_function_sort}
 use Rattle.dm_tree.specs.Operands.{FitParameters, FitsCall}
 use Rattle.dm_tree.specs.Scenes.{Scene as Standing, IsValue, is_scalar, is_function, target}
-use Rattle.dm_tree.specs.Trees.{Label, Spans, Tree, Trees, node, no_trees, more_trees, kind_of, label_of, trees_of, is_statement, listed}
+use Rattle.dm_tree.specs.Trees.{Label, Spans, Tree, Trees, node, no_trees, more_trees, kind_of, trees_of, is_statement, listed}
 use Rattle.dm_tree.specs.Trees as label
 use Rattle.dm_tree.specs.Typing.{Fits}
 use Rattle.dm_tree.specs.Units.{Declaration}
@@ -315,7 +315,7 @@ module _ (scene : Scene) (sound : IsTypedProgram scene.program) (world : World) 
   told_excused given place (cause ∷ causes) b following apart = λ e. absurd (apart (earliest_among (cause ∷ causes) OtherType (ap Some e)))
 
   -- the truth of a scalar is told, but for an object that can't be used
-  truth_excused : (given : List Result) (place : Place) (a : Tree) (result : Result) → IsResult its a result → IsValue a → IsTrue (is_scalar (kind_of a)) → (following : Bool → Run)
+  pub truth_excused : (given : List Result) (place : Place) (a : Tree) (result : Result) → IsResult its a result → IsValue a → IsTrue (is_scalar (kind_of a)) → (following : Bool → Run)
       → Excuses given (by_truth world place (truth_of world.memory (value_of result)) following)
   truth_excused given place a result h v scalar following =
       let one = value_there its a result h v in

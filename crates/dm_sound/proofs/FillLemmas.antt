@@ -1,6 +1,5 @@
 -- The initialisers of well-typed declarations give objects and their parts values of their types.
 use Rattle.std.specs.Prelude.{◌≡◌, refl, ℕ, zero, suc, ◌+◌, nat_lt, Bool, true, false, not, IsTrue, IfSome, IsSome, List, [], ◌∷◌, ◌++◌, length, take, drop, Option, Some, None, option_map, slice_get, if◌then◌else◌}
-use Rattle.std.specs.Option.{option_map_or}
 use Rattle.std.proofs.Common.{arith, ap, sym, ◌∙◌, subst}
 use Rattle.std.proofs.lemmas.Bool.{false≢true, true≢false}
 use Rattle.dm_int.specs.declared.Kind.{Kind}
@@ -12,19 +11,24 @@ use Rattle.dm_tree.specs.Initialisers.{also, targets, targets_of_items, is_chara
 use Rattle.dm_tree.specs.Scenes.{Scene, is_scalar, part_type, member_type}
 use Rattle.dm_tree.specs.Trees.{literal, Tree, node, listed, kind_of, Declarator, Initialiser, Initialisers, one_expression, in_braces, no_items, more_items, expressions_in, expressions_in_items}
 use Rattle.dm_tree.specs.Units.{Declaration}
+use Rattle.dm_tree.proofs.ExpressionLemmas.{IsExpression, value-expression}
 use Rattle.dm_meaning.specs.Objects.{Field, object_of, outside, reached_member, element, inner_type, unqualified, is_array}
+use Rattle.dm_meaning.specs.Causes.{is_unset}
 use Rattle.dm_meaning.specs.Programs.{Program, layout, declaration_of}
 use Rattle.dm_meaning.specs.Operations.{of_value, designates}
 use Rattle.dm_meaning.specs.Statements.{array_of, characters_at, expressions_of, kind_declared, with_expressions}
 use Rattle.dm_meaning.proofs.OptionLemmas.{none_is_some, some_is_some, bound_some, mapped_some}
-use Rattle.dm_sound.specs.TypedValues.{own_type, has_parts, HasType}
+use Rattle.dm_meaning.proofs.WholeLemmas.{typed-expression}
+use Rattle.dm_sound.specs.TypedValues.{own_type, has_parts, has_values, HasType}
 use Rattle.dm_sound.specs.TypedTrees.{IsProper, IsSoundTable, scene_in}
-use Rattle.dm_sound.specs.TypedStates.{HasProperEntries, Gives, Fills, FillParts, FillsIfThere, AllAreTyped}
+use Rattle.dm_sound.specs.TypedStates.{Gives, Fills, FillParts, FillsIfThere, AllAreTyped}
 use Rattle.dm_sound.proofs.ValueLemmas.{own_bare, has_own, has_like, covered_like, back_like}
+use Rattle.dm_sound.proofs.GivenLemmas.{like_values, scalar_values}
 use Rattle.dm_sound.proofs.OperateLemmas.{value_no_lvalue}
 use Rattle.dm_sound.proofs.ComeLemmas.{typed_parts}
 use Rattle.dm_sound.proofs.ListedLemmas.{text_has}
 use Rattle.dm_sound.proofs.TableLemmas.{table_proper, field_there}
+use Rattle.dm_sound.proofs.LocalLemmas.{same_count}
 use Rattle.dm_sound.proofs.TaskLemmas.{all_listed, LocalsFit, DeclaresFill}
 
 -- ---- types without const
@@ -38,7 +42,7 @@ plain_own (array type n) e = absurd (true≢false e)
 plain_own (const type) e = plain_own type e
 plain_own type e = refl
 
-scalar_plain : (type : CType) → IsTrue (is_scalar type) → is_array (unqualified type) ≡ false
+pub scalar_plain : (type : CType) → IsTrue (is_scalar type) → is_array (unqualified type) ≡ false
 scalar_plain (integer kind) h = refl
 scalar_plain (pointer type) h = refl
 scalar_plain (const (integer kind)) h = refl
@@ -46,11 +50,11 @@ scalar_plain (const (pointer type)) h = refl
 scalar_plain (const type) h = absurd (false≢true h)
 scalar_plain type h = absurd (false≢true h)
 
-abbrev is_struct : CType → Bool
+abbrev pub is_struct : CType → Bool
 is_struct (struct number) = true
 is_struct type = false
 
-same_element : (a b : CType) (m n : Option ℕ) → array a m ≡ array b n → (a ≡ b) × (m ≡ n)
+pub same_element : (a b : CType) (m n : Option ℕ) → array a m ≡ array b n → (a ≡ b) × (m ≡ n)
 same_element a b m n e = (element_of e, length_of e)
   where
     element_of : array a m ≡ array b n → a ≡ b
@@ -59,7 +63,7 @@ same_element a b m n e = (element_of e, length_of e)
     length_of : array a m ≡ array b n → m ≡ n
     length_of f = cc
 
-integer_by : (type : CType) (kind : Kind) → integer_kind type ≡ Some kind → unqualified type ≡ integer kind
+pub integer_by : (type : CType) (kind : Kind) → integer_kind type ≡ Some kind → unqualified type ≡ integer kind
 integer_by (integer other) kind e = ap integer (some_is_some other kind e)
 integer_by (const (integer other)) kind e = ap integer (some_is_some other kind e)
 integer_by (const type) kind e = absurd (none_is_some kind e)
@@ -69,14 +73,14 @@ abbrev integer_in : CType → Option Kind
 integer_in (integer kind) = Some kind
 integer_in type = None
 
-integer_back : (type : CType) (kind : Kind) → IsProper type → unqualified type ≡ integer kind → integer_kind type ≡ Some kind
+pub integer_back : (type : CType) (kind : Kind) → IsProper type → unqualified type ≡ integer kind → integer_kind type ≡ Some kind
 integer_back (integer other) kind p e = ap integer_in e
 integer_back (const (integer other)) kind p e = ap integer_in e
 integer_back (const (const type)) kind p e = absurd (false≢true p.0)
 integer_back (const type) kind p e = absurd (none_is_some kind (ap integer_in e))
 integer_back type kind p e = absurd (none_is_some kind (ap integer_in e))
 
-character_kind : (o : Option Kind) → IsTrue (is_character o) → (kind : Kind) × (o ≡ Some kind)
+pub character_kind : (o : Option Kind) → IsTrue (is_character o) → (kind : Kind) × (o ≡ Some kind)
 character_kind None h = absurd (false≢true h)
 character_kind (Some kind) h = (kind, refl)
 
@@ -95,9 +99,15 @@ struct_like number (const (const kind)) e p = absurd (false≢true p.0)
 struct_like number (const kind) e p = absurd (true≢false (ap is_struct e))
 struct_like number kind e p = absurd (true≢false (ap is_struct e))
 
+-- what initialises an object is an expression
+initialises_whole : (scene : Scene) (fixed : Bool) (type : CType) (tree : Tree) → Initialises scene fixed type tree → IsExpression tree
+initialises_whole scene fixed (array type (Some many)) (node (literal bytes unit) kind spans parts) h = refl
+initialises_whole scene fixed (array type (Some many)) (node label kind spans parts) h = value-expression (node label kind spans parts) h.0
+initialises_whole scene fixed type tree h = value-expression tree h.0
+
 -- ---- lists
 
-targets_split : (scene : Scene) (fixed : Bool) (types others : List CType) (trees : List Tree) (n : ℕ) → length types ≡ n → AllInitialise scene fixed (types ++ others) trees
+pub targets_split : (scene : Scene) (fixed : Bool) (types others : List CType) (trees : List Tree) (n : ℕ) → length types ≡ n → AllInitialise scene fixed (types ++ others) trees
     → AllInitialise scene fixed types (take n trees) × AllInitialise scene fixed others (drop n trees)
 targets_split scene fixed [] others trees zero e h = (tt, h)
 targets_split scene fixed [] others trees (suc n) e h = absurd (omega (arith, e))
@@ -122,19 +132,19 @@ module _ (program : Program) (sound : IsSoundTable program.table) where
   length_joined (x ∷ xs) ys = let h = length_joined xs ys in omega (arith, h)
 
   -- an item of a list in braces, and those behind it
-  record IsItem (type : CType) (n : ℕ) (first : Initialiser) (rest : Initialisers) (types : List CType) : Type 0 where
-    part : CType
-    firsts : List CType
-    others : List CType
-    is : part_type program.table type n ≡ Some part
-    of_first : targets program.table part first ≡ Some firsts
-    of_rest : targets_of_items program.table type (suc n) rest ≡ Some others
-    joined : firsts ++ others ≡ types
+  pub record IsItem (type : CType) (n : ℕ) (first : Initialiser) (rest : Initialisers) (types : List CType) : Type 0 where
+    pub part : CType
+    pub firsts : List CType
+    pub others : List CType
+    pub is : part_type program.table type n ≡ Some part
+    pub of_first : targets program.table part first ≡ Some firsts
+    pub of_rest : targets_of_items program.table type (suc n) rest ≡ Some others
+    pub joined : firsts ++ others ≡ types
 
   one_more : (n : ℕ) → n + 1 ≡ suc n
   one_more n = omega arith
 
-  item_there : (type : CType) (n : ℕ) (first : Initialiser) (rest : Initialisers) (types : List CType) → targets_of_items program.table type n (more_items first rest) ≡ Some types → IsItem type n first rest types
+  pub item_there : (type : CType) (n : ℕ) (first : Initialiser) (rest : Initialisers) (types : List CType) → targets_of_items program.table type n (more_items first rest) ≡ Some types → IsItem type n first rest types
   item_there type n first rest types e =
       let behind = targets_of_items program.table type (n + 1) rest in
       let one = bound_some (λ (part : CType). also (targets program.table part first) behind) (part_type program.table type n) types e in
@@ -152,7 +162,7 @@ module _ (program : Program) (sound : IsSoundTable program.table) where
 
   -- there are as many targets as expressions
   mutual
-    counted : (initialiser : Initialiser) (type : CType) (types : List CType) → targets program.table type initialiser ≡ Some types → length types ≡ expressions_in initialiser
+    pub counted : (initialiser : Initialiser) (type : CType) (types : List CType) → targets program.table type initialiser ≡ Some types → length types ≡ expressions_in initialiser
     counted one_expression type types e = ap length (sym (some_is_some (type ∷ []) types e))
     counted (in_braces items) type types e = counted_items items type 0 types e
 
@@ -167,7 +177,7 @@ module _ (program : Program) (sound : IsSoundTable program.table) where
 
   -- ---- parts
 
-  abbrev IsPart : CType → ℕ → CType → Type 0
+  abbrev pub IsPart : CType → ℕ → CType → Type 0
   IsPart kind n part =
       (element (layout program) (bare kind) n ≡ object_of (inner_type (layout program) (bare kind) n) false) × (unqualified part ≡ unqualified (inner_type (layout program) (bare kind) n))
       × IsProper (inner_type (layout program) (bare kind) n) × IsTrue (has_parts (own_type kind))
@@ -196,7 +206,7 @@ module _ (program : Program) (sound : IsSoundTable program.table) where
           let inner : inner_type (layout program) (struct number) n ≡ field.kind = inner_field number n field g in
           (ap reached_member g ∙ ap (λ (t : CType). object_of t false) (sym inner), ap unqualified (sym h ∙ sym inner), subst IsProper (sym inner) q, w)
 
-  part_there : (type kind : CType) → unqualified type ≡ unqualified kind → IsProper kind → (n : ℕ) (part : CType) → part_type program.table type n ≡ Some part → IsPart kind n part
+  pub part_there : (type kind : CType) → unqualified type ≡ unqualified kind → IsProper kind → (n : ℕ) (part : CType) → part_type program.table type n ≡ Some part → IsPart kind n part
   part_there (array type (Some many)) kind e p n part f =
       let like = array_like type (Some many) kind e p in
       subst (λ (k : CType). IsPart k n part) (sym like.1) (by_length (nat_lt n many) refl f like.0 like.2 like.3)
@@ -220,13 +230,15 @@ module _ (program : Program) (sound : IsSoundTable program.table) where
       let like = array_like type (Some many) kind e p in
       let char = character_kind (integer_kind type) h.0 in
       let inner = integer_back like.0 char.0 like.3 (sym like.2 ∙ integer_by type char.0 char.1) in
-      subst (λ (t : CType). HasType (layout program) t (array_of t (characters_at at.name))) (sym like.1) (text_has (layout program) like.0 char.0 inner many at.name)
+      subst (λ (t : CType). HasType (layout program) t (array_of t (characters_at at.name)) × (is_unset (array_of t (characters_at at.name)) ≡ false)) (sym like.1) (text_has (layout program) like.0 char.0 inner many at.name, refl)
   gives scene fixed (array type (Some many)) (node label k spans parts) kind e p h given g = absurd (false≢true h.1)
   gives scene fixed type tree kind e p h (of_value value) g =
       let plain = scalar_plain type h.1 in
       let same : own_type (bare type) ≡ own_type kind = own_bare type ∙ plain_own type plain ∙ e ∙ sym (plain_own kind (ap is_array (sym e) ∙ plain)) in
-      has_own (layout program) (bare type) kind same value
-      (has_like (layout program) (kind_of tree) (bare type) (back_like (own_type (bare type)) (own_type (kind_of tree)) (covered_like (bare type) (kind_of tree) h.2 g.1.whole)) value g.1.typed)
+      let like = covered_like (bare type) (kind_of tree) h.2 g.1.whole in (
+        has_own (layout program) (bare type) kind same value (has_like (layout program) (kind_of tree) (bare type) (back_like (own_type (bare type)) (own_type (kind_of tree)) like) value g.1.typed),
+        g.1.set (like_values (own_type (bare type)) (own_type (kind_of tree)) like (ap has_values (own_bare type) ∙ scalar_values type h.1)),
+      )
   gives scene fixed type tree kind e p h (designates at) g = absurd (false≢true (ap not (sym g) ∙ value_no_lvalue tree h.0))
 
   -- ---- initialisers
@@ -238,7 +250,7 @@ module _ (program : Program) (sound : IsSoundTable program.table) where
       fills one_expression type kind e p types f [] h t = tt
       fills one_expression type kind e p types f (tree ∷ []) h t =
           let first = subst (λ (ts : List CType). AllInitialise scene fixed ts (tree ∷ [])) (sym (some_is_some (type ∷ []) types f)) h in
-          (t.0, gives scene fixed type tree kind e p first.0)
+          (t.0, gives scene fixed type tree kind e p first.0, typed-expression (scene_in program result t.0.breaks t.0.continues t.0.labels) tree t.0.typed (initialises_whole scene fixed type tree first.0))
       fills one_expression type kind e p types f (first ∷ second ∷ rest) h t = tt
       fills (in_braces no_items) type kind e p types f trees h t = absurd (none_is_some types f)
       fills (in_braces (more_items item items)) type kind e p types f trees h t =
@@ -260,11 +272,7 @@ module _ (program : Program) (sound : IsSoundTable program.table) where
 
   -- ---- declarators
 
-  same_count : (o : Option Initialiser) → option_map_or expressions_in o 0 ≡ expressions_of o
-  same_count None = refl
-  same_count (Some initialiser) = refl
-
-  module _ (proper : HasProperEntries program) (result : CType) (breaks continues : Bool) (labels : Option Kind) where
+  module _ (proper : (d : ℕ) (entry : Declaration) → declaration_of program d ≡ Some entry → IsProper entry.kind) (result : CType) (breaks continues : Bool) (labels : Option Kind) where
     abbrev place : Scene
     place = scene_in program result breaks continues labels
 
@@ -292,7 +300,7 @@ module _ (program : Program) (sound : IsSoundTable program.table) where
           declarators_fill more (drop count trees) rest (dropped_typed program result count trees t),
         )
 
-  pub declares_fill : HasProperEntries program → (result : CType) → DeclaresFill program result
+  pub declares_fill : ((d : ℕ) (entry : Declaration) → declaration_of program d ≡ Some entry → IsProper entry.kind) → (result : CType) → DeclaresFill program result
   declares_fill proper result lengths declarators kind spans parts t =
       let trees = listed parts in
       declarators_fill proper result t.breaks t.continues t.labels declarators (drop lengths trees) t.typed.0.0.2

@@ -13,7 +13,7 @@ use Rattle.dm_type.specs.CTypes.{CType, void, integer, pointer, array, struct, f
 use Rattle.dm_type.specs.Layouts.{if_fits, repeated, layout_of, size_of}
 use Rattle.dm_type.specs.Tables.{Table, content_of}
 use Rattle.dm_tree.specs.Constants.{integer_kind}
-use Rattle.dm_tree.specs.Scenes.{is_pointer, is_scalar, target}
+use Rattle.dm_tree.specs.Scenes.{is_pointer, is_scalar, is_function, target}
 use Rattle.dm_meaning.specs.Values.{Pointer, Value, integer_value, pointer_value, parts, unset}
 use Rattle.dm_meaning.specs.Objects.{Layout, is_array}
 use Rattle.dm_meaning.specs.Causes.{is_unset}
@@ -21,7 +21,7 @@ use Rattle.dm_meaning.specs.Units.{is_pointer as points}
 use Rattle.dm_meaning.proofs.OptionLemmas.{none_is_some, some_is_some, bound_some, mapped_some, and_left, and_right}
 use Rattle.dm_sound.specs.TypedValues.{own_type, has_parts, has_values, HasType, IsGiven}
 use Rattle.dm_sound.specs.TypedTrees.{IsProper, IsSoundTable}
-use Rattle.dm_sound.proofs.ValueLemmas.{own_integer}
+use Rattle.dm_sound.proofs.ValueLemmas.{own_integer, AreLike}
 
 -- ---- integers
 
@@ -189,3 +189,25 @@ proper_whole (const (const type)) h w = absurd (false≢true h.0)
 proper_whole (const (array type n)) h w = absurd (false≢true h.0)
 proper_whole (const type) h w = refl
 proper_whole type h w = w
+
+-- types whose values are the same have some together
+pub like_values : (x y : CType) → AreLike x y → IsTrue (has_values x) → IsTrue (has_values y)
+like_values x y (inl e) h = subst (λ (t : CType). IsTrue (has_values t)) e h
+like_values x y (inr (inl (p, q))) h = pointer_values y q
+  where
+    pointer_values : (t : CType) → IsTrue (points t) → IsTrue (has_values t)
+    pointer_values (pointer t) k = refl
+    pointer_values t k = absurd (false≢true k)
+like_values x y (inr (inr (p, q))) h = absurd (function_values x p h)
+  where
+    function_values : (t : CType) → IsTrue (is_function t) → IsTrue (has_values t) → ⊥
+    function_values (function t ts) k g = false≢true g
+    function_values t k g = false≢true k
+
+pub scalar_values : (type : CType) → IsTrue (is_scalar type) → IsTrue (has_values (own_type type))
+scalar_values (integer kind) h = refl
+scalar_values (pointer type) h = refl
+scalar_values (const (integer kind)) h = refl
+scalar_values (const (pointer type)) h = refl
+scalar_values (const type) h = absurd (false≢true h)
+scalar_values type h = absurd (false≢true h)

@@ -17,3 +17,11 @@ pub mod PlaceLemmas
 pub mod TaskLemmas
 pub mod FillLemmas
 pub mod StepLemmas
+pub mod LocalLemmas
+pub mod StaticLemmas
+pub mod BeginLemmas
+pub mod ProperLemmas
+pub mod RunningLemmas
+pub mod SetLemmas
+pub mod ExcuseLemmas
+pub mod LayoutLemmas

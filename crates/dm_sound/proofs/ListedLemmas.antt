@@ -25,7 +25,7 @@ pointer_parts (pointer type) h e = false≢true e
 pointer_parts type h e = false≢true h
 
 -- the parts of a value of a type that has some
-parts_have : (laid : Layout) (type : CType) (value : Value) → HasType laid type value → IsTrue (has_parts (own_type type)) → HaveTypes laid (part_types laid (own_type type)) (values (parts_in value))
+pub parts_have : (laid : Layout) (type : CType) (value : Value) → HasType laid type value → IsTrue (has_parts (own_type type)) → HaveTypes laid (part_types laid (own_type type)) (values (parts_in value))
 parts_have laid type (integer_value kind z) h p = absurd (false≢true (ap has_parts (sym h.0) ∙ p))
 parts_have laid type (pointer_value one) h p = absurd (pointer_parts (own_type type) h p)
 parts_have laid type (compound all) h p = subst (λ (vs : Values). HaveTypes laid (part_types laid (own_type type)) vs) (sym (values_back all)) h.1

@@ -22,7 +22,7 @@ use Rattle.dm_tree.specs.Evaluation.{is_shift, is_right, updated_value, count_op
 use Rattle.dm_tree.specs.Initialisers.{is_enumerator, is_function_sort}
 use Rattle.dm_tree.specs.Operands.{Becomes, BecomesPointer, FitsBinary, UpdateFits, FitsMember}
 use Rattle.dm_tree.specs.Scenes.{Scene as Standing, IsValue, is_lvalue, is_array as is_array_type, is_scalar, is_integer, is_pointer, is_function, target, member_type}
-use Rattle.dm_tree.specs.Trees.{Label, Spans, Tree, Trees, node, no_trees, more_trees, kind_of, label_of, is_statement, listed}
+use Rattle.dm_tree.specs.Trees.{Label, Spans, Tree, Trees, node, no_trees, more_trees, kind_of, listed}
 use Rattle.dm_tree.specs.Trees as label
 use Rattle.dm_tree.specs.Typing.{Fits, FitsExpression, FitsSort}
 use Rattle.dm_tree.specs.Units.{Declaration}
@@ -41,6 +41,7 @@ use Rattle.dm_meaning.proofs.OptionLemmas.{none_is_some, some_is_some, bound_som
 use Rattle.dm_sound.specs.TypedValues.{own_type, part_types, has_parts, has_values, HasType, IsGiven, AreTyped}
 use Rattle.dm_sound.specs.TypedTrees.{IsProper, IsProperTree, scene_in}
 use Rattle.dm_sound.specs.TypedSteps.{IsResult, AreOperands, is_operated, DidFits, IsTypedScope}
+use Rattle.dm_sound.proofs.SetLemmas.{stay_same}
 use Rattle.dm_sound.proofs.ValueLemmas.{own_integer, own_bare, nth_has, compound_has, mapped_get, has_own}
 use Rattle.dm_sound.proofs.AccessLemmas.{contents_fit, entry_other, unset_apart}
 use Rattle.dm_sound.proofs.GivenLemmas.{IsNumber, IsAddress, has_number, has_address, number_given, own_target, given_number, given_address, address_given, void_given, complete_values, size_number, proper_bare, proper_whole, in_range_test}
@@ -158,7 +159,7 @@ module _ (scene : Scene) (scope : IsTypedScope scene.program) (world : World) (l
     where
       by_name : (found : Option ℕ) → DidFits scene world (node (label.object d) kind spans parts) operands (designated world found)
       by_name None = λ e. absurd (cc)
-      by_name (Some n) = (typed, refl)
+      by_name (Some n) = (typed, stay_same world.memory, refl)
 
   function_entry : (d : ℕ) (kind : CType) (entry : Option Declaration) → declaration_of scene.program d ≡ entry → IfSome entry (λ one. IsTrue (is_function_sort one.sort && covers one.kind kind)) → IsSome entry → IsGiven laid kind unset
   function_entry d kind None e fits is = absurd (false≢true is)
@@ -167,7 +168,7 @@ module _ (scene : Scene) (scope : IsTypedScope scene.program) (world : World) (l
       (and_right (is_function_sort entry.sort) (covers entry.kind kind) fits)
 
   function_node : (d : ℕ) (kind : CType) (spans : Spans) (parts : Trees) (operands : List Operand) → FitsExpression place (label.function d) kind (listed parts) → Does (label.function d) kind spans parts operands
-  function_node d kind spans no_trees operands fits = (typed, (refl, function_entry d kind (declaration_of scene.program d) refl fits.0 fits.1))
+  function_node d kind spans no_trees operands fits = (typed, stay_same world.memory, (refl, function_entry d kind (declaration_of scene.program d) refl fits.0 fits.1))
   function_node d kind spans parts operands fits = absurd fits
 
   read_node : (kind : CType) (spans : Spans) (parts : Trees) (operands : List Operand) → FitsExpression place label.read kind (listed parts) → IsProperTree (node label.read kind spans parts) → AreOperands laid every parts operands
@@ -202,7 +203,7 @@ module _ (scene : Scene) (scope : IsTypedScope scene.program) (world : World) (l
   -- conversions, by the type converted to
   convert_by : (kind : CType) (spans : Spans) (a : Tree) (lengths : Trees) (operands : List Operand) (x : Operand) → IsValue a → Becomes place a kind → IsProper kind → IsResult laid a x.result
       → DidFits scene world (node label.convert kind spans (more_trees a lengths)) operands (convert_to world kind x.result)
-  convert_by void spans a lengths operands x v fits proper is = (typed, (refl, void_given laid))
+  convert_by void spans a lengths operands x v fits proper is = (typed, stay_same world.memory, (refl, void_given laid))
   convert_by (integer one) spans a lengths operands x v fits proper is =
       set_fits scene world typed label.convert (integer one) spans (more_trees a lengths) operands a x.result is (value_no_lvalue a v) (converted world (integer one))
       (λ value e given. integer_fits scene world typed label.convert (integer one) spans (more_trees a lengths) operands one (kind_of a) refl (becomes_scalar place a one fits) refl value given)
@@ -260,7 +261,7 @@ module _ (scene : Scene) (scope : IsTypedScope scene.program) (world : World) (l
       value_member n kind spans a operands (subst (λ (b : Bool). FitsMember place.types b (kind_of a) n kind) (not_true (is_lvalue a) is.0) fits) is.0 value is.1
   member_by n kind spans a operands x there fits (designates at) e is =
       unless_fits scene world typed (label.member n) kind spans (more_trees a no_trees) operands (entry_causes laid world.memory x.kind at) (gives world (designates (part_of at n)) [])
-      (λ c. (typed, is))
+      (λ c. (typed, stay_same world.memory, is))
       (λ f. mistyped scene world typed (label.member n) kind spans (more_trees a no_trees) operands x at there e x.kind (entry_other laid world.memory x.kind at f))
 
   member_node : (n : ℕ) (kind : CType) (spans : Spans) (parts : Trees) (operands : List Operand) → FitsExpression place (label.member n) kind (listed parts) → AreOperands laid every parts operands → Does (label.member n) kind spans parts operands
@@ -400,7 +401,7 @@ module _ (scene : Scene) (scope : IsTypedScope scene.program) (world : World) (l
       let same : kind_of b ≡ bare (kind_of a) = fits.3 ∙ fits.2 in
       let values : IsTrue (has_values (own_type (kind_of b))) = ap (λ (t : CType). has_values t) (ap own_type same ∙ own_bare (kind_of a)) ∙ complete_values scene.program.table (kind_of a) fits.0.2 in (
         given.set values,
-        store_fits scene world typed label.store kind spans (more_trees a (more_trees b no_trees)) operands locks x xs at e value (subst (λ (t : CType). IsGiven laid t value) fits.3 given) refl,
+        store_fits scene world typed label.store kind spans (more_trees a (more_trees b no_trees)) operands locks x xs at e value (subst (λ (t : CType). IsGiven laid t value) fits.3 given) (given.set values) refl,
       ))))
   store_node kind spans parts operands fits h = absurd fits
 
@@ -544,7 +545,7 @@ module _ (scene : Scene) (scope : IsTypedScope scene.program) (world : World) (l
       → IsProperTree (node form kind spans parts) → ((a : Tree) (rest : Trees) → parts ≡ more_trees a rest → IsValue a → is_const (kind_of a) ≡ false) → AreOperands laid (open_of form) parts operands → Does form kind spans parts operands
   node_fits (label.number z) kind spans parts operands is fits proper plain_left h = number_node z kind spans parts operands fits
   node_fits (label.enumerator d) kind spans parts operands is fits proper plain_left h = enumerator_node d kind spans parts operands fits
-  node_fits (label.literal bytes unit) kind spans parts operands is fits proper plain_left h = (typed, refl)
+  node_fits (label.literal bytes unit) kind spans parts operands is fits proper plain_left h = (typed, stay_same world.memory, refl)
   node_fits (label.object d) kind spans parts operands is fits proper plain_left h = object_node d kind spans parts operands
   node_fits (label.function d) kind spans parts operands is fits proper plain_left h = function_node d kind spans parts operands fits
   node_fits label.read kind spans parts operands is fits proper plain_left h = read_node kind spans parts operands fits proper h

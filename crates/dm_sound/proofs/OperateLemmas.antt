@@ -39,6 +39,7 @@ use Rattle.dm_meaning.proofs.SetLemmas.{read_set}
 use Rattle.dm_sound.specs.TypedValues.{own_type, HasType, IsGiven, AreTyped}
 use Rattle.dm_sound.specs.TypedTrees.{IsProper, IsProperTree}
 use Rattle.dm_sound.specs.TypedSteps.{IsResult, IsOperand, AreOperands, results, IsMistyped, IsTooFar, DidFits}
+use Rattle.dm_sound.proofs.SetLemmas.{stay_same, stay_written}
 use Rattle.dm_sound.proofs.AccessLemmas.{earliest_among, use_apart, follow_apart, uses_apart, order_apart, moved_apart, distance_apart, distance_there, access_same, entry_other, read_other, store_other, update_other, read_typed, store_typed}
 use Rattle.dm_sound.proofs.GivenLemmas.{in_range_test, range_of, given_number, IsNumber, IsAddress, given_address, scalar_given, proper_whole}
 
@@ -96,7 +97,7 @@ module _ (scene : Scene) (world : World) (typed : AreTyped (layout scene.program
   never_fits causes did h k = unless_fits causes did (λ e. h) (λ e. absurd (k e))
 
   pub plain_fits : (value : Value) → IsTrue (not (is_lvalue tree)) → IsGiven own kind value → Fit (plain world value)
-  plain_fits value v given = (typed, (v, given))
+  plain_fits value v given = (typed, stay_same world.memory, (v, given))
 
   pub number_fits : (own_kind : Kind) (z : ℤ) → integer_kind kind ≡ Some own_kind → InRange own_kind z → IsTrue (not (is_lvalue tree)) → Fit (number_alone world kind z)
   number_fits own_kind z e h v =
@@ -190,7 +191,7 @@ module _ (scene : Scene) (world : World) (typed : AreTyped (layout scene.program
     where
       by_pointer : (p : Pointer) → Fit (followed world (pointer_value p))
       by_pointer null = λ e. absurd (cc)
-      by_pointer (to at) = unless_fits (follow_causes world.memory (to at)) (gives world (designates at) []) (λ c. (typed, l)) (λ h. absurd (follow_apart world.memory (to at) h))
+      by_pointer (to at) = unless_fits (follow_causes world.memory (to at)) (gives world (designates at) []) (λ c. (typed, stay_same world.memory, l)) (λ h. absurd (follow_apart world.memory (to at) h))
 
   -- a number, or a pointer, of a conversion (6.3)
   pub integer_fits : (own_kind : Kind) (type : CType) → kind ≡ integer own_kind → IsTrue (is_scalar type) → IsTrue (not (is_lvalue tree)) → (value : Value) → IsGiven own type value
@@ -312,16 +313,16 @@ module _ (scene : Scene) (world : World) (typed : AreTyped (layout scene.program
   pointers_fit tscene op from to_type left e fits p q there here v = absurd (false≢true fits.1)
 
   -- assignments (6.5.16)
-  pub store_fits : (locks : List At) (x : Operand) → IsAmong x operands → (at : At) → x.result ≡ designates at → (value : Value) → IsGiven own kind value → IsTrue (not (is_lvalue tree)) → Fit (store_at scene world locks kind at value)
-  store_fits locks x there at place value given v =
+  pub store_fits : (locks : List At) (x : Operand) → IsAmong x operands → (at : At) → x.result ≡ designates at → (value : Value) → IsGiven own kind value → is_unset value ≡ false → IsTrue (not (is_lvalue tree)) → Fit (store_at scene world locks kind at value)
+  store_fits locks x there at place value given set v =
       unless_fits (store_causes own world.memory locks kind at) (gives (record world { memory = written world.memory at value }) (of_value value) (at ∷ []))
-      (λ c. (store_typed own world.memory typed locks kind at given.whole (nil_left (access_causes own world.memory locks kind at) _ c) value given.typed, (v, given)))
+      (λ c. (store_typed own world.memory typed locks kind at given.whole (nil_left (access_causes own world.memory locks kind at) _ c) value given.typed, stay_written at value world.memory set, (v, given)))
       (λ h. mistyped x at there place kind (store_other own world.memory locks kind at h))
 
   -- what is made of a value of an object: nothing is that of another type, and where there is a value it is of the type
   abbrev pub MadeFits : Made → Value → Value → Type 0
   MadeFits made old given =
-      (IsAmong OtherType made.causes → ⊥) × (made.causes ≡ [] → is_unset old ≡ false → HasType own kind made.value × IsGiven own kind given)
+      (IsAmong OtherType made.causes → ⊥) × (made.causes ≡ [] → is_unset old ≡ false → HasType own kind made.value × (is_unset made.value ≡ false) × IsGiven own kind given)
 
   pub replace_fits : (locks : List At) (x : Operand) → IsAmong x operands → (at : At) → x.result ≡ designates at → IsTrue (not (is_array (own_type kind))) → (made : Made) (given : Value)
       → (is_other kind (reached own world.memory at) ≡ false → MadeFits made (contents_at world.memory at) given) → IsTrue (not (is_lvalue tree)) → Fit (replace_at scene world locks kind at made given)
@@ -332,7 +333,7 @@ module _ (scene : Scene) (world : World) (typed : AreTyped (layout scene.program
       let reading = nil_left (read_causes own world.memory locks kind at) (store_causes own world.memory locks kind at) later in
       let access : access_causes own world.memory locks kind at ≡ [] = nil_left (access_causes own world.memory locks kind at) _ reading in
       let both = (h (access_same own world.memory locks kind at access)).1 (nil_left made.causes updates c) (read_set own world.memory locks kind at reading) in
-      (store_typed own world.memory typed locks kind at none access made.value both.0, (v, both.1)))
+      (store_typed own world.memory typed locks kind at none access made.value both.0, stay_written at made.value world.memory both.1, (v, both.2)))
       (by_other (is_other kind (reached own world.memory at)) refl)
     where
       updates : List Cause
@@ -361,8 +362,8 @@ module _ (scene : Scene) (world : World) (typed : AreTyped (layout scene.program
 
   pub number_made : (one : Kind) (outcome : Outcome ℤ Fault) (old other : Value) (before : Bool) → integer_kind kind ≡ Some one → ((z : ℤ) → outcome ≡ Ok z → InRange one z) → IsGiven own kind other
       → MadeFits (made_number one outcome) old (if before then (made_number one outcome).value else other)
-  number_made one (Ok z) old other true e h given = ((λ f. f), λ c f. ((given_number own kind one z e (h z refl)).typed, given_number own kind one z e (h z refl)))
-  number_made one (Ok z) old other false e h given = ((λ f. f), λ c f. ((given_number own kind one z e (h z refl)).typed, given))
+  number_made one (Ok z) old other true e h given = ((λ f. f), λ c f. ((given_number own kind one z e (h z refl)).typed, refl, given_number own kind one z e (h z refl)))
+  number_made one (Ok z) old other false e h given = ((λ f. f), λ c f. ((given_number own kind one z e (h z refl)).typed, refl, given))
   number_made one (Err fault) old other before e h given = (by_fault, λ c. absurd (none c))
     where
       by_fault : IsAmong OtherType (fault_cause fault ∷ []) → ⊥
@@ -376,7 +377,7 @@ module _ (scene : Scene) (world : World) (typed : AreTyped (layout scene.program
       → MadeFits (made_further scene world inner p n) old (if before then pointer_value (or_null (moved_pointer own world.memory inner p n)) else other)
   further_made inner p n old other before e given = (
     moved_apart own world.memory inner p n,
-    λ c f. (there.typed, by_before before),
+    λ c f. (there.typed, refl, by_before before),
   )
     where
       there : IsGiven own kind (pointer_value (or_null (moved_pointer own world.memory inner p n)))

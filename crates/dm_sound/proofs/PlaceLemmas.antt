@@ -56,10 +56,10 @@ keeps_killed (m ∷ ns) memory =
 equal_of : (a b : ℕ) → (a == b) ≡ true → a ≡ b
 equal_of a b e = grind arith
 
-same : (n : ℕ) → (n == n) ≡ true
+pub same : (n : ℕ) → (n == n) ≡ true
 same n = grind arith
 
-keeps_added : (m : ℕ) (one : Block) (memory : Memory) → look_up memory m ≡ None → Keeps memory ((m, one) ∷ memory)
+pub keeps_added : (m : ℕ) (one : Block) (memory : Memory) → look_up memory m ≡ None → Keeps memory ((m, one) ∷ memory)
 keeps_added m one memory new n block e = by_name (m == n) refl
   where
     by_name : (b : Bool) → (m == n) ≡ b → IsOfKind ((m, one) ∷ memory) n block.kind
@@ -92,7 +92,7 @@ module _ (program : Program) where
     abbrev pub AreNewFrom : ℕ → Memory → Type 0
     AreNewFrom i memory = (j : ℕ) → i ≤ j → look_up memory (names j) ≡ None
 
-    new_added : (i : ℕ) (one : Block) (memory : Memory) → AreNewFrom i memory → AreNewFrom (suc i) ((names i, one) ∷ memory)
+    pub new_added : (i : ℕ) (one : Block) (memory : Memory) → AreNewFrom i memory → AreNewFrom (suc i) ((names i, one) ∷ memory)
     new_added i one memory new j le = by_name (names i == names j) refl
       where
         apart : i ≡ j → ⊥
@@ -102,7 +102,7 @@ module _ (program : Program) where
         by_name true f = absurd (apart (distinct i j (equal_of (names i) (names j) f)))
         by_name false f = new j (omega (arith, le))
 
-    named_added : (i d : ℕ) (one : Block) (objects : Objects) (memory : Memory) → one.kind ≡ type_declared program d → AreNewFrom i memory → AreNamed program memory objects
+    pub named_added : (i d : ℕ) (one : Block) (objects : Objects) (memory : Memory) → one.kind ≡ type_declared program d → AreNewFrom i memory → AreNamed program memory objects
         → AreNamed program ((names i, one) ∷ memory) ((d, names i) ∷ objects)
     named_added i d one objects memory e new h =
         ((one, ap (λ b. if b then Some one else look_up memory (names i)) (same (names i)), e), named_later memory ((names i, one) ∷ memory) (keeps_added (names i) one memory (new i (omega arith))) objects h)
@@ -126,7 +126,7 @@ module _ (program : Program) where
       pub named : AreNamed program later objects
       pub new : AreNewFrom n later
 
-    given_then : (n i : ℕ) (one : Block) (memory later : Memory) (objects : Objects) → AreNewFrom i memory → AreGiven n ((names i, one) ∷ memory) later objects → AreGiven n memory later objects
+    pub given_then : (n i : ℕ) (one : Block) (memory later : Memory) (objects : Objects) → AreNewFrom i memory → AreGiven n ((names i, one) ∷ memory) later objects → AreGiven n memory later objects
     given_then n i one memory later objects new h = record {
       keeps = keeps_then memory ((names i, one) ∷ memory) later (keeps_added (names i) one memory (new i (omega arith))) h.keeps;
       named = h.named;
@@ -216,7 +216,7 @@ module _ (program : Program) (memory later : Memory) (keeps : Keeps memory later
   task_later result (begins tree) h = h
   task_later result (declares declarator trees) h = h
   task_later result (initials at kind initialiser trees) h = (place_later (layout program) memory later keeps at kind h.0, h.1)
-  task_later result (evaluates place run use_of) h = (h.0, h.1, h.2, use_later result h.0 use_of h.3)
+  task_later result (evaluates place run use_of) h = (h.0, h.1, h.2, use_later result h.0 use_of h.3, h.4)
   task_later result (again saved loop) h = (named_later program memory later keeps saved h.0, h.1)
   task_later result (tests saved loop) h = (named_later program memory later keeps saved h.0, h.1)
   task_later result (ends saved) h = named_later program memory later keeps saved h
@@ -246,6 +246,7 @@ module _ (program : Program) (memory later : Memory) (keeps : Keeps memory later
       typed = h.0.typed;
       comes = h.0.comes;
       use_of = use_later _ h.0.tree caller.use_of h.0.use_of;
+      whole = h.0.whole;
       result = h.0.result;
       gives = h.0.gives;
       covered = h.0.covered;

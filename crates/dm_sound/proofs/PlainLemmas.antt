@@ -13,7 +13,7 @@ use Rattle.dm_tree.specs.Constants.{integer_kind}
 use Rattle.dm_tree.specs.Initialisers.{FitsDecay, is_function_sort}
 use Rattle.dm_tree.specs.Operands.{Becomes, is_comparison, result_type, FitsPointers, FitsBinary, IsArmType, FitsCall, FitsMember}
 use Rattle.dm_tree.specs.Scenes.{Scene as Standing, IsValue, is_lvalue, is_array, is_function, target, member_type}
-use Rattle.dm_tree.specs.Trees.{Label, Spans, Tree, Trees, node, no_trees, more_trees, kind_of, label_of, is_statement, listed}
+use Rattle.dm_tree.specs.Trees.{Label, Spans, Tree, Trees, node, no_trees, more_trees, kind_of, is_statement, listed}
 use Rattle.dm_tree.specs.Trees as label
 use Rattle.dm_tree.specs.Typing.{Fits, IsWellTyped, AreWellTyped, inside}
 use Rattle.dm_tree.specs.Units.{Declaration}

@@ -9,7 +9,7 @@ use Rattle.dm_type.specs.CTypes.{CType, integer}
 use Rattle.dm_type.specs.Layouts.{size_of}
 use Rattle.dm_tree.specs.Constants.{integer_kind}
 use Rattle.dm_tree.specs.Scenes.{Scene as Standing, IsValue, is_lvalue}
-use Rattle.dm_tree.specs.Trees.{Label, Spans, Tree, Trees, node, no_trees, more_trees, kind_of, label_of, trees_of, is_statement, listed}
+use Rattle.dm_tree.specs.Trees.{Label, Spans, Tree, Trees, node, no_trees, more_trees, kind_of, trees_of, listed}
 use Rattle.dm_tree.specs.Trees as label
 use Rattle.dm_tree.specs.Typing.{Fits}
 use Rattle.dm_meaning.specs.Among.{IsAmong}
@@ -17,16 +17,16 @@ use Rattle.dm_meaning.specs.Values.{At}
 use Rattle.dm_meaning.specs.Objects.{Layout}
 use Rattle.dm_meaning.specs.Programs.{layout, or_zero as or_no_size}
 use Rattle.dm_meaning.specs.Operations.{Result, of_value, designates, Operand, World, Scene, Did, gives, breaks, ends_with, ill, number_alone, Truth, holds, untold, truth_of, truth_in, operate}
-use Rattle.dm_meaning.specs.Primitives.{Prim}
 use Rattle.dm_meaning.specs.Running.{Doing, evaluates, gives_truth, gives_value, Run, done, to_do, Runs, no_runs, more_runs, begun, Open, every, only_first, but_first, nothing, first_open, others_open, open_of, open_parts, operands_in, locks_in_all, Hole, within, Holes, in_first, in_others}
 use Rattle.dm_meaning.specs.Expressions.{Move, goes, calls, fails, exits, lifted, as_move, unlocked, by_truth, on_operand, value_of, nth_run, going_on, both_chosen, either_chosen, operand_chosen, kind_of_run, form_step, node_step, own_or_inner, where_open, moves, moves_in}
 use Rattle.dm_meaning.specs.Units.{AreBytes}
 use Rattle.dm_meaning.proofs.AmongLemmas.{among_either, among-map_from}
 use Rattle.dm_meaning.proofs.ChangeLemmas.{Changes, DidChanges, operate_changes, number_changes}
-use Rattle.dm_sound.specs.TypedValues.{IsGiven, AreTyped}
+use Rattle.dm_sound.specs.TypedValues.{IsGiven, AreTyped, StaySet}
 use Rattle.dm_sound.specs.TypedTrees.{scene_in, IsTyped}
 use Rattle.dm_sound.specs.TypedSteps.{IsResult, AreOperands, is_operated, DidFits}
 use Rattle.dm_sound.specs.TypedRuns.{IsTypedProgram, IsTypedWorld, only, is_logical, ComesFrom, AllComeFrom, HolesComeFrom, CallFits, MoveFits}
+use Rattle.dm_sound.proofs.SetLemmas.{stay_same}
 use Rattle.dm_sound.proofs.ComeLemmas.{RunsGoOn, HolesGoOn, AllTyped, typed_parts, typed_only, begun_comes, operands_come}
 use Rattle.dm_sound.proofs.OperateLemmas.{value_no_lvalue, number_fits}
 use Rattle.dm_sound.proofs.GivenLemmas.{given_number, size_number}
@@ -87,19 +87,19 @@ module _ (scene : Scene) (sound : IsTypedProgram scene.program) (world : World) 
   laid = layout scene.program
 
   abbrev FitsOn : Tree → Move Run Hole → Type 0
-  FitsOn tree move = MoveFits scene.program tree move
+  FitsOn tree move = MoveFits scene.program world.memory tree move
 
   changed_world : (after : World) (new : List At) → Changes world after new → AreTyped laid after.memory → IsTypedWorld scene.program after
   changed_world after new (inl (e, f)) typed = record { memory = typed; input = subst (λ (w : World). AreBytes w.input) (sym e) well.input }
   changed_world after new (inr (at, value, e, f, made)) typed = record { memory = typed; input = subst (λ (w : World). AreBytes w.input) (sym e) well.input }
 
   did_moves : (tree : Tree) (operands : List Operand) (place : Place) (own : List At) (did : Did) → DidChanges scene world locks did → DidFits scene world tree operands did → FitsOn tree (as_move (kind_of tree) place own did)
-  did_moves tree operands place own (gives after result new) changes fits = (changed_world after new changes fits.0, (refl, fits.1))
+  did_moves tree operands place own (gives after result new) changes fits = (changed_world after new changes fits.0, fits.1, (refl, fits.2))
   did_moves tree operands place own (breaks cause) changes fits = tt
   did_moves tree operands place own (ends_with status) changes fits = tt
 
   truth_moves : (tree : Tree) (place : Place) (truth : Truth) (following : Bool → Run) → ((b : Bool) → ComesFrom laid tree (following b)) → FitsOn tree (by_truth world place truth following)
-  truth_moves tree place (holds b) following h = (well, h b)
+  truth_moves tree place (holds b) following h = (well, stay_same world.memory, h b)
   truth_moves tree place (untold cause) following h = tt
 
   operand_moves : (tree : Tree) (place : Place) (operands : List Operand) (following : Operand → Move Run Hole) → ((x : Operand) → operands ≡ x ∷ [] → FitsOn tree (following x)) → FitsOn tree (on_operand place operands following)
@@ -170,7 +170,7 @@ module _ (scene : Scene) (sound : IsTypedProgram scene.program) (world : World) 
       operand_moves (node label.choose kind spans (more_trees a (more_trees b (more_trees c no_trees)))) place operands _
       (λ x e. truth_moves (node label.choose kind spans (more_trees a (more_trees b (more_trees c no_trees)))) place (truth_of world.memory (value_of x.result)) (operand_chosen kind place runs) (chosen_by kind spans a b c place runs h))
   form_fits label.choose kind spans parts t place runs operands h g = absurd t.typed.0
-  form_fits label.comma kind spans (more_trees a (more_trees b no_trees)) t place runs operands h g = (well, (refl, inl (refl, (second_come laid a b no_trees runs h, tt))))
+  form_fits label.comma kind spans (more_trees a (more_trees b no_trees)) t place runs operands h g = (well, stay_same world.memory, (refl, inl (refl, (second_come laid a b no_trees runs h, tt))))
   form_fits label.comma kind spans parts t place runs operands h g = absurd t.typed.0
   form_fits label.sizeof_tree kind spans (more_trees a no_trees) t place runs operands h g = sized_fits kind spans a place runs t.typed.0.1 t.typed.0.2 h
   form_fits label.sizeof_tree kind spans parts t place runs operands h g = absurd t.typed.0
@@ -199,7 +199,7 @@ module _ (scene : Scene) (sound : IsTypedProgram scene.program) (world : World) 
   picked_fits : (tree b : Tree) → IsTrue (not (is_lvalue tree)) → IsValue b → kind_of b ≡ kind_of tree → (place : Place) (runs : Runs) (operands : List Operand) → AreOperands laid every (more_trees b no_trees) operands
       → FitsOn tree (on_operand place operands (λ x. goes world (done (kind_of tree) x.result (locks_in_all runs))))
   picked_fits tree b v w e place runs operands g =
-      operand_moves tree place operands _ (λ x f. (well, (refl, picked_result tree b v w e x.result (subst (λ (xs : List Operand). AreOperands laid every (more_trees b no_trees) xs) f g).0.1)))
+      operand_moves tree place operands _ (λ x f. (well, stay_same world.memory, (refl, picked_result tree b v w e x.result (subst (λ (xs : List Operand). AreOperands laid every (more_trees b no_trees) xs) f g).0.1)))
 
   logical_kind : (form : Label) → IsLogicalForm form → (place : Standing) (kind : CType) (parts : Trees) → Fits place form kind (listed parts) → kind ≡ integer Int
   logical_kind form (inl e) place kind parts fits = by_parts parts (subst (λ (f : Label). Fits place f kind (listed parts)) e fits)
@@ -255,7 +255,7 @@ module _ (scene : Scene) (sound : IsTypedProgram scene.program) (world : World) 
 
   -- a step of the trees below a node
   abbrev PartsFit : Open → Trees → Move Runs Holes → Type 0
-  PartsFit opens parts (goes after runs) = IsTypedWorld scene.program after × AllComeFrom laid opens parts runs
+  PartsFit opens parts (goes after runs) = IsTypedWorld scene.program after × StaySet world.memory after.memory × AllComeFrom laid opens parts runs
   PartsFit opens parts (calls f arguments kind holes) = CallFits scene.program f arguments kind × HolesComeFrom laid kind opens parts holes
   PartsFit opens parts (fails cause at) = Unit {0}
   PartsFit opens parts (exits status) = Unit {0}
@@ -266,7 +266,7 @@ module _ (scene : Scene) (sound : IsTypedProgram scene.program) (world : World) 
   go_on : (tree : Tree) (doing : Doing) (opens : Open) (parts : Trees) (at : Place) → ((runs : Runs) → AllComeFrom laid opens parts runs → RunsGoOn laid tree doing runs)
       → ((kind : CType) (holes : Holes) → HolesComeFrom laid kind opens parts holes → HolesGoOn laid tree kind doing holes)
       → (move : Move Runs Holes) → PartsFit opens parts move → FitsOn tree (lifted (to_do doing (kind_of tree) at) (within doing (kind_of tree) at) move)
-  go_on tree doing opens parts at f g (goes after runs) h = (h.0, (refl, f runs h.1))
+  go_on tree doing opens parts at f g (goes after runs) h = (h.0, h.1, (refl, f runs h.2))
   go_on tree doing opens parts at f g (calls d arguments kind holes) h = (h.0, (refl, g kind holes h.1))
   go_on tree doing opens parts at f g (fails cause place) h = tt
   go_on tree doing opens parts at f g (exits status) h = tt
@@ -309,9 +309,9 @@ module _ (scene : Scene) (sound : IsTypedProgram scene.program) (world : World) 
   -- a step of the first of some trees, and of one behind it
   first_moves : (opens : Open) (tree : Tree) (parts : Trees) (rest : Runs) → AllComeFrom laid (others_open opens) parts rest → IsTrue (first_open opens) → (move : Move Run Hole) → FitsOn tree move
       → PartsFit opens (more_trees tree parts) (lifted (λ run. more_runs run rest) (λ hole. in_first hole rest) move)
-  first_moves every tree parts rest h is (goes after run) c = (c.0, (c.1, h))
+  first_moves every tree parts rest h is (goes after run) c = (c.0, c.1, (c.2, h))
   first_moves every tree parts rest h is (calls f arguments kind hole) c = (c.0, (refl, c.1, h))
-  first_moves only_first tree parts rest h is (goes after run) c = (c.0, (c.1, h))
+  first_moves only_first tree parts rest h is (goes after run) c = (c.0, c.1, (c.2, h))
   first_moves only_first tree parts rest h is (calls f arguments kind hole) c = (c.0, (refl, c.1, h))
   first_moves but_first tree parts rest h is move c = absurd (false≢true is)
   first_moves nothing tree parts rest h is move c = absurd (false≢true is)
@@ -320,7 +320,7 @@ module _ (scene : Scene) (sound : IsTypedProgram scene.program) (world : World) 
 
   rest_moves : (opens : Open) (tree : Tree) (parts : Trees) (first : Run) → MatchBool (first_open opens) (ComesFrom laid tree first) (first ≡ begun tree) → (move : Move Runs Holes) → PartsFit (others_open opens) parts move
       → PartsFit opens (more_trees tree parts) (lifted (more_runs first) (in_others first) move)
-  rest_moves opens tree parts first h (goes after runs) c = (c.0, (h, c.1))
+  rest_moves opens tree parts first h (goes after runs) c = (c.0, c.1, (h, c.2))
   rest_moves opens tree parts first h (calls f arguments kind holes) c = (c.0, (h, c.1))
   rest_moves opens tree parts first h (fails cause at) c = tt
   rest_moves opens tree parts first h (exits status) c = tt

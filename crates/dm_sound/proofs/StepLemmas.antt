@@ -25,6 +25,7 @@ use Rattle.dm_meaning.specs.States.{Use, Task, begins, declares, initials, evalu
 use Rattle.dm_meaning.specs.Statements.{Turned, onward, refused, declared_in, kind_declared, type_declared, named_from, begin_statement, begin_declarator, begin_initialiser, concluded, unfolded, ended, after_break, after_continue}
 use Rattle.dm_meaning.specs.Steps.{given_from, opened_memory, opened, lacks_value, gone_back, handed_back, is_main, gives_nothing, body_place, no_place, closed, turned, moved, scene_of, expression_steps, task_steps, Step}
 use Rattle.dm_meaning.specs.Units.{machine_of}
+use Rattle.dm_meaning.specs.Wholes.{is_expression}
 use Rattle.dm_meaning.proofs.AmongLemmas.{among-map_from}
 use Rattle.dm_meaning.proofs.OptionLemmas.{and_left}
 use Rattle.dm_meaning.proofs.StateLemmas.{from_steps}
@@ -80,11 +81,11 @@ module _ (program : Program) (sound : IsTypedProgram program) (fills : (result :
   abbrev result_for : ℕ → CType
   result_for f = bare (result_of program f)
 
-  record IsFunction (f : ℕ) (definition : Definition) : Type 0 where
-    typed : IsTypedFunction program definition
-    same : definition.function ≡ f
+  pub record IsFunction (f : ℕ) (definition : Definition) : Type 0 where
+    pub typed : IsTypedFunction program definition
+    pub same : definition.function ≡ f
 
-  function_there : (f : ℕ) (definition : Definition) → definition_of program f ≡ Some definition → IsFunction f definition
+  pub function_there : (f : ℕ) (definition : Definition) → definition_of program f ≡ Some definition → IsFunction f definition
   function_there f definition e = let found = found_definition program.functions f definition e in record { typed = sound.functions definition found.0; same = found.1 }
 
   entry_there : (f : ℕ) (definition : Definition) (h : IsFunction f definition) → declaration_of program f ≡ Some h.typed.entry
@@ -101,7 +102,7 @@ module _ (program : Program) (sound : IsTypedProgram program) (fills : (result :
   }
   body_by f definition h type e fits = absurd fits
 
-  body_typed : (f : ℕ) (definition : Definition) → definition_of program f ≡ Some definition → IsTyped program (result_for f) definition.body
+  pub body_typed : (f : ℕ) (definition : Definition) → definition_of program f ≡ Some definition → IsTyped program (result_for f) definition.body
   body_typed f definition e = let h = function_there f definition e in body_by f definition h h.typed.entry.kind refl h.typed.fits.1
 
   main_given : (f : ℕ) (definition : Definition) → definition_of program f ≡ Some definition → is_main (declaration_of program f) ≡ true → IsGiven (layout program) (result_for f) (integer_value Int (pos 0))
@@ -111,7 +112,7 @@ module _ (program : Program) (sound : IsTypedProgram program) (fills : (result :
       let int = main_result h.typed.entry.kind (h.typed.fits.2 named).0 in
       subst (λ (t : CType). IsGiven (layout program) (bare t) (integer_value Int (pos 0))) (sym (ap (λ o. result_in (kind_declared o)) (entry_there f definition h) ∙ int)) (zero_given (layout program))
 
-  parts_typed : (result : CType) (tree : Tree) → IsTyped program result tree → AllAreTyped program result (parts_of tree)
+  pub parts_typed : (result : CType) (tree : Tree) → IsTyped program result tree → AllAreTyped program result (parts_of tree)
   parts_typed result (node label kind spans parts) t = all_listed program result parts (typed_parts program result label kind spans parts t)
 
   -- ---- states
@@ -190,7 +191,7 @@ module _ (program : Program) (sound : IsTypedProgram program) (fills : (result :
             defined = h.0.frame.defined;
             named = named_later program memory after keeps caller.frame.objects h.0.frame.named;
             tasks = (
-              (h.0.tree, h.0.typed, filled_comes (layout program) h.0.tree caller.kind caller.hole value h.0.comes returned, use_later program memory after keeps _ h.0.tree caller.use_of h.0.use_of),
+              (h.0.tree, h.0.typed, filled_comes (layout program) h.0.tree caller.kind caller.hole value h.0.comes returned, use_later program memory after keeps _ h.0.tree caller.use_of h.0.use_of, h.0.whole),
               tasks_later program memory after keeps _ caller.frame.tasks h.0.frame.tasks,
             );
           };
@@ -201,9 +202,9 @@ module _ (program : Program) (sound : IsTypedProgram program) (fills : (result :
 
     module _ (names : ℕ → ℕ) (fresh : IsFresh names memory) where
       opened_typed : (rest : List Task) (place : Place) (use_of : Use) (kind : CType) (hole : Hole) (arguments : List Value) (f : ℕ) (tree : Tree) → TasksFit program memory result rest → IsTyped program result tree
-          → UseFits program memory result tree use_of → (call : CallFits program f arguments kind) → HoleComesFrom (layout program) tree kind hole
+          → UseFits program memory result tree use_of → IsTrue (is_expression tree) → (call : CallFits program f arguments kind) → HoleComesFrom (layout program) tree kind hole
           → IsTypedState program (opened program names state rest place use_of kind hole arguments (Some call.definition))
-      opened_typed rest place use_of kind hole arguments f tree waits t u call comes =
+      opened_typed rest place use_of kind hole arguments f tree waits t u is call comes =
           let definition = call.definition in
           let there = function_there f definition call.defined in
           let items = declared_in program (parts_of definition.body) in
@@ -236,6 +237,7 @@ module _ (program : Program) (sound : IsTypedProgram program) (fills : (result :
                 typed = t;
                 comes = comes;
                 use_of = use_later program memory after keeps result tree use_of u;
+                whole = is;
                 result = call.result;
                 gives = call.gives;
                 covered = subst (λ g. IsTrue (covers (result_of program g) call.result)) (sym there.same) call.covered;
@@ -246,36 +248,36 @@ module _ (program : Program) (sound : IsTypedProgram program) (fills : (result :
 
       -- ---- expressions
 
-      moved_typed : (rest : List Task) (place : Place) (use_of : Use) (tree : Tree) → TasksFit program memory result rest → IsTyped program result tree → UseFits program memory result tree use_of
-          → (m : Move Run Hole) → MoveFits program tree m → MoveKeeps (Keeps memory) (stored_keeps memory) (scene_of program state) state.world [] (keeps_same memory) m → IsTypedState program (moved program names state rest place use_of m)
-      moved_typed rest place use_of tree waits t u (goes world run) h k = record {
+      moved_typed : (rest : List Task) (place : Place) (use_of : Use) (tree : Tree) → TasksFit program memory result rest → IsTyped program result tree → UseFits program memory result tree use_of → IsTrue (is_expression tree)
+          → (m : Move Run Hole) → MoveFits program memory tree m → MoveKeeps (Keeps memory) (stored_keeps memory) (scene_of program state) state.world [] (keeps_same memory) m → IsTypedState program (moved program names state rest place use_of m)
+      moved_typed rest place use_of tree waits t u is (goes world run) h k = record {
         world = h.0;
         statics = named_later program memory world.memory k state.statics s.statics;
         frame = record {
           definition = s.frame.definition;
           defined = s.frame.defined;
           named = named_later program memory world.memory k state.frame.objects s.frame.named;
-          tasks = ((tree, t, h.1, use_later program memory world.memory k result tree use_of u), tasks_later program memory world.memory k result rest waits);
+          tasks = ((tree, t, h.2, use_later program memory world.memory k result tree use_of u, is), tasks_later program memory world.memory k result rest waits);
         };
         callers = callers_later program memory world.memory k state.frame.function state.callers s.callers;
       }
-      moved_typed rest place use_of tree waits t u (calls f arguments kind hole) h k =
+      moved_typed rest place use_of tree waits t u is (calls f arguments kind hole) h k =
           subst (λ (o : Option Definition). IsTypedState program (opened program names state rest place use_of kind hole arguments o)) (sym h.0.defined)
-          (opened_typed rest place use_of kind hole arguments f tree waits t u h.0 h.1)
-      moved_typed rest place use_of tree waits t u (fails cause at) h k = ended_state (undefined cause at)
-      moved_typed rest place use_of tree waits t u (exits status) h k = ended_state (exited status)
+          (opened_typed rest place use_of kind hole arguments f tree waits t u is h.0 h.1)
+      moved_typed rest place use_of tree waits t u is (fails cause at) h k = ended_state (undefined cause at)
+      moved_typed rest place use_of tree waits t u is (exits status) h k = ended_state (exited status)
 
       expression_typed : (rest : List Task) (place : Place) (use_of : Use) (tree : Tree) (run : Run) → (waits : TasksFit program memory result rest) → IsTyped program result tree → ComesFrom (layout program) tree run
-          → UseFits program memory result tree use_of → (other : State) → IsAmong other (expression_steps program names state rest place use_of run) → IsTypedState program other
-      expression_typed rest place use_of tree (done kind given locks) waits t c u other e =
+          → UseFits program memory result tree use_of → IsTrue (is_expression tree) → (other : State) → IsAmong other (expression_steps program names state rest place use_of run) → IsTypedState program other
+      expression_typed rest place use_of tree (done kind given locks) waits t c u is other e =
           one_typed rest waits (concluded program state.frame.objects rest memory place use_of given)
           (concluded_fits program sound.scope.table result (fills result) state.frame.objects rest memory s.world.memory s.frame.named waits tree place use_of given u c.1) other e
-      expression_typed rest place use_of tree (to_do doing kind at members) waits t c u other e =
+      expression_typed rest place use_of tree (to_do doing kind at members) waits t c u is other e =
           let run = to_do doing kind at members in
           let scene = scene_of program state in
           let from = among-map_from (moved program names state rest place use_of) other (moves scene state.world (locks_in run) run) e in
           subst (IsTypedState program) (sym from.2)
-          (moved_typed rest place use_of tree waits t u from.0 (moves_fit scene sound state.world s.world (locks_in run) result run tree t c from.0 from.1)
+          (moved_typed rest place use_of tree waits t u is from.0 (moves_fit scene sound state.world s.world (locks_in run) result run tree t c from.0 from.1)
           (moves_keep (Keeps memory) (stored_keeps memory) scene state.world (locks_in run) (keeps_same memory) run from.0 from.1))
 
       -- ---- all steps
@@ -292,7 +294,7 @@ module _ (program : Program) (sound : IsTypedProgram program) (fills : (result :
       task_typed (initials at kind initialiser trees ∷ rest) h other e =
           one_typed rest h.1 (begin_initialiser program state.frame.objects rest memory at kind initialiser trees)
           (initialiser_fits program sound.scope.table result (fills result) state.frame.objects rest memory s.world.memory s.frame.named h.1 at kind initialiser trees h.0.0 h.0.1) other e
-      task_typed (evaluates place run use_of ∷ rest) h other e = expression_typed rest place use_of h.0.0 run h.1 h.0.1 h.0.2 h.0.3 other e
+      task_typed (evaluates place run use_of ∷ rest) h other e = expression_typed rest place use_of h.0.0 run h.1 h.0.1 h.0.2 h.0.3 h.0.4 other e
       task_typed (again saved loop ∷ rest) h other e = absurd e
       task_typed (tests saved loop ∷ rest) h other e = absurd e
       task_typed (ends saved ∷ rest) h other e =

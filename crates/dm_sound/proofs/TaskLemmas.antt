@@ -1,12 +1,14 @@
 -- The steps of statements and declarations leave what is typed.
 use Rattle.std.specs.Prelude.{◌≡◌, refl, ℕ, suc, Bool, true, false, not, IsTrue, List, [], ◌∷◌, ◌++◌, drop, map, Option, Some, None, if◌then◌else◌}
-use Rattle.std.proofs.Common.{ap, sym, ◌∙◌, subst, inl, inr}
+use Rattle.std.proofs.Common.{ap, sym, ◌∙◌, subst}
 use Rattle.std.proofs.lemmas.Bool.{false≢true}
 use Rattle.dm_token.specs.declared.place.Place.{Place}
-use Rattle.dm_type.specs.CTypes.{CType, pointer, array, function, const, bare}
+use Rattle.dm_type.specs.CTypes.{CType, array, const, bare}
 use Rattle.dm_tree.specs.Composites.{covers}
-use Rattle.dm_tree.specs.Scenes.{is_lvalue, is_function}
+use Rattle.dm_tree.specs.Scenes.{IsValue, is_lvalue}
 use Rattle.dm_tree.specs.Trees.{Label, block as block_form, declare, full, if_statement, switch, case, default, while_loop, do_loop, for_loop, break, continue, return, Spans, Tree, Trees, node, no_trees, more_trees, listed, kind_of, Declarator, Initialiser, Initialisers, one_expression, in_braces, no_items, more_items, expressions_in}
+use Rattle.dm_tree.specs.Typing.{IsStart, FitsLoop}
+use Rattle.dm_tree.proofs.ExpressionLemmas.{value-expression}
 use Rattle.dm_meaning.specs.Values.{At, Value, integer_value, unset}
 use Rattle.dm_meaning.specs.Objects.{Layout, is_array, inner_type}
 use Rattle.dm_meaning.specs.Memory.{Memory, contents_at, written, killed}
@@ -14,15 +16,16 @@ use Rattle.dm_meaning.specs.Programs.{Program, layout}
 use Rattle.dm_meaning.specs.Operations.{Result, of_value, designates, Objects, object_named, Truth, holds, untold, truth_of}
 use Rattle.dm_meaning.specs.Expressions.{value_of}
 use Rattle.dm_meaning.specs.States.{Loop, Use, drops, chooses, selects, repeats, continues, returns, initialises, Task, begins, declares, again, tests, ends, ends_switch, leaves, skips, hands_back}
-use Rattle.dm_meaning.specs.Statements.{Turned, onward, refused, evaluation, is_automatic, declared_in, type_declared, named_since, Local, with_expressions, item_tasks, items_tasks, unlabelled, entered, memory_entered, start_tasks, as_list, on_one_tree, on_first_tree, on_option_tree, on_tree_if, loop_with, begin_for, begin_form, begin_tree, begin_statement, initial_of, begin_declarator, part_tasks, count_items, value_listed, begin_initialiser, initial_value, has_case, has_default, from_first, or_items, selected_by, by_test, begins_one, concluded, tested, continued, unfolded, ended, after_break, after_continue}
-use Rattle.dm_meaning.specs.Units.{is_pointer}
-use Rattle.dm_sound.specs.TypedValues.{own_type, has_values, HasType, IsGiven, AreTyped}
-use Rattle.dm_sound.specs.TypedTrees.{IsSoundTable, IsTyped}
+use Rattle.dm_meaning.specs.Statements.{Turned, onward, refused, evaluation, is_automatic, declared_in, type_declared, named_since, Local, with_expressions, item_tasks, items_tasks, unlabelled, entered, memory_entered, start_tasks, as_list, on_one_tree, on_tree_if, loop_with, begin_for, begin_form, begin_tree, begin_statement, initial_of, begin_declarator, part_tasks, count_items, value_listed, begin_initialiser, initial_value, has_case, has_default, from_first, or_items, selected_by, by_test, begins_one, concluded, tested, continued, unfolded, ended, after_break, after_continue}
+use Rattle.dm_meaning.specs.Wholes.{is_expression}
+use Rattle.dm_meaning.proofs.WholeLemmas.{typed-expression}
+use Rattle.dm_sound.specs.TypedValues.{own_type, HasType, IsGiven, AreTyped}
+use Rattle.dm_sound.specs.TypedTrees.{IsSoundTable, scene_in, IsTyped}
 use Rattle.dm_sound.specs.TypedSteps.{IsResult}
-use Rattle.dm_sound.specs.TypedStates.{IsOfKind, AreNamed, IsPlace, Fills, FillParts, FillsIfThere, AllAreTyped, IsTypedIfThere, IsTypedLoop, UseFits, TaskFits, TasksFit}
+use Rattle.dm_sound.specs.TypedStates.{IsOfKind, AreNamed, IsPlace, Fills, FillParts, FillsIfThere, AllAreTyped, IsTypedIfThere, IsConditionIfThere, IsExpressionIfThere, IsTypedLoop, UseFits, TaskFits, TasksFit}
 use Rattle.dm_sound.proofs.ValueLemmas.{own_bare, has_own, AreLike, has_like, covered_like, like_whole, back_like}
 use Rattle.dm_sound.proofs.AccessLemmas.{contents_there, typed_written}
-use Rattle.dm_sound.proofs.GivenLemmas.{void_given}
+use Rattle.dm_sound.proofs.GivenLemmas.{void_given, like_values}
 use Rattle.dm_sound.proofs.ComeLemmas.{AllTyped, typed_parts, begun_comes}
 use Rattle.dm_sound.proofs.OperateLemmas.{value_no_lvalue}
 use Rattle.dm_sound.proofs.FirstLemmas.{typed_made, typed_killed}
@@ -36,34 +39,10 @@ module _ (program : Program) (result : CType) where
   all_listed no_trees h = tt
   all_listed (more_trees first rest) h = (h.0, all_listed rest h.1)
 
-  unlabelled_typed : (tree : Tree) → IsTyped program result tree → IsTyped program result (unlabelled tree)
+  pub unlabelled_typed : (tree : Tree) → IsTyped program result tree → IsTyped program result (unlabelled tree)
   unlabelled_typed (node case kind spans (more_trees value (more_trees statement rest))) h = unlabelled_typed statement (typed_parts program result case kind spans (more_trees value (more_trees statement rest)) h).1.0
   unlabelled_typed (node default kind spans (more_trees statement rest)) h = unlabelled_typed statement (typed_parts program result default kind spans (more_trees statement rest) h).0
   unlabelled_typed tree h = h
-
-  -- what holds of a statement's beginning, where it has as many parts as its form
-  module _ (P : Turned → Type 0) where
-    one_tree : (trees : List Tree) → AllAreTyped program result trees → (following : Tree → Turned) (otherwise : Turned) → ((x : Tree) → IsTyped program result x → P (following x)) → P otherwise → P (on_one_tree trees following otherwise)
-    one_tree [] t following otherwise h k = k
-    one_tree (x ∷ []) t following otherwise h k = h x t.0
-    one_tree (x ∷ y ∷ rest) t following otherwise h k = k
-
-    first_tree : (trees : List Tree) → AllAreTyped program result trees → (following : Tree → List Tree → Turned) (otherwise : Turned)
-        → ((x : Tree) (xs : List Tree) → IsTyped program result x → AllAreTyped program result xs → P (following x xs)) → P otherwise → P (on_first_tree trees following otherwise)
-    first_tree [] t following otherwise h k = k
-    first_tree (x ∷ rest) t following otherwise h k = h x rest t.0 t.1
-
-    option_tree : (trees : List Tree) → AllAreTyped program result trees → (following : Option Tree → Turned) (otherwise : Turned) → ((x : Option Tree) → IsTypedIfThere program result x → P (following x)) → P otherwise
-        → P (on_option_tree trees following otherwise)
-    option_tree [] t following otherwise h k = h None tt
-    option_tree (x ∷ []) t following otherwise h k = h (Some x) t.0
-    option_tree (x ∷ y ∷ rest) t following otherwise h k = k
-
-    if_tree : (there : Bool) (trees : List Tree) → AllAreTyped program result trees → (following : Option Tree → List Tree → Turned) (otherwise : Turned)
-        → ((x : Option Tree) (xs : List Tree) → IsTypedIfThere program result x → AllAreTyped program result xs → P (following x xs)) → P otherwise → P (on_tree_if there trees following otherwise)
-    if_tree false trees t following otherwise h k = h None trees tt t
-    if_tree true [] t following otherwise h k = k
-    if_tree true (x ∷ rest) t following otherwise h k = h (Some x) rest t.0 t.1
 
   -- ---- switch
 
@@ -76,7 +55,7 @@ module _ (program : Program) (result : CType) where
       by_test_of true f later = subst (λ (p : Option (List Tree)). AllAreTyped program result (or_items p others)) f h
       by_test_of false f later = subst (λ (p : Option (List Tree)). AllAreTyped program result (or_items p others)) f later
 
-  selected_typed : (value : Value) (items : List Tree) → AllAreTyped program result items → AllAreTyped program result (selected_by program value items)
+  pub selected_typed : (value : Value) (items : List Tree) → AllAreTyped program result items → AllAreTyped program result (selected_by program value items)
   selected_typed (integer_value kind z) items h =
       first_typed (has_case program z) items h (from_first (has_case program z) items) refl (or_items (from_first has_default items) [])
       (first_typed has_default items h (from_first has_default items) refl [] tt)
@@ -88,38 +67,29 @@ module _ (program : Program) (result : CType) where
   tasks_joined memory [] rest h k = k
   tasks_joined memory (task ∷ tasks) rest h k = (h.0, tasks_joined memory tasks rest h.1 k)
 
-  evaluation_fits : (memory : Memory) (tree : Tree) (use_of : Use) → IsTyped program result tree → UseFits program memory result tree use_of → TaskFits program memory result (evaluation tree use_of)
-  evaluation_fits memory tree use_of t u = (tree, t, begun_comes (layout program) tree, u)
+  -- no statement is in a typed value
+  value_whole : (tree : Tree) → IsTyped program result tree → IsValue tree → is_expression tree ≡ true
+  value_whole tree t v = typed-expression (scene_in program result t.breaks t.continues t.labels) tree t.typed (value-expression tree v)
 
-  tested_fits : (memory : Memory) (saved : Objects) (loop : Loop) (rest : List Task) (condition : Option Tree) → IsTypedIfThere program result condition → AreNamed program memory saved → IsTypedLoop program result loop
+  evaluation_fits : (memory : Memory) (tree : Tree) (use_of : Use) → IsTyped program result tree → UseFits program memory result tree use_of → IsTrue (is_expression tree) → TaskFits program memory result (evaluation tree use_of)
+  evaluation_fits memory tree use_of t u is = (tree, t, begun_comes (layout program) tree, u, is)
+
+  tested_fits : (memory : Memory) (saved : Objects) (loop : Loop) (rest : List Task) (condition : Option Tree) → IsTypedIfThere program result condition → IsConditionIfThere condition → AreNamed program memory saved → IsTypedLoop program result loop
       → TasksFit program memory result rest → TasksFit program memory result (tested saved loop rest condition)
-  tested_fits memory saved loop rest None c n l h = (l.2, ((n, l), h))
-  tested_fits memory saved loop rest (Some tree) c n l h = (evaluation_fits memory tree (repeats loop) c l, h)
+  tested_fits memory saved loop rest None c e n l h = (l.2, ((n, l), h))
+  tested_fits memory saved loop rest (Some tree) c e n l h = (evaluation_fits memory tree (repeats loop) c (l, e) (value_whole tree c e.0), h)
 
-  continued_fits : (memory : Memory) (saved : Objects) (loop : Loop) (rest : List Task) (after : Option Tree) → IsTypedIfThere program result after → AreNamed program memory saved → IsTypedLoop program result loop
+  continued_fits : (memory : Memory) (saved : Objects) (loop : Loop) (rest : List Task) (after : Option Tree) → IsTypedIfThere program result after → IsExpressionIfThere after → AreNamed program memory saved → IsTypedLoop program result loop
       → TasksFit program memory result rest → TasksFit program memory result (continued saved loop rest after)
-  continued_fits memory saved loop rest None a n l h = tested_fits memory saved loop rest loop.condition l.0 n l h
-  continued_fits memory saved loop rest (Some tree) a n l h = (evaluation_fits memory tree (continues loop) a l, h)
+  continued_fits memory saved loop rest None a e n l h = tested_fits memory saved loop rest loop.condition l.0 l.3 n l h
+  continued_fits memory saved loop rest (Some tree) a e n l h = (evaluation_fits memory tree (continues loop) a l e, h)
 
   pub unfolded_fit : (memory : Memory) (tasks : List Task) → TasksFit program memory result tasks → TasksFit program memory result (unfolded tasks)
-  unfolded_fit memory (tests saved loop ∷ rest) h = tested_fits memory saved loop rest loop.condition h.0.1.0 h.0.0 h.0.1 h.1
-  unfolded_fit memory (again saved loop ∷ rest) h = continued_fits memory saved loop rest loop.after h.0.1.1 h.0.0 h.0.1 h.1
+  unfolded_fit memory (tests saved loop ∷ rest) h = tested_fits memory saved loop rest loop.condition h.0.1.0 h.0.1.3 h.0.0 h.0.1 h.1
+  unfolded_fit memory (again saved loop ∷ rest) h = continued_fits memory saved loop rest loop.after h.0.1.1 h.0.1.4 h.0.0 h.0.1 h.1
   unfolded_fit memory tasks h = h
 
 -- ---- values that are returned
-
-like_values : (x y : CType) → AreLike x y → IsTrue (has_values x) → IsTrue (has_values y)
-like_values x y (inl e) h = subst (λ (t : CType). IsTrue (has_values t)) e h
-like_values x y (inr (inl (p, q))) h = pointer_values y q
-  where
-    pointer_values : (t : CType) → IsTrue (is_pointer t) → IsTrue (has_values t)
-    pointer_values (pointer t) k = refl
-    pointer_values t k = absurd (false≢true k)
-like_values x y (inr (inr (p, q))) h = absurd (function_values x p h)
-  where
-    function_values : (t : CType) → IsTrue (is_function t) → IsTrue (has_values t) → ⊥
-    function_values (function t ts) k g = false≢true g
-    function_values t k g = false≢true k
 
 given_like : (laid : Layout) (a b : CType) → AreLike (own_type a) (own_type b) → (value : Value) → IsGiven laid a value → IsTrue (not (is_array (own_type b))) → IsGiven laid b value
 given_like laid a b like value given w = record {
@@ -157,6 +127,11 @@ LocalsFit program result [] = Unit {0}
 LocalsFit program result (local ∷ locals) =
     FillsIfThere program result (type_declared program local.declarator.declared) local.declarator.initialiser local.expressions × LocalsFit program result locals
 
+-- the first part of `for`
+abbrev IsStartIfThere : Option Tree → Type 0
+IsStartIfThere None = Unit {0}
+IsStartIfThere (Some tree) = IsStart tree
+
 abbrev pub DeclaresFill : Program → CType → Type 0
 DeclaresFill program result =
     (lengths : ℕ) (declarators : List Declarator) (kind : CType) (spans : Spans) (parts : Trees) → IsTyped program result (node (declare lengths declarators) kind spans parts)
@@ -175,10 +150,11 @@ module _ (program : Program) (sound : IsSoundTable program.table) (result : CTyp
   items_fit memory [] h = tt
   items_fit memory (item ∷ items) h = tasks_joined program result memory (item_tasks item) (items_tasks items) (item_fits memory item h.0) (items_fit memory items h.1)
 
-  start_fits : (memory : Memory) (start : Option Tree) → IsTypedIfThere program result start → TasksFit program memory result (start_tasks start)
-  start_fits memory None h = tt
-  start_fits memory (Some (node (declare lengths declarators) kind spans parts)) h = item_fits memory (node (declare lengths declarators) kind spans parts) h
-  start_fits memory (Some (node label kind spans parts)) h = (evaluation_fits program result memory (node label kind spans parts) drops h tt, tt)
+  start_fits : (memory : Memory) (start : Option Tree) → IsTypedIfThere program result start → IsStartIfThere start → TasksFit program memory result (start_tasks start)
+  start_fits memory None h is = tt
+  start_fits memory (Some (node (declare lengths declarators) kind spans parts)) h is = item_fits memory (node (declare lengths declarators) kind spans parts) h
+  start_fits memory (Some (node label kind spans parts)) h is =
+      (evaluation_fits program result memory (node label kind spans parts) drops h tt (value_whole program result (node label kind spans parts) h is), tt)
 
   -- what a step leaves in a frame is typed
   module _ (objects : Objects) (rest : List Task) (memory : Memory) (typed : AreTyped (layout program) memory) (named : AreNamed program memory objects) (waits : TasksFit program memory result rest) where
@@ -207,8 +183,8 @@ module _ (program : Program) (sound : IsSoundTable program.table) (result : CTyp
             tasks_joined program result after tasks (ends objects ∷ rest) h (named_later program memory after keeps objects named, tasks_later program memory after keeps result rest waits),
           )
 
-      loop_fits : (start : Option Tree) (loop : Loop) → IsTypedIfThere program result start → IsTypedLoop program result loop → TurnedFits (begin_for program names objects rest memory start loop)
-      loop_fits start loop s l =
+      loop_fits : (start : Option Tree) (loop : Loop) → IsTypedIfThere program result start → IsStartIfThere start → IsTypedLoop program result loop → TurnedFits (begin_for program names objects rest memory start loop)
+      loop_fits start loop s is l =
           let ds = declared_in program (as_list start) in
           let after = memory_entered program names (as_list start) memory in
           let keeps = made_keeps program names distinct 0 ds memory new in
@@ -216,43 +192,60 @@ module _ (program : Program) (sound : IsSoundTable program.table) (result : CTyp
             typed_made program sound names 0 ds memory typed,
             keeps,
             inside,
-            tasks_joined program result after (start_tasks start) (tests (entered program names (as_list start) objects) loop ∷ ends objects ∷ rest) (start_fits after start s)
+            tasks_joined program result after (start_tasks start) (tests (entered program names (as_list start) objects) loop ∷ ends objects ∷ rest) (start_fits after start s is)
                 ((inside, l), (named_later program memory after keeps objects named, tasks_later program memory after keeps result rest waits)),
           )
 
       returned_fits : (kind : CType) (spans : Spans) (parts : Trees) → IsTyped program result (node return kind spans parts) → TurnedFits (begin_form program names objects rest memory return (listed parts))
       returned_fits kind spans no_trees t = stays (hands_back unset ∷ []) (subst (λ (r : CType). IsGiven (layout program) r unset) (sym t.typed.0.0) (void_given (layout program)), tt)
       returned_fits kind spans (more_trees x no_trees) t =
-          stays (evaluation x returns ∷ []) (evaluation_fits program result memory x returns (typed_parts program result return kind spans (more_trees x no_trees) t).0 (value_no_lvalue x t.typed.0.0.0, t.typed.0.0.1), tt)
+          stays (evaluation x returns ∷ []) (evaluation_fits program result memory x returns (typed_parts program result return kind spans (more_trees x no_trees) t).0 (value_no_lvalue x t.typed.0.0.0, t.typed.0.0.1) (value_whole program result x (typed_parts program result return kind spans (more_trees x no_trees) t).0 t.typed.0.0.0), tt)
       returned_fits kind spans (more_trees x (more_trees y ys)) t = then_ends [] tt
+
+      -- the parts of `for` behind the first
+      for_fits : (start : Option Tree) → IsTypedIfThere program result start → IsStartIfThere start → (second third : Bool) (trees : List Tree) → FitsLoop false second third trees → AllAreTyped program result trees
+          → TurnedFits (on_tree_if second trees (λ condition seconds. on_tree_if third seconds (λ after thirds. on_one_tree thirds (λ body. begin_for program names objects rest memory start (loop_with condition after body))
+          (onward objects (ends objects ∷ rest) memory)) (onward objects (ends objects ∷ rest) memory)) (onward objects (ends objects ∷ rest) memory))
+      for_fits start s is true true (x ∷ y ∷ body ∷ []) f h =
+          loop_fits start (loop_with (Some x) (Some y) body) s is (h.0, h.1.0, h.1.1.0, f.0, value_whole program result y h.1.0 f.1.0)
+      for_fits start s is true true [] f h = absurd f
+      for_fits start s is true true (x ∷ []) f h = absurd f.1
+      for_fits start s is true true (x ∷ y ∷ []) f h = absurd f.1.1
+      for_fits start s is true true (x ∷ y ∷ body ∷ other ∷ others) f h = absurd f.1.1
+      for_fits start s is true false (x ∷ body ∷ []) f h = loop_fits start (loop_with (Some x) None body) s is (h.0, tt, h.1.0, f.0, tt)
+      for_fits start s is true false [] f h = absurd f
+      for_fits start s is true false (x ∷ []) f h = absurd f.1
+      for_fits start s is true false (x ∷ body ∷ other ∷ others) f h = absurd f.1
+      for_fits start s is false true (y ∷ body ∷ []) f h = loop_fits start (loop_with None (Some y) body) s is (tt, h.0, h.1.0, tt, value_whole program result y h.0 f.0)
+      for_fits start s is false true [] f h = absurd f
+      for_fits start s is false true (y ∷ []) f h = absurd f.1
+      for_fits start s is false true (y ∷ body ∷ other ∷ others) f h = absurd f.1
+      for_fits start s is false false (body ∷ []) f h = loop_fits start (loop_with None None body) s is (tt, tt, h.0, tt, tt)
+      for_fits start s is false false [] f h = absurd f
+      for_fits start s is false false (body ∷ other ∷ others) f h = absurd f
 
       form_fits : (label : Label) (kind : CType) (spans : Spans) (parts : Trees) → IsTyped program result (node label kind spans parts) → AllAreTyped program result (listed parts)
           → TurnedFits (begin_form program names objects rest memory label (listed parts))
       form_fits block_form kind spans parts t h = entered_fits (listed parts) (items_tasks (listed parts)) (items_fit (memory_entered program names (listed parts) memory) (listed parts) h)
-      form_fits full kind spans parts t h =
-          one_tree program result TurnedFits (listed parts) h _ _ (λ x a. then_ends (evaluation x drops ∷ []) (evaluation_fits program result memory x drops a tt, tt)) (then_ends [] tt)
-      form_fits if_statement kind spans parts t h =
-          first_tree program result TurnedFits (listed parts) h _ _
-          (λ x xs a b. first_tree program result TurnedFits xs b _ _
-          (λ y ys c d. option_tree program result TurnedFits ys d _ _
-          (λ z e. then_ends (evaluation x (chooses y z) ∷ []) (evaluation_fits program result memory x (chooses y z) a (c, e), tt)) (then_ends [] tt)) (then_ends [] tt)) (then_ends [] tt)
-      form_fits switch kind spans parts t h =
-          first_tree program result TurnedFits (listed parts) h _ _
-          (λ x xs a b. stays (evaluation x (selects xs) ∷ ends_switch objects ∷ rest) (evaluation_fits program result memory x (selects xs) a b, (named, waits))) (then_ends [] tt)
-      form_fits while_loop kind spans parts t h =
-          first_tree program result TurnedFits (listed parts) h _ _
-          (λ x xs a b. one_tree program result TurnedFits xs b _ _
-          (λ y c. then_ends (tests objects (loop_with (Some x) None y) ∷ []) ((named, (a, tt, c)), tt)) (then_ends [] tt)) (then_ends [] tt)
-      form_fits do_loop kind spans parts t h =
-          first_tree program result TurnedFits (listed parts) h _ _
-          (λ x xs a b. one_tree program result TurnedFits xs b _ _
-          (λ y c. then_ends (begins x ∷ again objects (loop_with (Some y) None x) ∷ []) (a, ((named, (c, tt, a)), tt))) (then_ends [] tt)) (then_ends [] tt)
-      form_fits (for_loop first second third) kind spans parts t h =
-          if_tree program result TurnedFits first (listed parts) h _ _
-          (λ x xs a b. if_tree program result TurnedFits second xs b _ _
-          (λ y ys c d. if_tree program result TurnedFits third ys d _ _
-          (λ z zs e f. one_tree program result TurnedFits zs f _ _
-          (λ body g. loop_fits x (loop_with y z body) a (c, e, g)) (then_ends [] tt)) (then_ends [] tt)) (then_ends [] tt)) (then_ends [] tt)
+      form_fits full kind spans (more_trees x no_trees) t h = then_ends (evaluation x drops ∷ []) (evaluation_fits program result memory x drops h.0 tt (value_whole program result x h.0 t.typed.0.0), tt)
+      form_fits full kind spans parts t h = absurd t.typed.0.0
+      form_fits if_statement kind spans (more_trees x (more_trees y no_trees)) t h =
+          then_ends (evaluation x (chooses y None) ∷ []) (evaluation_fits program result memory x (chooses y None) h.0 (h.1.0, tt, t.typed.0.0.0) (value_whole program result x h.0 t.typed.0.0.0.0), tt)
+      form_fits if_statement kind spans (more_trees x (more_trees y (more_trees z no_trees))) t h =
+          then_ends (evaluation x (chooses y (Some z)) ∷ []) (evaluation_fits program result memory x (chooses y (Some z)) h.0 (h.1.0, h.1.1.0, t.typed.0.0.0) (value_whole program result x h.0 t.typed.0.0.0.0), tt)
+      form_fits if_statement kind spans parts t h = absurd t.typed.0.0
+      form_fits switch kind spans (more_trees x items) t h =
+          stays (evaluation x (selects (listed items)) ∷ ends_switch objects ∷ rest) (evaluation_fits program result memory x (selects (listed items)) h.0 h.1 (value_whole program result x h.0 t.typed.0.0.0), (named, waits))
+      form_fits switch kind spans no_trees t h = absurd t.typed.0.0
+      form_fits while_loop kind spans (more_trees x (more_trees y no_trees)) t h =
+          then_ends (tests objects (loop_with (Some x) None y) ∷ []) ((named, (h.0, tt, h.1.0, t.typed.0.0.0, tt)), tt)
+      form_fits while_loop kind spans parts t h = absurd t.typed.0.0
+      form_fits do_loop kind spans (more_trees x (more_trees y no_trees)) t h =
+          then_ends (begins x ∷ again objects (loop_with (Some y) None x) ∷ []) (h.0, ((named, (h.1.0, tt, h.0, t.typed.0.0.1, tt)), tt))
+      form_fits do_loop kind spans parts t h = absurd t.typed.0.0
+      form_fits (for_loop false second third) kind spans parts t h = for_fits None tt tt second third (listed parts) t.typed.0.0 h
+      form_fits (for_loop true second third) kind spans (more_trees start parts) t h = for_fits (Some start) h.0 t.typed.0.0.0 second third (listed parts) t.typed.0.0.1 h.1
+      form_fits (for_loop true second third) kind spans no_trees t h = absurd t.typed.0.0
       form_fits break kind spans parts t h = stays (leaves ∷ rest) (tt, waits)
       form_fits continue kind spans parts t h = stays (skips ∷ rest) (tt, waits)
       form_fits return kind spans parts t h = returned_fits kind spans parts t
@@ -301,7 +294,7 @@ module _ (program : Program) (sound : IsSoundTable program.table) (result : CTyp
     pub initialiser_fits : (at : At) (kind : CType) (initialiser : Initialiser) (trees : List Tree) → IsPlace (layout program) memory at kind → Fills program result kind initialiser trees
         → TurnedFits (begin_initialiser program objects rest memory at kind initialiser trees)
     initialiser_fits at kind one_expression [] h f = stays rest waits
-    initialiser_fits at kind one_expression (tree ∷ []) h f = stays (evaluation tree (initialises at kind) ∷ rest) (evaluation_fits program result memory tree (initialises at kind) f.0 (h, f.1), waits)
+    initialiser_fits at kind one_expression (tree ∷ []) h f = stays (evaluation tree (initialises at kind) ∷ rest) (evaluation_fits program result memory tree (initialises at kind) f.0 (h, f.1) f.2, waits)
     initialiser_fits at kind one_expression (first ∷ second ∷ others) h f = stays rest waits
     initialiser_fits at kind (in_braces items) trees h f =
         let value = value_listed (layout program) kind (count_items items) (contents_at memory at) in
@@ -342,13 +335,13 @@ module _ (program : Program) (sound : IsSoundTable program.table) (result : CTyp
         let chosen = selected_by program (value_of given) items in
         stays (items_tasks chosen ++ rest) (tasks_joined program result memory (items_tasks chosen) rest (items_fit memory chosen (selected_typed program result (value_of given) items u)) waits)
     concluded_fits tree place (repeats loop) given u h =
-        tested_turned place (truth_of memory (value_of given)) _ (λ b. stays (if b then begins loop.body ∷ again objects loop ∷ rest else rest) (repeated_fit b loop u))
+        tested_turned place (truth_of memory (value_of given)) _ (λ b. stays (if b then begins loop.body ∷ again objects loop ∷ rest else rest) (repeated_fit b loop u.0))
     concluded_fits tree place (continues loop) given u h = stays (tests objects loop ∷ rest) ((named, u), waits)
     concluded_fits tree place returns given u h = stays (hands_back (value_of given) ∷ []) (value_returned tree given u.0 u.1 h, tt)
     concluded_fits tree place (initialises at kind) given u h =
         let value = initial_value kind given in
         let keeps = keeps_written at value memory in (
-          stored_typed at kind u.0 value (u.1 given h),
+          stored_typed at kind u.0 value (u.1 given h).0,
           keeps,
           named_later program memory (written memory at value) keeps objects named,
           tasks_later program memory (written memory at value) keeps result rest waits,

@@ -12,8 +12,9 @@ use Rattle.dm_meaning.specs.Programs.{Definition}
 use Rattle.dm_meaning.specs.Units.{definitions_by, definitions_in, program_of}
 use Rattle.dm_meaning.proofs.AmongLemmas.{among_either}
 use Rattle.dm_meaning.proofs.OptionLemmas.{none_is_some, some_is_some}
-use Rattle.dm_sound.specs.TypedTrees.{IsProperTree, IsSoundTable}
+use Rattle.dm_sound.specs.TypedTrees.{IsProper, IsProperTree, IsSoundTable}
 use Rattle.dm_sound.specs.TypedRuns.{IsTypedFunction, IsTypedProgram, IsProperForm, IsProperUnit}
+use Rattle.dm_sound.proofs.LocalLemmas.{unit_statics}
 
 all_there : {A : Type 0} (P : A → Type 0) (xs : List A) → All P xs → (n : ℕ) (x : A) → slice_get xs n ≡ Some x → P x
 all_there P [] h n x e = absurd (none_is_some x e)
@@ -48,6 +49,11 @@ module _ (types : Table) (unit : TypedUnit) (sound : IsSoundTable types) where
 
   pub unit_typed : IsWellTypedUnit types unit → IsProperUnit unit → IsTypedProgram (program_of types unit)
   unit_typed typed proper = record {
-    scope = record { table = sound; entries = λ d entry e. all_there IsEntry unit.declared typed.entries d entry e };
-    functions = all_typed unit.externals typed.externals proper;
+    scope = record {
+      table = sound;
+      entries = λ d entry e. all_there IsEntry unit.declared typed.entries d entry e;
+      proper = λ d entry e. all_there (λ (one : Declaration). IsProper one.kind) unit.declared proper.entries d entry e;
+    };
+    functions = all_typed unit.externals typed.externals proper.externals;
+    statics = unit_statics types unit typed proper.externals;
   }

@@ -289,7 +289,7 @@ from_outside foreign following e = absurd (foreign_outside e)
 from_outside unknown following e = absurd (unknown_outside e)
 
 -- the types of the parts, of the type without its own const
-parts_own : (layout : Layout) (type : CType) → is_const (bare type) ≡ false → own_type type ≡ bare type
+pub parts_own : (layout : Layout) (type : CType) → is_const (bare type) ≡ false → own_type type ≡ bare type
 parts_own layout type e = sym (own_bare type) ∙ own_plain (bare type) e
 
 -- the parts of a value whose type has parts

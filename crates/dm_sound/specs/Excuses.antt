@@ -1,16 +1,22 @@
 -- Why a step of a typed expression may have the cause `type`: by what memory holds, and never by the tree.
 --     results_in run      the results in a tree under evaluation
 --     IsExcused layout memory given      why that is so beside these results
+--     IsExcusedStep program state other      why that is so of a step of a state
 use Rattle.std.specs.Prelude.{◌≡◌, ◌⊎◌, List, [], ◌∷◌, ◌++◌, Err}
+use Rattle.dm_token.specs.declared.place.Place.{Place}
 use Rattle.dm_meaning.specs.declared.cause.Cause.TheVariants.{OtherType}
 use Rattle.dm_meaning.specs.Among.{IsAmong}
+use Rattle.dm_meaning.specs.Machines.{undefined}
 use Rattle.dm_meaning.specs.Values.{At, to, pointer_value}
 use Rattle.dm_meaning.specs.Objects.{Layout}
 use Rattle.dm_meaning.specs.Memory.{Memory, look}
 use Rattle.dm_meaning.specs.Primitives.{most_in, text_at}
+use Rattle.dm_meaning.specs.Programs.{Program, layout}
 use Rattle.dm_meaning.specs.Operations.{Result, of_value}
 use Rattle.dm_meaning.specs.Running.{Run, done, to_do, Runs, no_runs, more_runs}
 use Rattle.dm_meaning.specs.Expressions.{Move, goes, calls, fails, exits}
+use Rattle.dm_meaning.specs.States.{Task, evaluates, State}
+use Rattle.dm_meaning.specs.Statements.{unfolded}
 use Rattle.dm_sound.specs.TypedSteps.{IsMistyped, IsTooFar}
 
 abbrev mutual
@@ -37,3 +43,14 @@ IsExcusedMove layout memory given (goes world tree) = Unit {0}
 IsExcusedMove layout memory given (calls f arguments kind hole) = Unit {0}
 IsExcusedMove layout memory given (fails cause place) = cause ≡ OtherType → IsExcused layout memory given
 IsExcusedMove layout memory given (exits status) = Unit {0}
+
+-- the results in the full expression that is under evaluation, if one is
+abbrev pub results_at : List Task → List Result
+results_at (evaluates place run use_of ∷ rest) = results_in run
+results_at tasks = []
+
+-- where a step of a state is undefined with the cause `type`, that is so by what memory holds beside these results
+abbrev pub IsExcusedStep : Program → State → State → Type 0
+IsExcusedStep program state other =
+    (place : Place) → other.standing ≡ undefined OtherType place
+    → IsExcused (layout program) state.world.memory (results_at (unfolded state.frame.tasks))

@@ -5,3 +5,4 @@ pub mod TypedRuns
 pub mod TypedStates
 pub mod Examples
 pub mod Excuses
+pub mod SameTables

@@ -7,16 +7,18 @@ use Rattle.dm_type.specs.CTypes.{CType, bare}
 use Rattle.dm_tree.specs.Composites.{covers}
 use Rattle.dm_tree.specs.Scenes.{is_lvalue}
 use Rattle.dm_tree.specs.Trees.{Tree, Initialiser, Initialisers, one_expression, in_braces, no_items, more_items, expressions_in, kind_of}
-use Rattle.dm_tree.specs.Units.{Declaration}
+use Rattle.dm_tree.specs.Typing.{IsCondition}
 use Rattle.dm_meaning.specs.Values.{At}
 use Rattle.dm_meaning.specs.Objects.{Layout, object_of, element, inner_type}
 use Rattle.dm_meaning.specs.Memory.{Memory, Block, look_up, reached}
-use Rattle.dm_meaning.specs.Programs.{Program, Definition, layout, declaration_of, definition_of}
+use Rattle.dm_meaning.specs.Causes.{is_unset}
+use Rattle.dm_meaning.specs.Programs.{Program, Definition, layout, definition_of}
 use Rattle.dm_meaning.specs.Operations.{Result, Objects}
 use Rattle.dm_meaning.specs.States.{Loop, Use, drops, chooses, selects, repeats, continues, returns, initialises, Task, begins, declares, initials, evaluates, again, tests, ends, ends_switch, leaves, skips, hands_back, Frame, Caller, State}
 use Rattle.dm_meaning.specs.Statements.{type_declared, initial_value}
+use Rattle.dm_meaning.specs.Wholes.{is_expression}
 use Rattle.dm_sound.specs.TypedValues.{own_type, has_parts, HasType, IsGiven}
-use Rattle.dm_sound.specs.TypedTrees.{IsProper, IsTyped}
+use Rattle.dm_sound.specs.TypedTrees.{IsTyped}
 use Rattle.dm_sound.specs.TypedSteps.{IsResult}
 use Rattle.dm_sound.specs.TypedRuns.{ComesFrom, HoleComesFrom, IsTypedWorld, result_of}
 
@@ -35,22 +37,19 @@ AreNamed program memory (entry ∷ entries) = IsOfKind memory entry.1 (type_decl
 abbrev pub IsPlace : Layout → Memory → At → CType → Type 0
 IsPlace laid memory at kind = (fixed : Bool) × (reached laid memory at ≡ object_of (bare kind) fixed)
 
--- the types of declarations are proper, as those of a table are
-abbrev pub HasProperEntries : Program → Type 0
-HasProperEntries program = (d : ℕ) (entry : Declaration) → declaration_of program d ≡ Some entry → IsProper entry.kind
-
 -- ---- initialisers (6.7.9)
 
--- what the value of the tree gives an object of this type is a value of the type
+-- what the value of the tree gives an object of this type is a value of the type, and was set
 abbrev pub Gives : Program → CType → Tree → Type 0
-Gives program kind tree = (given : Result) → IsResult (layout program) tree given → HasType (layout program) kind (initial_value kind given)
+Gives program kind tree =
+    (given : Result) → IsResult (layout program) tree given → HasType (layout program) kind (initial_value kind given) × (is_unset (initial_value kind given) ≡ false)
 
 abbrev mutual
   -- The initialiser gives an object of this type, or the parts of it that it names, values of their types; its expressions are those of a
   -- function with this result.
   pub Fills : Program → CType → CType → Initialiser → List Tree → Type 0
   Fills program result kind one_expression [] = Unit {0}
-  Fills program result kind one_expression (tree ∷ []) = IsTyped program result tree × Gives program kind tree
+  Fills program result kind one_expression (tree ∷ []) = IsTyped program result tree × Gives program kind tree × IsTrue (is_expression tree)
   Fills program result kind one_expression (first ∷ second ∷ rest) = Unit {0}
   Fills program result kind (in_braces items) trees = IsTrue (has_parts (own_type kind)) × FillParts program result (bare kind) 0 items trees
 
@@ -76,15 +75,27 @@ abbrev pub IsTypedIfThere : Program → CType → Option Tree → Type 0
 IsTypedIfThere program result None = Unit {0}
 IsTypedIfThere program result (Some tree) = IsTyped program result tree
 
+-- no statement is in it
+abbrev pub IsExpressionIfThere : Option Tree → Type 0
+IsExpressionIfThere None = Unit {0}
+IsExpressionIfThere (Some tree) = IsTrue (is_expression tree)
+
+-- it is the value of a scalar (6.8.5p2)
+abbrev pub IsConditionIfThere : Option Tree → Type 0
+IsConditionIfThere None = Unit {0}
+IsConditionIfThere (Some tree) = IsCondition tree
+
 abbrev pub IsTypedLoop : Program → CType → Loop → Type 0
-IsTypedLoop program result loop = IsTypedIfThere program result loop.condition × IsTypedIfThere program result loop.after × IsTyped program result loop.body
+IsTypedLoop program result loop =
+    IsTypedIfThere program result loop.condition × IsTypedIfThere program result loop.after × IsTyped program result loop.body
+    × IsConditionIfThere loop.condition × IsExpressionIfThere loop.after
 
 -- what the value of this tree is for
 abbrev pub UseFits : Program → Memory → CType → Tree → Use → Type 0
 UseFits program memory result tree drops = Unit {0}
-UseFits program memory result tree (chooses first second) = IsTyped program result first × IsTypedIfThere program result second
+UseFits program memory result tree (chooses first second) = IsTyped program result first × IsTypedIfThere program result second × IsCondition tree
 UseFits program memory result tree (selects items) = AllAreTyped program result items
-UseFits program memory result tree (repeats loop) = IsTypedLoop program result loop
+UseFits program memory result tree (repeats loop) = IsTypedLoop program result loop × IsCondition tree
 UseFits program memory result tree (continues loop) = IsTypedLoop program result loop
 UseFits program memory result tree returns = IsTrue (not (is_lvalue tree)) × IsTrue (covers result (kind_of tree))
 UseFits program memory result tree (initialises at kind) = IsPlace (layout program) memory at kind × Gives program kind tree
@@ -94,7 +105,7 @@ TaskFits program memory result (begins tree) = IsTyped program result tree
 TaskFits program memory result (declares declarator trees) = FillsIfThere program result (type_declared program declarator.declared) declarator.initialiser trees
 TaskFits program memory result (initials at kind initialiser trees) = IsPlace (layout program) memory at kind × Fills program result kind initialiser trees
 TaskFits program memory result (evaluates place run use_of) =
-    (tree : Tree) × IsTyped program result tree × ComesFrom (layout program) tree run × UseFits program memory result tree use_of
+    (tree : Tree) × IsTyped program result tree × ComesFrom (layout program) tree run × UseFits program memory result tree use_of × IsTrue (is_expression tree)
 TaskFits program memory result (again saved loop) = AreNamed program memory saved × IsTypedLoop program result loop
 TaskFits program memory result (tests saved loop) = AreNamed program memory saved × IsTypedLoop program result loop
 TaskFits program memory result (ends saved) = AreNamed program memory saved
@@ -123,6 +134,7 @@ pub record IsTypedCaller (program : Program) (memory : Memory) (called : ℕ) (c
   pub typed : IsTyped program (bare (result_of program caller.frame.function)) tree
   pub comes : HoleComesFrom (layout program) tree caller.kind caller.hole
   pub use_of : UseFits program memory (bare (result_of program caller.frame.function)) tree caller.use_of
+  pub whole : IsTrue (is_expression tree)
   -- the call has the type of the function's result, as that was known where the call stands (6.5.2.2p5)
   pub result : CType
   pub gives : caller.kind ≡ bare result

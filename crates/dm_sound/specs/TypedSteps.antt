@@ -19,8 +19,8 @@ use Rattle.dm_meaning.specs.Causes.{is_other, pointer_distance}
 use Rattle.dm_meaning.specs.Programs.{Program, layout, declaration_of}
 use Rattle.dm_meaning.specs.Operations.{Result, of_value, designates, Operand, World, Scene, Did, gives, breaks, ends_with}
 use Rattle.dm_meaning.specs.Running.{Open, first_open, others_open}
-use Rattle.dm_sound.specs.TypedValues.{IsGiven, AreTyped}
-use Rattle.dm_sound.specs.TypedTrees.{IsSoundTable}
+use Rattle.dm_sound.specs.TypedValues.{IsGiven, AreTyped, StaySet}
+use Rattle.dm_sound.specs.TypedTrees.{IsProper, IsSoundTable}
 
 -- an lvalue designates a place, and another expression gives a value of its type
 abbrev pub IsResult : Layout → Tree → Result → Type 0
@@ -72,10 +72,11 @@ pub record IsTooFar (layout : Layout) (memory : Memory) (given : List Result) : 
   pub apart : pointer_distance layout memory target left right ≡ Some far
   pub beyond : is_in_range Long far ≡ false
 
--- What the step of a typed node does: it gives a result of the node and leaves each object a value of its type, or is undefined. Where its
+-- What the step of a typed node does: it gives a result of the node, leaves each object a value of its type, and unsets none; or it is undefined. Where its
 -- cause is that of another type, that is so by what memory holds, and not by the tree.
 abbrev pub DidFits : Scene → World → Tree → List Operand → Did → Type 0
-DidFits scene world tree operands (gives after result locks) = AreTyped (layout scene.program) after.memory × IsResult (layout scene.program) tree result
+DidFits scene world tree operands (gives after result locks) =
+    AreTyped (layout scene.program) after.memory × StaySet world.memory after.memory × IsResult (layout scene.program) tree result
 DidFits scene world tree operands (breaks cause) =
     cause ≡ OtherType
     → IsMistyped (layout scene.program) world.memory (results operands) ⊎ IsTooFar (layout scene.program) world.memory (results operands)
@@ -85,3 +86,5 @@ DidFits scene world tree operands (ends_with status) = ⊥
 pub record IsTypedScope (program : Program) : Type 0 where
   pub table : IsSoundTable program.table
   pub entries : (d : ℕ) (entry : Declaration) → declaration_of program d ≡ Some entry → IsEntry entry
+  -- as those of a table are
+  pub proper : (d : ℕ) (entry : Declaration) → declaration_of program d ≡ Some entry → IsProper entry.kind

@@ -4,6 +4,7 @@
 --     HasType layout type value      an object of the type may hold the value
 --     IsGiven layout type value      an expression of the type may give it
 --     AreTyped layout memory      each object holds a value of its type
+--     StaySet memory later      objects that hold a value that was set go on to do so
 use Rattle.std.specs.Prelude.{◌≡◌, ℕ, Bool, true, false, not, IsTrue, List, [], ◌∷◌, map, replicate, Some}
 use Rattle.dm_int.specs.Kinds.{InRange}
 use Rattle.dm_type.specs.CTypes.{CType, void, integer, array, struct, function, const}
@@ -60,3 +61,11 @@ pub record IsGiven (layout : Layout) (type : CType) (value : Value) : Type 0 whe
 -- each object in memory holds a value of its type
 abbrev pub AreTyped : Layout → Memory → Type 0
 AreTyped layout memory = (n : ℕ) (block : Block) → look_up memory n ≡ Some block → HasType layout block.kind block.contents
+
+-- the object of this number holds a value that was set; of the parts of an array or a struct this says nothing
+abbrev pub IsSet : Memory → ℕ → Type 0
+IsSet memory n = (block : Block) × (look_up memory n ≡ Some block) × (is_unset block.contents ≡ false)
+
+-- objects that hold such a value go on to do so
+abbrev pub StaySet : Memory → Memory → Type 0
+StaySet memory later = (n : ℕ) → IsSet memory n → IsSet later n

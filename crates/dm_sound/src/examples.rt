@@ -5,18 +5,20 @@ ghost use Rattle.dm_int.specs.declared.Kind.TheVariants.{Char, Int};
 ghost use Rattle.dm_type.specs.CTypes.{integer, void};
 ghost use Rattle.dm_type.specs.Tables.{no_type};
 ghost use Rattle.dm_tree.specs.Constants.{integer_kind};
+ghost use Rattle.dm_tree.specs.TypeNumbers.{IsTypedUnit};
 ghost use Rattle.dm_tree.specs.Typing.{IsWellTypedUnit};
-ghost use Rattle.dm_meaning.specs.Machines.{Goes};
+ghost use Rattle.dm_meaning.specs.Machines.{Goes, RunsTo};
 ghost use Rattle.dm_meaning.specs.Operations.{gives, of_value, operate};
 ghost use Rattle.dm_meaning.specs.Programs.{layout};
 ghost use Rattle.dm_meaning.specs.Running.{begun, open_of};
 ghost use Rattle.dm_meaning.specs.Steps.{Step};
-ghost use Rattle.dm_meaning.specs.Units.{machine_of, program_of};
+ghost use Rattle.dm_meaning.specs.Units.{Begins, machine_of, program_of};
 ghost use Rattle.dm_meaning.specs.Values.{integer_value};
 ghost use Rattle.dm_meaning.specs.Wholes.{is_expression};
 ghost use Rattle.dm_sound.specs.Examples as examples;
+ghost use Rattle.dm_sound.specs.SameTables.{AreSameStructs};
 ghost use Rattle.dm_sound.specs.TypedRuns.{ArgumentsFit, ComesFrom, HoleComesFrom, IsProperUnit, IsTypedProgram, IsTypedWorld};
-ghost use Rattle.dm_sound.specs.TypedStates.{HasProperEntries, IsTypedState};
+ghost use Rattle.dm_sound.specs.TypedStates.{IsTypedState};
 ghost use Rattle.dm_sound.specs.TypedSteps.{IsTypedScope, AreOperands, is_operated};
 ghost use Rattle.dm_sound.specs.TypedTrees.{IsSoundTable, IsTyped};
 ghost use Rattle.dm_sound.specs.TypedValues.{AreTyped, HasType, IsGiven, has_parts, own_type};
@@ -65,11 +67,28 @@ pub fn typed_unit()
 {}
 
 /// The state in which `main` of `int c; int main(void) {}` runs, and the step to the state behind it, meet each premise of
-/// `steps_keep_states_typed` and `runs_stay_typed`.
+/// `steps_keep_states_typed`, `typed_steps_are_never_ill` and `runs_stay_typed`.
 pub fn typed_state()
     ensures program { IsTypedProgram examples.running }
-    ensures entries { HasProperEntries examples.running }
     ensures state { IsTypedState examples.running examples.beginning }
     ensures step { Step examples.running examples.beginning examples.behind }
     ensures goes { Goes (machine_of examples.running) 1 examples.beginning examples.behind }
+{}
+
+/// A run of the same program on no input begins so, which meets each premise of `runs_begin_typed`.
+pub fn typed_beginning()
+    ensures program { IsTypedProgram examples.running }
+    ensures begins { Begins examples.running [] examples.started }
+{}
+
+/// `int main(void) {}`, as the code has it, meets each premise of `typed_programs_run_typed`.
+pub fn typed_run()
+    ensures table { IsSoundTable examples.types }
+    ensures unit { IsTypedUnit examples.types examples.core_unit }
+    ensures run { RunsTo (machine_of examples.core_program) [] 0 examples.core_started }
+{}
+
+/// Two tables that number their types differently say the same of structs.
+pub fn same_tables()
+    ensures { AreSameStructs examples.one_table examples.other_table }
 {}

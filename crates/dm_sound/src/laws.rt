@@ -4,25 +4,29 @@ ghost use Rattle.dm_type.specs.CTypes.{CType, array};
 ghost use Rattle.dm_type.specs.Tables.{Table};
 ghost use Rattle.dm_tree.specs.Constants.{integer_kind};
 ghost use Rattle.dm_tree.specs.Trees.{Label, Spans, Tree, Trees, node};
+ghost use Rattle.dm_tree.specs.declared.unit.CoreUnit.{CoreUnit};
+ghost use Rattle.dm_tree.specs.TypeNumbers.{IsTypedUnit};
 ghost use Rattle.dm_tree.specs.Typing.{IsWellTypedUnit};
 ghost use Rattle.dm_tree.specs.Units.{TypedUnit};
+ghost use Rattle.dm_tree.specs.Views.{view_of_unit};
 ghost use Rattle.dm_meaning.specs.Among.{IsAmong};
 ghost use Rattle.dm_meaning.specs.Expressions.{Move, moves};
-ghost use Rattle.dm_meaning.specs.Machines.{Goes};
+ghost use Rattle.dm_meaning.specs.Machines.{Goes, RunsTo};
 ghost use Rattle.dm_meaning.specs.Memory.{Memory, killed};
 ghost use Rattle.dm_meaning.specs.Objects.{Layout, all_unset, all_zero};
 ghost use Rattle.dm_meaning.specs.Operations.{Operand, Scene, World, of_value, operate};
-ghost use Rattle.dm_meaning.specs.Programs.{Definition, Program, layout};
+ghost use Rattle.dm_meaning.specs.Programs.{Definition, Program, constant_of, layout};
 ghost use Rattle.dm_meaning.specs.Running.{Hole, Run, begun, done, filled_in, open_of};
 ghost use Rattle.dm_meaning.specs.Statements.{array_of, characters_at, value_listed};
 ghost use Rattle.dm_meaning.specs.States.{State};
 ghost use Rattle.dm_meaning.specs.Steps.{Step, opened_memory};
-ghost use Rattle.dm_meaning.specs.Units.{machine_of, program_of};
+ghost use Rattle.dm_meaning.specs.Units.{Begins, machine_of, program_of};
 ghost use Rattle.dm_meaning.specs.Values.{At, Value, literal_of};
 ghost use Rattle.dm_meaning.specs.Wholes.{is_expression};
-ghost use Rattle.dm_sound.specs.Excuses.{IsExcusedMove, results_in};
+ghost use Rattle.dm_sound.specs.Excuses.{IsExcusedMove, IsExcusedStep, results_in};
+ghost use Rattle.dm_sound.specs.SameTables.{AreSameStructs, over};
 ghost use Rattle.dm_sound.specs.TypedRuns.{ArgumentsFit, ComesFrom, HoleComesFrom, IsProperUnit, IsTypedProgram, IsTypedWorld, MoveFits};
-ghost use Rattle.dm_sound.specs.TypedStates.{HasProperEntries, IsTypedState};
+ghost use Rattle.dm_sound.specs.TypedStates.{IsTypedState};
 ghost use Rattle.dm_sound.specs.TypedSteps.{IsTypedScope, AreOperands, DidFits, is_operated};
 ghost use Rattle.dm_sound.specs.TypedTrees.{IsSoundTable, IsTyped};
 ghost use Rattle.dm_sound.specs.TypedValues.{AreTyped, HasType, IsGiven, has_parts, own_type};
@@ -43,7 +47,7 @@ pub fn operators_give_their_types()
 pub fn expressions_keep_their_types()
     ensures { (scene : Scene) (world : World) (locks : List At) (result : CType) (tree : Tree) (run : Run) (move : Move Run Hole)
         → IsTypedProgram scene.program → IsTypedWorld scene.program world → IsTyped scene.program result tree
-        → ComesFrom (layout scene.program) tree run → IsAmong move (moves scene world locks run) → MoveFits scene.program tree move }
+        → ComesFrom (layout scene.program) tree run → IsAmong move (moves scene world locks run) → MoveFits scene.program world.memory tree move }
 {}
 
 /// Where a step of a typed expression is undefined with the cause `type`, that is so because a place that is designated in it holds an
@@ -65,6 +69,11 @@ pub fn evaluations_begin()
 pub fn calls_give_their_types()
     ensures { (scene : Scene) (tree : Tree) (called : CType) (hole : Hole) (value : Value) → HoleComesFrom (layout scene.program) tree called hole
         → IsGiven (layout scene.program) called value → ComesFrom (layout scene.program) tree (filled_in hole (done called (of_value value) [])) }
+{}
+
+/// The types of the declarations and of the trees of a unit that the code reads are proper, since a table gave them.
+pub fn units_have_proper_types()
+    ensures { (types : Table) (one : CoreUnit) → IsProperUnit (view_of_unit types one) }
 {}
 
 /// The program of a well-typed unit is typed, where a table gave its types.
@@ -105,12 +114,41 @@ pub fn initialisers_keep_types()
 /// Each step of a typed state leaves a typed state: what is left to do in each function that is running is typed, each declaration names
 /// an object of its type, each object holds a value of its type, and what a function hands back is of its result's type.
 pub fn steps_keep_states_typed()
-    ensures { (program : Program) (state other : State) → IsTypedProgram program → HasProperEntries program → IsTypedState program state
+    ensures { (program : Program) (state other : State) → IsTypedProgram program → IsTypedState program state
         → Step program state other → IsTypedState program other }
 {}
 
 /// So is each state of a run that goes on from a typed state.
 pub fn runs_stay_typed()
-    ensures { (program : Program) (n : ℕ) (state other : State) → IsTypedProgram program → HasProperEntries program
+    ensures { (program : Program) (n : ℕ) (state other : State) → IsTypedProgram program
         → IsTypedState program state → Goes (machine_of program) n state other → IsTypedState program other }
+{}
+
+/// A run of a typed program on bytes begins in a typed state.
+pub fn runs_begin_typed()
+    ensures { (program : Program) (input : List ℕ) (state : State) → IsTypedProgram program → Begins program input state
+        → IsTypedState program state }
+{}
+
+/// Each state of each run of the program of a well-typed unit on bytes is typed.
+pub fn typed_programs_run_typed()
+    ensures { (types : Table) (one : CoreUnit) (input : List ℕ) (n : ℕ) (state : State) → IsSoundTable types → IsTypedUnit types one
+        → RunsTo (machine_of (program_of types (view_of_unit types one))) input n state
+        → IsTypedState (program_of types (view_of_unit types one)) state }
+{}
+
+/// Where a step of a typed state is undefined with the cause `type`, that is so because a place that is designated in the full expression
+/// under evaluation holds an object of another type, because two pointers are too far apart, or because `puts` is given what is no text;
+/// and never because a tree were ill typed.
+pub fn typed_steps_are_never_ill()
+    ensures { (program : Program) (state other : State) → IsTypedProgram program → IsTypedState program state → Step program state other
+        → IsExcusedStep program state other }
+{}
+
+/// Over tables that say the same of structs a program's types are laid out alike, and its constant expressions have the same values. Nothing
+/// else of its table is read in a run.
+pub fn same_structs_are_laid_out_alike()
+    ensures layout { (old new : Table) (program : Program) → AreSameStructs old new → layout (over program new) ≡ layout (over program old) }
+    ensures constants { (old new : Table) (program : Program) (tree : Tree) → AreSameStructs old new
+        → constant_of (over program new) tree ≡ constant_of (over program old) tree }
 {}

@@ -139,7 +139,7 @@ pub struct Scene {
     pub types: Types,
     pub scopes: Scopes,
     pub declared: List<Declared>,
-    pub kinds: List<(TypeId, &'static str)>,
+    pub kinds: List<(TypeId, Text)>,
     ghost entries: { HaveTypes types declared },
     ghost numbers: { AreBelow (length declared) scopes },
 }
@@ -272,18 +272,18 @@ fn kinds_of(
     alloc: Global,
     known: &mut Known,
     typedefs: &Names,
-) -> Result<List<(TypeId, &'static str)>, Fail> {
+) -> Result<List<(TypeId, Text)>, Fail> {
     let mut kinds = List::new(alloc);
     for words in KINDS.lines() {
         if let Some(kind) = kind_of_words(alloc, known, typedefs, words)? {
-            kinds.push((kind, words))?;
+            kinds.push((kind, Text::new(alloc, words)?))?;
         }
     }
     Ok(kinds)
 }
 
 /// What is known, with the words of types.
-fn scene_of(known: Known, kinds: List<(TypeId, &'static str)>) -> Scene {
+fn scene_of(known: Known, kinds: List<(TypeId, Text)>) -> Scene {
     let Known {
         types,
         scopes,

@@ -74,13 +74,3 @@ pub fn sign(sign: Sign) -> &'static str {
         Sign::Not => "!",
     }
 }
-
-/// A `++` or `--`, which stands before its operand or behind it.
-pub fn count_word(plus: bool, before: bool) -> &'static str {
-    match (plus, before) {
-        (true, true) => "++_",
-        (true, false) => "_++",
-        (false, true) => "--_",
-        (false, false) => "_--",
-    }
-}

@@ -6,56 +6,21 @@ ghost use Rattle.dm_tree.specs.TypeNumbers.{IsTypedUnit};
 ghost use Rattle.dm_manifest.specs.Units.{IsLawful};
 ghost use Rattle.unit_list.specs.Known.{IsKnownExternal};
 
-use crate::trees::put_external;
-use crate::words::{Scene, put_text, put_type};
+use crate::trees::{Scene, put_external};
 use dm_io::Folder;
 use dm_read::{Steps, read_unit};
 use dm_search::Loader;
 use dm_token::{List, Memory, Stop, Text, Unit};
-use dm_tree::{CoreExternal, CoreUnit, Declared, Linkage, Sort};
+use dm_tree::{CoreExternal, CoreUnit, Declared};
 use dm_type::Types;
 use std::alloc::Global;
 use std::fmt::Write;
 use std::marker::Brand;
 use std::sync::ledger::{Blank, Ledger};
+use tree_words::entries::{put_entry, structs_of};
+use tree_words::words::put_text;
 
-/// The linkage of what is declared, and what it is.
-fn sort_words(linkage: Linkage, sort: Sort) -> &'static str {
-    match (linkage, sort) {
-        (Linkage::External, Sort::Object { fixed: _ }) => "external object",
-        (Linkage::Internal, Sort::Object { fixed: _ }) => "internal object",
-        (Linkage::Absent, Sort::Object { fixed: true }) => "static object",
-        (Linkage::Absent, Sort::Object { fixed: false }) => "object",
-        (Linkage::External, Sort::Function) => "external function",
-        (Linkage::Internal, Sort::Function) => "internal function",
-        (Linkage::Absent, Sort::Typedef) => "typedef",
-        (Linkage::Absent, Sort::Enumerator(_)) => "enumerator",
-        (Linkage::Absent, Sort::Tag) => "tag",
-        _ => "?",
-    }
-}
-
-/// The line of an entry: what it is, its type round its name, and the value of an enumerator.
-fn put_entry(
-    out: &mut String,
-    types: &Types,
-    structs: &[u32],
-    entry: &Declared,
-) -> Result<(), Memory>
-    requires { IsId types.now entry.now.kind }
-{
-    out.push_str("  ")?;
-    out.push_str(sort_words(entry.linkage, entry.sort))?;
-    out.push_str(" ")?;
-    put_type(out, types, structs, entry.kind, &entry.name)?;
-    if let Sort::Enumerator(value) = entry.sort {
-        write!(out, " = {value}")?;
-    }
-    out.push_str("\n")?;
-    Ok(())
-}
-
-/// The entries of a unit in their order.
+/// The entries of a unit in their order, a line each.
 fn put_entries(
     out: &mut String,
     types: &Types,
@@ -65,7 +30,9 @@ fn put_entries(
     requires { All (λ entry. IsId types.now entry.kind) entries.now }
 {
     for entry in entries {
+        out.push_str("  ")?;
         put_entry(out, types, structs, entry)?;
+        out.push_str("\n")?;
     }
     Ok(())
 }
@@ -83,17 +50,6 @@ fn put_externals(
         put_external(out, scene, types, external)?;
     }
     Ok(())
-}
-
-/// The numbers of all structs.
-fn structs_of(alloc: Global, types: &Types) -> Result<List<u32>, Memory> {
-    let mut numbers = List::new(alloc);
-    let mut number: u32 = 0;
-    for _ in 0..types.struct_count() {
-        numbers.push(number)?;
-        number = number.saturating_add(1);
-    }
-    Ok(numbers)
 }
 
 /// What a typed unit declares, and its trees.

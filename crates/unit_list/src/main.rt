@@ -8,7 +8,6 @@ ghost use Rattle.dm_manifest.specs.Units.{IsLawful};
 mod labels;
 mod listing;
 mod trees;
-mod words;
 
 use anyhow::{Result, bail};
 use dm_io::{Folder, Got, RealFolder};

@@ -5,12 +5,20 @@ ghost use Rattle.std.specs.Prelude.{All, IfSome};
 ghost use Rattle.dm_type.specs.Tables.{IsId};
 ghost use Rattle.unit_list.specs.Known.{IsKnown, IsKnownForm, IsKnownInitial, IsKnownLocal, IsKnownExternal};
 
-use crate::labels::{count_word, expression_word, operator, sign, statement_word};
-use crate::words::{Scene, put_literal, put_name, put_type};
+use crate::labels::{expression_word, operator, sign, statement_word};
 use dm_token::{Boxed, List, Memory, Text};
-use dm_tree::{Core, CoreExternal, CoreExternalForm, Form, Initial, Local};
+use dm_tree::{Core, CoreExternal, CoreExternalForm, Declared, Form, Initial, Local};
 use dm_type::{TypeId, Types};
 use std::fmt::Write;
+use tree_words::trees::count_label;
+use tree_words::words::{put_literal, put_name, put_type};
+
+/// What the trees of a unit speak of: its declarations, and the numbers of all structs.
+#[derive(Drop)]
+pub struct Scene<'a> {
+    pub declared: &'a [Declared],
+    pub structs: &'a [u32],
+}
 
 /// The blanks before a line.
 fn put_indent(out: &mut String, depth: usize) -> Result<(), Memory> {
@@ -43,7 +51,7 @@ fn put_label(out: &mut String, scene: &Scene, types: &Types, form: &Form) -> Res
         Form::Number(value) => write!(out, "{value}")?,
         Form::Literal(text, _) => put_literal(out, text)?,
         Form::Enumerator(number) | Form::Object(number) | Form::Function(number) => {
-            put_name(out, scene, *number)?;
+            put_name(out, scene.declared, *number)?;
         }
         Form::Member(_, number) => write!(out, "member {number}")?,
         Form::Unary(unary, _) => write!(out, "unary {}", sign(*unary))?,
@@ -56,7 +64,7 @@ fn put_label(out: &mut String, scene: &Scene, types: &Types, form: &Form) -> Res
             plus,
             before,
             object: _,
-        } => out.push_str(count_word(*plus, *before))?,
+        } => out.push_str(count_label(*plus, *before))?,
         Form::SizeofKind(kind, _) => {
             out.push_str("sizeof ")?;
             put_kind(out, scene, types, *kind)?;
@@ -312,7 +320,7 @@ fn put_local(
     } else {
         "declares "
     })?;
-    put_name(out, scene, local.declared)?;
+    put_name(out, scene.declared, local.declared)?;
     out.push_str("\n")?;
     match &local.initial {
         Some(initial) => put_initial(out, scene, types, initial, depth.saturating_add(1)),
@@ -370,10 +378,10 @@ fn put_function(
     requires { IsKnown types.now body.now }
 {
     out.push_str("  function ")?;
-    put_name(out, scene, function)?;
+    put_name(out, scene.declared, function)?;
     for parameter in parameters {
         out.push_str(" ")?;
-        put_name(out, scene, *parameter)?;
+        put_name(out, scene.declared, *parameter)?;
     }
     out.push_str("\n")?;
     put_tree(out, scene, types, body, 2)

@@ -1,12 +1,9 @@
 -- The state meets each premise.
-use Rattle.dm_sound.proofs.ExampleLemmas.{running_typed, running_proper, beginning_typed, first_step, one_step}
+use Rattle.dm_sound.proofs.ExampleLemmas.{running_typed, beginning_typed, first_step, one_step}
 use Rattle.dm_sound.proofs.examples.typed_state.Goals as goal
 
 pub returns-clause-program : goal.returns-clause-program
 returns-clause-program c = running_typed
-
-pub returns-clause-entries : goal.returns-clause-entries
-returns-clause-entries c = running_proper
 
 pub returns-clause-state : goal.returns-clause-state
 returns-clause-state c = beginning_typed

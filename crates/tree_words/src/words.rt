@@ -1,4 +1,4 @@
-//! Names, types and literals in the listing.
+//! Names, types and literals.
 
 ghost use Rattle.dm_type.specs.Tables.{IsId};
 
@@ -6,13 +6,6 @@ use dm_token::{Memory, Text};
 use dm_tree::Declared;
 use dm_type::{TypeId, Types};
 use std::fmt::Write;
-
-/// What the trees of a unit speak of: its declarations, and the numbers of all structs.
-#[derive(Drop)]
-pub struct Scene<'a> {
-    pub declared: &'a [Declared],
-    pub structs: &'a [u32],
-}
 
 /// Text of basic characters.
 pub fn put_text(out: &mut String, text: &Text) -> Result<(), Memory> {
@@ -43,9 +36,9 @@ pub fn put_literal(out: &mut String, text: &Text) -> Result<(), Memory> {
     Ok(())
 }
 
-/// The name of a declaration.
-pub fn put_name(out: &mut String, scene: &Scene, number: u32) -> Result<(), Memory> {
-    match scene.declared.get(number as usize) {
+/// The name of a declaration. A question mark where there is none.
+pub fn put_name(out: &mut String, declared: &[Declared], number: u32) -> Result<(), Memory> {
+    match declared.get(number as usize) {
         Some(entry) => put_text(out, &entry.name),
         None => {
             out.push_str("?")?;

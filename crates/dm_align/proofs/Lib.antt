@@ -1,0 +1,9 @@
+pub mod SelfLemmas
+pub mod NumberLemmas
+pub mod TypeLemmas
+pub mod StepLemmas
+pub mod InitialLemmas
+pub mod PartLemmas
+pub mod HeadLemmas
+pub mod AgreeLemmas
+pub mod StandingLemmas

@@ -1,0 +1,28 @@
+-- What is left agrees where all do. Each call is of smaller trees, or comes nearer to one.
+use Rattle.std.proofs.Common.{◌≡◌, ◌↔◌, ◌+◌, ◌*◌, length, drop}
+use denote.Param.Weighed.{most}
+use Rattle.dm_tree.specs.declared.tree.Core.{size-Core}
+use Rattle.dm_tree.specs.Trees.{label_of, spans_of}
+use Rattle.dm_tree.specs.Views.{view}
+use Rattle.dm_align.specs.Comparing.{rewriting}
+use Rattle.dm_align.specs.Parts.{nows}
+use Rattle.dm_align.proofs.AgreeLemmas.{PartsAgree}
+use Rattle.dm_align.proofs.agree.+agreement.Given as goal
+
+abbrev pub decreases-agrees : goal.decreases-agrees
+decreases-agrees l = 4 * size-Core l.new.now + 2
+
+abbrev pub decreases-agrees_apart_from_runs : goal.decreases-agrees_apart_from_runs
+decreases-agrees_apart_from_runs l = 4 * size-Core l.new.now + 1
+
+abbrev pub decreases-all_agree : goal.decreases-all_agree
+decreases-all_agree l = 4 * most size-Core (nows l.parts.now) + 4
+
+abbrev pub decreases-part_agrees : goal.decreases-part_agrees
+decreases-part_agrees l = 4 * size-Core l.part.now + 3
+
+abbrev pub invariant-all_agree-loop-i : goal.invariant-all_agree-loop-i
+invariant-all_agree-loop-i l =
+    (length l.parts ≡ length l.others)
+    × (PartsAgree (rewriting l.it) (label_of (view l.it.old_types.now l.above)) (spans_of (view l.it.old_types.now l.above)) l.it.new_types.now l.it.old_types.now (drop l.i l.parts) (drop l.i l.others)
+    ↔ PartsAgree (rewriting l.it) (label_of (view l.it.old_types.now l.above)) (spans_of (view l.it.old_types.now l.above)) l.it.new_types.now l.it.old_types.now l.parts l.others)

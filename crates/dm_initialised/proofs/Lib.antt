@@ -1,0 +1,11 @@
+pub mod ScopeLemmas
+pub mod ObjectLemmas
+pub mod ItemLemmas
+pub mod StatementLemmas
+pub mod StateLemmas
+pub mod BeginLemmas
+pub mod NameLemmas
+pub mod UnitLemmas
+pub mod RunLemmas
+pub mod LivingLemmas
+pub mod ExampleLemmas

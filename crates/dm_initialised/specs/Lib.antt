@@ -1,0 +1,5 @@
+pub mod Settled
+pub mod SetStates
+pub mod Units
+pub mod Living
+pub mod Examples

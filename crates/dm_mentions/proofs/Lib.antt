@@ -1,0 +1,5 @@
+mod AgainLemmas
+mod ChainLemmas
+mod EventLemmas
+mod FindLemmas
+mod PositionLemmas

@@ -1,0 +1,16 @@
+pub mod OverLemmas
+pub mod ScopeLemmas
+pub mod StepLemmas
+pub mod ExpressionLemmas
+pub mod StandingLemmas
+pub mod InitialiserLemmas
+pub mod DeclarationLemmas
+pub mod StatementLemmas
+pub mod HeadingLemmas
+pub mod UnitLemmas
+pub mod SpanLemmas
+pub mod CollectLemmas
+pub mod SpanFormLemmas
+pub mod SpanExpressionLemmas
+pub mod SpanStatementLemmas
+pub mod SpanUnitLemmas

@@ -1,0 +1,18 @@
+//! Arguments that may be evaluated at another time or more often (ISO/IEC 9899:2011, 6.5): those whose value stays the same while the
+//! expression round them is evaluated, and those whose evaluation can't be undefined.
+#![tactic(auto)]
+
+mod kept;
+mod kinds;
+mod laws;
+mod names;
+mod safety;
+mod set;
+mod stability;
+mod steady;
+
+pub use laws::typed_units_have_known_entries;
+pub use names::Names;
+pub use safety::{has_safe_form, safe};
+pub use stability::{is_stable, stable};
+pub use steady::has_steady_leaves;
