@@ -1,5 +1,5 @@
 -- The calls of a small program meet the premises of the laws: the argument stands untouched in the old program, and is read twice there.
-use Rattle.std.specs.Prelude.{◌≡◌, refl, ℕ, zero, suc, ◌==◌, Bool, true, false, List, [], ◌∷◌, Some, None, option_map, is_some, if◌then◌else◌}
+use Rattle.std.specs.Prelude.{◌≡◌, refl, ℕ, zero, suc, ◌==◌, Bool, true, false, [], ◌∷◌, Some, None, option_map, is_some, if◌then◌else◌}
 use Rattle.std.proofs.Common.{arith, true≢false, ap, sym, ◌∙◌, subst, inl, inr}
 use Rattle.dm_int.specs.declared.Kind.TheVariants.{Int}
 use Rattle.dm_type.specs.CTypes.{integer}
