@@ -1,5 +1,5 @@
 -- A tree that reads objects by their names alone reads nothing else, wherever it is evaluated.
-use Rattle.std.specs.Prelude.{◌≡◌, refl, ◌⊎◌, ℕ, zero, suc, Bool, true, false, List, [], ◌∷◌, ◌++◌, Option, Some, None, pos, if◌then◌else◌}
+use Rattle.std.specs.Prelude.{◌≡◌, refl, ◌⊎◌, ℕ, zero, suc, Bool, true, false, List, [], ◌∷◌, ◌++◌, Option, Some, None, pos}
 use Rattle.std.proofs.Common.{ap, sym, ◌∙◌, subst, inl, inr}
 use Rattle.dm_type.specs.CTypes.{CType}
 use Rattle.dm_tree.specs.Trees.{Label, object, read, both, either, choose, comma, call, sizeof_tree, Spans, Tree, Trees, node, no_trees, more_trees}
@@ -8,7 +8,7 @@ use Rattle.dm_meaning.specs.Values.{At, numbered}
 use Rattle.dm_meaning.specs.Memory.{Memory}
 use Rattle.dm_meaning.specs.Programs.{layout}
 use Rattle.dm_meaning.specs.Operations.{Operand, World, Did, gives, breaks, ends_with, Truth, holds, untold, truth_of, designated, designates, whole, object_named, operate, number_alone}
-use Rattle.dm_meaning.specs.Running.{evaluates, Run, begun, all_begun, Open, first_open, others_open, open_of}
+use Rattle.dm_meaning.specs.Running.{begun, all_begun, Open, first_open, others_open, open_of}
 use Rattle.dm_meaning.specs.Expressions.{value_of}
 use Rattle.dm_meaning.proofs.AmongLemmas.{among_either}
 use Rattle.dm_rewrite.specs.Computed.{Computed, ComputedParts, Part, joined, joined_if, after_reads, given_by, on_alone, by_holds, after_operands, read_here, truth_computed, value_computed, nth_computed, only, both_computed, either_computed, picked_computed, form_computed, found_in, computed, all_computed}

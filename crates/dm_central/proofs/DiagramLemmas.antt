@@ -1,10 +1,10 @@
 -- Each step of a tree of the new program is met in the old one.
-use Rattle.std.specs.Prelude.{◌≡◌, refl, ◌⊎◌, ℕ, Bool, true, false, not, IsTrue, List, [], ◌∷◌, ◌++◌, map, length, Option, Some, None, if◌then◌else◌}
+use Rattle.std.specs.Prelude.{◌≡◌, refl, ◌⊎◌, ℕ, Bool, true, false, not, List, [], ◌∷◌, ◌++◌, map, Option, Some, None}
 use Rattle.std.proofs.Common.{true≢false, ap, sym, ◌∙◌, subst, inl, inr}
 use Rattle.dm_token.specs.declared.place.Place.{Place}
 use Rattle.dm_type.specs.CTypes.{CType, bare}
 use Rattle.dm_tree.specs.Scenes.{is_void}
-use Rattle.dm_tree.specs.Trees.{function, read, call, Tree, kind_of}
+use Rattle.dm_tree.specs.Trees.{function, read, call}
 use Rattle.dm_meaning.specs.declared.cause.Cause.{Cause}
 use Rattle.dm_meaning.specs.declared.cause.Cause.TheVariants.{Conflict, Bounds, Life, Unset, OtherType}
 use Rattle.dm_meaning.specs.Among.{IsAmong}

@@ -1,6 +1,6 @@
 -- When all arguments of a call have come to values, the old program's expression with these arguments is entered: it names no object, and gives a
 -- value of the call's type.
-use Rattle.std.specs.Prelude.{◌≡◌, refl, ◌⊎◌, ℕ, zero, suc, ◌==◌, Bool, true, false, not, ◌&&◌, IsTrue, List, [], ◌∷◌, ◌++◌, map, length, Option, Some, None, if◌then◌else◌}
+use Rattle.std.specs.Prelude.{◌≡◌, refl, ◌⊎◌, ℕ, zero, suc, ◌==◌, Bool, true, false, not, ◌&&◌, IsTrue, List, [], ◌∷◌, ◌++◌, map, Option, Some, None, if◌then◌else◌}
 use Rattle.std.proofs.Common.{true≢false, ap, sym, ◌∙◌, subst, inl, inr}
 use Rattle.dm_token.specs.declared.place.Place.{Place}
 use Rattle.dm_type.specs.CTypes.{CType, bare}
@@ -9,28 +9,27 @@ use Rattle.dm_tree.specs.Trees.{Label, enumerator, object, member, choose, comma
 use Rattle.dm_meaning.specs.Among.{IsAmong}
 use Rattle.dm_meaning.specs.Values.{At, Value}
 use Rattle.dm_meaning.specs.Causes.{is_unset}
-use Rattle.dm_meaning.specs.Operations.{Result, of_value, designates, Operand, Objects, World}
-use Rattle.dm_meaning.specs.Running.{Doing, evaluates, gives_truth, gives_value, Run, done, to_do, Runs, no_runs, more_runs, begun, Open, every, first_open, others_open, open_of, open_parts, first_result, operands_in, here}
-use Rattle.dm_meaning.specs.Expressions.{Move, goes, calls, value_of, kind_of_run, moves}
+use Rattle.dm_meaning.specs.Operations.{of_value, Operand, Objects, World}
+use Rattle.dm_meaning.specs.Running.{Doing, evaluates, gives_truth, gives_value, Run, done, to_do, Runs, no_runs, more_runs, begun, Open, every, first_open, others_open, open_of, first_result, operands_in, here}
+use Rattle.dm_meaning.specs.Expressions.{calls, value_of, kind_of_run}
 use Rattle.dm_meaning.specs.Replaced.{relabelled}
 use Rattle.dm_meaning.specs.Steps.{lacks_value}
 use Rattle.dm_meaning.specs.Called.{Called, gives_value as root_gives_value, Gives, GivesBelow}
 use Rattle.dm_meaning.specs.CalledWithAll.{given}
 use Rattle.dm_meaning.proofs.OptionLemmas.{none_is_some, some_is_some, mapped_some}
-use Rattle.dm_meaning.proofs.MoveLemmas.{IsToDo}
 use Rattle.dm_meaning.proofs.RunLemmas.{redone}
-use Rattle.dm_meaning.proofs.YieldLemmas.{may_give, given_may, given_set, doing_gives, Yields, PicksYield, begun_yields, move_yields_on}
-use Rattle.dm_meaning.proofs.StandLemmas.{label_in, run_list}
+use Rattle.dm_meaning.proofs.YieldLemmas.{may_give, given_may, given_set, Yields, PicksYield, begun_yields, move_yields_on}
+use Rattle.dm_meaning.proofs.StandLemmas.{label_in}
 use Rattle.dm_meaning.proofs.PassRunLemmas.{AllYield, HaveCome, IsCome}
-use Rattle.dm_rewrite.specs.Computed.{Computed, computed, IsPure}
+use Rattle.dm_rewrite.specs.Computed.{Computed}
 use Rattle.dm_rewrite.specs.Closed.{Avoids, ResultAvoids, MemoryAvoids, IsPlace, IsClosedIn}
 use Rattle.dm_rewrite.specs.Effects.{Effect, on_object, on_others, Stage, by_number, target_effects, effects_in}
 use Rattle.dm_rewrite.proofs.ClosedRunLemmas.{run_clear}
 use Rattle.dm_rewrite.proofs.SettleLemmas.{went, Beside, FailsBeside, ComesTo, settles, undefined_meets}
 use Rattle.dm_rewrite.proofs.ShrinkEffectLemmas.{AllFirst}
 use Rattle.dm_central.specs.Arguments.{Way, at_once, untouched, runs_at, trees_at, IsSameBut, AreSameBut, IsUntouched, IsStanding, Stands, StandBelow, StandsWhole}
-use Rattle.dm_central.specs.Agreement.{Mode, is_inside, beside_first, before_rest, IsReading, IsPassed, RunAgrees, RunsAgree}
-use Rattle.dm_central.specs.Outcomes.{GivesOne, Entered, Enters}
+use Rattle.dm_central.specs.Agreement.{Mode, is_inside, beside_first, before_rest, IsPassed, RunsAgree}
+use Rattle.dm_central.specs.Outcomes.{GivesOne, Enters}
 use Rattle.dm_central.proofs.FactLemmas.{PartAgrees, same_but_kind, reading_to_do, first_operand}
 
 -- ---- names

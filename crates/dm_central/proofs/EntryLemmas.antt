@@ -1,25 +1,25 @@
 -- When the added function is entered, its body agrees with the expression that the old program has, with arguments in it.
-use Rattle.std.specs.Prelude.{◌≡◌, refl, ◌⊎◌, ℕ, zero, suc, ◌==◌, Bool, true, false, IsTrue, List, [], ◌∷◌, ◌++◌, length, Option, Some, None, if◌then◌else◌}
-use Rattle.std.proofs.Common.{arith, true≢false, ap, sym, ◌∙◌, subst, inl, inr}
+use Rattle.std.specs.Prelude.{◌≡◌, refl, ◌⊎◌, ℕ, zero, suc, ◌==◌, Bool, true, false, IsTrue, List, [], ◌∷◌, length, Option, Some, None, if◌then◌else◌}
+use Rattle.std.proofs.Common.{arith, ap, sym, ◌∙◌, subst, inl, inr}
 use Rattle.dm_type.specs.CTypes.{CType, bare}
-use Rattle.dm_tree.specs.Trees.{object, read, Tree, Trees, node, no_trees, more_trees, label_of, kind_of, trees_of}
+use Rattle.dm_tree.specs.Trees.{object, read, Tree, Trees, node, no_trees, more_trees}
 use Rattle.dm_meaning.specs.Among.{IsAmong}
 use Rattle.dm_meaning.specs.Values.{At, Value}
 use Rattle.dm_meaning.specs.Objects.{object_of}
 use Rattle.dm_meaning.specs.Causes.{is_other}
-use Rattle.dm_meaning.specs.Operations.{Result, of_value, World}
+use Rattle.dm_meaning.specs.Operations.{of_value, World}
 use Rattle.dm_meaning.specs.Running.{evaluates, Run, done, to_do, Runs, no_runs, more_runs, begun, all_begun, Open, first_open, others_open, open_parts}
 use Rattle.dm_meaning.specs.Called.{Called, new_of}
 use Rattle.dm_meaning.specs.CalledWithAll.{given}
 use Rattle.dm_meaning.specs.Statements.{type_declared}
 use Rattle.dm_meaning.proofs.OptionLemmas.{none_is_some, some_is_some}
 use Rattle.dm_meaning.proofs.PassRunLemmas.{HaveCome}
-use Rattle.dm_rewrite.specs.Computed.{Computed, computed, IsPure}
-use Rattle.dm_rewrite.specs.Aside.{Claims, Follows}
+use Rattle.dm_rewrite.specs.Computed.{Computed, computed}
+use Rattle.dm_rewrite.specs.Aside.{Follows}
 use Rattle.dm_rewrite.specs.Effects.{Effect, Stage}
 use Rattle.dm_central.specs.Arguments.{Way, at_once, untouched, IsFollowed, AllFollowed, runs_at, trees_at, IsSameBut, AreSameBut, IsUntouched, IsStanding, Stands, StandBelow, StandsWhole}
-use Rattle.dm_central.specs.Agreement.{Stood, a_value, a_tree, Entry, Mode, inside, StandsFor, IsReading, beside_first, before_rest, stood_at, AreUnbegun, IfOpen, RunAgrees, RunsAgree}
-use Rattle.dm_central.specs.Entries.{stood_by, entries_for}
+use Rattle.dm_central.specs.Agreement.{a_value, a_tree, Entry, inside, StandsFor, IsReading, beside_first, before_rest, stood_at, AreUnbegun, IfOpen, RunAgrees, RunsAgree}
+use Rattle.dm_central.specs.Entries.{entries_for}
 use Rattle.dm_central.specs.Outcomes.{Entered, IsClaimed}
 use Rattle.dm_central.proofs.FactLemmas.{PartAgrees, begun_same}
 

@@ -1,6 +1,6 @@
 -- What trees that agree have in common: types and the functions that they name, the results of their operands, and locks; and that an operand that
 -- wasn't begun agrees wherever it is evaluated.
-use Rattle.std.specs.Prelude.{◌≡◌, refl, ◌⊎◌, ℕ, zero, suc, ◌==◌, Bool, true, false, List, [], ◌∷◌, ◌++◌, map, length, Option, Some, None, option_map, if◌then◌else◌}
+use Rattle.std.specs.Prelude.{◌≡◌, refl, ◌⊎◌, ℕ, zero, suc, ◌==◌, Bool, true, false, List, [], ◌∷◌, ◌++◌, Option, Some, None, option_map, if◌then◌else◌}
 use Rattle.std.proofs.Common.{arith, true≢false, ap, sym, ◌∙◌, subst, inl, inr}
 use Rattle.dm_token.specs.declared.place.Place.{Place}
 use Rattle.dm_type.specs.CTypes.{CType, bare}
@@ -10,9 +10,8 @@ use Rattle.dm_meaning.specs.Values.{At}
 use Rattle.dm_meaning.specs.Objects.{object_of}
 use Rattle.dm_meaning.specs.Causes.{is_other}
 use Rattle.dm_meaning.specs.Operations.{Result, Operand, World}
-use Rattle.dm_meaning.specs.Running.{Doing, evaluates, gives_truth, gives_value, Run, done, to_do, Runs, no_runs, more_runs, begun, all_begun, locks_in, locks_in_all, Open, every, only_first, nothing, first_open, others_open, open_of, open_parts, with_first, first_result, operands_in, Hole, Holes, in_first, in_others, filled_in, all_filled_in}
+use Rattle.dm_meaning.specs.Running.{Doing, evaluates, gives_truth, gives_value, Run, done, to_do, Runs, no_runs, more_runs, begun, all_begun, locks_in, locks_in_all, Open, every, only_first, nothing, first_open, others_open, open_of, open_parts, with_first, first_result, operands_in, Holes, in_first, in_others, filled_in, all_filled_in}
 use Rattle.dm_meaning.specs.Expressions.{nth_run, function_in, function_named, kind_of_run}
-use Rattle.dm_meaning.specs.Replaced.{relabelled}
 use Rattle.dm_meaning.specs.Called.{Called, new_of, Gives}
 use Rattle.dm_meaning.specs.CalledWithAll.{given}
 use Rattle.dm_meaning.specs.Extending.{AreAmong}
@@ -23,7 +22,7 @@ use Rattle.dm_meaning.proofs.ConstantLemmas.{no_locks}
 use Rattle.dm_meaning.proofs.RunLemmas.{redone}
 use Rattle.dm_meaning.proofs.YieldLemmas.{may_give, given_may, doing_gives, Yields, PicksYield}
 use Rattle.dm_meaning.proofs.MatchLemmas.{function_in_redone, not_function, relabelled_gives, among_nothing, among_joined, among_both}
-use Rattle.dm_meaning.proofs.StandLemmas.{label_in, run_list, lock_of}
+use Rattle.dm_meaning.proofs.StandLemmas.{label_in, lock_of}
 use Rattle.dm_meaning.proofs.PassRunLemmas.{AllYield, AreGiving}
 use Rattle.dm_rewrite.specs.Effects.{Effect, Stage, effects_of, effects_in}
 use Rattle.dm_rewrite.proofs.ComputedLemmas.{pure_locks}

@@ -13,3 +13,4 @@ mod EnteredLemmas
 mod DiagramLemmas
 mod EntryLemmas
 mod ApartLemmas
+mod TwiceExample

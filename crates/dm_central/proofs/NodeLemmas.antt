@@ -1,5 +1,5 @@
 -- The step of a node whose operands are evaluated agrees with that of the old node.
-use Rattle.std.specs.Prelude.{◌≡◌, refl, ℕ, Bool, true, false, List, [], ◌∷◌, map, Option, Some, None, option_map, is_some, ℤ, pos, if◌then◌else◌}
+use Rattle.std.specs.Prelude.{◌≡◌, refl, ℕ, Bool, true, false, List, [], ◌∷◌, map, Option, Some, None, option_map, is_some, ℤ, pos}
 use Rattle.std.proofs.Common.{true≢false, ap, sym, ◌∙◌, subst, inl, inr}
 use Rattle.dm_token.specs.declared.place.Place.{Place}
 use Rattle.dm_type.specs.CTypes.{CType, void}
@@ -10,7 +10,7 @@ use Rattle.dm_meaning.specs.Values.{At, Value}
 use Rattle.dm_meaning.specs.Primitives.{Answer, answers, stops, refuses, Prim}
 use Rattle.dm_meaning.specs.Programs.{Definition, layout, declaration_of, definition_of}
 use Rattle.dm_meaning.specs.Operations.{Operand, World, Objects, Did, gives, breaks, ends_with, Truth, holds, untold, truth_of, enumerator_number, number_of_sort, enumerator_in, designated, operate, number_alone}
-use Rattle.dm_meaning.specs.Running.{Doing, evaluates, gives_truth, gives_value, Run, Hole, done, Runs, no_runs, more_runs, locks_in_all, Open, nothing, first_open, open_of, open_parts}
+use Rattle.dm_meaning.specs.Running.{Doing, evaluates, gives_truth, gives_value, Run, Hole, Runs, no_runs, more_runs, locks_in_all, Open, nothing, first_open, open_of, open_parts}
 use Rattle.dm_meaning.specs.Expressions.{Move, as_move, by_truth, on_operand, value_of, nth_run, both_chosen, either_chosen, operand_chosen, function_named, answered, undefined_called, called, call_step, kind_of_run, form_step, node_step}
 use Rattle.dm_meaning.specs.Replaced.{relabelled, facts_of}
 use Rattle.dm_meaning.specs.Called.{Called, new_of}
@@ -24,7 +24,7 @@ use Rattle.dm_central.specs.Added.{IsAdded}
 use Rattle.dm_central.specs.Agreement.{Mode, is_inside, AreUnbegun, IfOpen, RunAgrees, RunsAgree}
 use Rattle.dm_central.specs.NodeSteps.{new_scene, old_stage, MeanTheSame}
 use Rattle.dm_central.specs.Outcomes.{StepAgrees}
-use Rattle.dm_central.proofs.FactLemmas.{PartAgrees, nth_later, SameFacts, unbegun_facts, fewer_locks_all}
+use Rattle.dm_central.proofs.FactLemmas.{nth_later, SameFacts, unbegun_facts, fewer_locks_all}
 
 name_fact : Option (List ℕ × Sort × CType) → List ℕ
 name_fact None = []

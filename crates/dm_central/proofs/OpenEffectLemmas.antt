@@ -1,5 +1,5 @@
 -- What the operands of a node that may be evaluated may write: no more behind a step of one of them.
-use Rattle.std.specs.Prelude.{◌≡◌, refl, ◌⊎◌, ℕ, Bool, true, false, List, [], ◌∷◌, ◌++◌, map, Some, if◌then◌else◌}
+use Rattle.std.specs.Prelude.{◌≡◌, refl, ◌⊎◌, ℕ, Bool, true, false, List, [], ◌∷◌, map, Some, if◌then◌else◌}
 use Rattle.std.proofs.Common.{sym, subst, inl, inr}
 use Rattle.dm_type.specs.CTypes.{CType}
 use Rattle.dm_meaning.specs.Among.{IsAmong}

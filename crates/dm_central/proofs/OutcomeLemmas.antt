@@ -1,5 +1,5 @@
 -- What meets a step of an operand meets that step of the node, where the other operands still agree.
-use Rattle.std.specs.Prelude.{◌≡◌, refl, ◌⊎◌, ℕ, Bool, true, false, List, [], ◌∷◌, ◌++◌, map, Some, if◌then◌else◌}
+use Rattle.std.specs.Prelude.{◌≡◌, refl, ◌⊎◌, ℕ, true, false, List, [], ◌∷◌, map, Some}
 use Rattle.std.proofs.Common.{ap, sym, subst, inl, inr}
 use Rattle.dm_token.specs.declared.place.Place.{Place}
 use Rattle.dm_type.specs.CTypes.{CType}
@@ -20,7 +20,7 @@ use Rattle.dm_rewrite.specs.Closed.{MemoryAvoids, only_closed}
 use Rattle.dm_rewrite.specs.Effects.{Effect, on_others, Stage, target_effects, effects_of, call_effects, lock_effects, ChangesOnly, IsNoMore}
 use Rattle.dm_rewrite.proofs.EffectLemmas.{writes_keep, move_writes}
 use Rattle.dm_rewrite.proofs.ShrinkEffectLemmas.{AllFirst, AllRuns, run_calm}
-use Rattle.dm_central.specs.Agreement.{Mode, is_inside, open_effects, beside_first, before_rest, IsReading, RunAgrees, RunsAgree}
+use Rattle.dm_central.specs.Agreement.{Mode, is_inside, open_effects, beside_first, before_rest, IsReading, RunsAgree}
 use Rattle.dm_central.specs.Outcomes.{GivesOne, Entered, AllAgreeBehind, StepAgrees, StepsAgree, Met}
 use Rattle.dm_central.proofs.AgreementLemmas.{changes_more}
 use Rattle.dm_central.proofs.OperandLemmas.{open_moves_write, first_moved, rest_moved}

@@ -6,3 +6,4 @@ pub mod Added
 pub mod NodeSteps
 pub mod Entries
 pub mod Apart
+pub mod Examples
