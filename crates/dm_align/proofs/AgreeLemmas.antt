@@ -12,7 +12,7 @@ use Rattle.dm_tree.specs.Trees as label
 use Rattle.dm_tree.specs.Trees.{Label, Spans, Tree, Trees, node, no_trees, more_trees, label_of, kind_of, spans_of, trees_of, trees}
 use Rattle.dm_tree.specs.TypeNumbers.{are_known}
 use Rattle.dm_tree.specs.Views.{Opened, opened, opened_form, view}
-use Rattle.dm_tree.proofs.ViewLemmas.{view-core}
+use Rattle.dm_tree.proofs.ViewLemmas.{view-core, opened-Comma}
 use Rattle.dm_align.specs.Agreement.{Rewriting, Added, nothing, added_enumerator, added_constant, SameNode, IsReadOf, AtRun, Agrees, AllAgree, Passes}
 use Rattle.dm_align.specs.Parts.{nows, are_all_known}
 use Rattle.dm_align.specs.Runs.{runs_in}
@@ -57,6 +57,12 @@ read-label types core a is = ap label_of (view-core types core) ∙ ap (λ (o : 
 pub read-parts : (types : Table) (core a : Core) → (out-Core core).form ≡ form.Read a → trees_of (view types core) ≡ more_trees (view types a) no_trees
 read-parts types core a is = trees-seen types core ∙ ap (λ (o : Opened). trees o.parts) (ap (opened_form types) is ∙ opened-Read types a)
 
+pub comma-parts : (types : Table) (core a b : Core) → (out-Core core).form ≡ form.Comma a b → trees_of (view types core) ≡ more_trees (view types a) (more_trees (view types b) no_trees)
+comma-parts types core a b is = trees-seen types core ∙ ap (λ (o : Opened). trees o.parts) (ap (opened_form types) is ∙ opened-Comma types a b)
+
+pub comma-sizes : (core a b : Core) → (out-Core core).form ≡ form.Comma a b → (size-Core a < size-Core core) × (size-Core b < size-Core core)
+comma-sizes core a b is = (search (rules, q.the_lemmas), search (rules, q.the_lemmas))
+
 -- ---- parts one by one
 
 module _ (it : Rewriting) (label : Label) (spans : Spans) (new old : Table) where
@@ -99,3 +105,11 @@ first-run (one ∷ others) some = (one.now, runs_in others, refl)
 
 pub with-known : {P Q : Type 0} (test : Bool) → P → (IsTrue test ↔ Q) → IsTrue test ↔ (P × Q)
 with-known test known says = (λ passed. (known, says.0 passed), λ both. says.1 both.1)
+
+pub some-run : (runs : List Run) → (runs ≡ [] → ⊥) → (run : Run) × (inner : List Run) × (runs ≡ run ∷ inner)
+some-run [] some = absurd (some refl)
+some-run (run ∷ inner) some = (run, inner, refl)
+
+pub none-found : (runs : List (Bor Run)) → (length runs ≡ 0) ↔ (runs_in runs ≡ [])
+none-found [] = (λ e. refl, λ e. refl)
+none-found (one ∷ others) = (λ e. absurd (omega arith), λ e. absurd (cc))

@@ -52,7 +52,8 @@ fn agrees(
     }
 }
 
-/// Whether it does, where no run stands at the old tree itself.
+/// Whether it does, where no run stands at the old tree itself. Goes down the left operands of commas in a loop, since a comma
+/// expression may have any number of parts.
 #[cycle(agreement)]
 fn agrees_apart_from_runs(
     alloc: Global,
@@ -64,12 +65,55 @@ fn agrees_apart_from_runs(
     requires old { IsTrue (are_known (length it.now.old_types.now.shapes) old.now) }
     ensures { IfOk result (λ answer. IsTrue answer ↔ Agrees (rewriting it.now) [] (view it.now.new_types.now new.now) (view it.now.old_types.now old.now)) }
 {
+    let mut at = new;
+    let mut other = old;
+    while let (Form::Comma(left, right), Form::Comma(first, second)) = (&at.form, &other.form) {
+        let front = left.get();
+        let last = right.get();
+        let other_front = first.get();
+        let other_last = second.get();
+        if !it.is_same_node(at, other) {
+            return Ok(false);
+        }
+        let agree = part_agrees(alloc, it, other, last, other_last)?;
+        if !agree {
+            return Ok(false);
+        }
+        let clear = no_run_stands_below(alloc, it, other, other_front)?;
+        if !clear {
+            return Ok(stands_at_run(it, front, other_front));
+        }
+        at = front;
+        other = other_front;
+    }
+    node_agrees(alloc, it, at, other)
+}
+
+/// Whether two nodes are the same and their parts agree.
+#[cycle(agreement)]
+fn node_agrees(alloc: Global, it: &Comparison, new: &Core, old: &Core) -> Result<bool, Memory>
+    requires new { IsTrue (are_known (length it.now.new_types.now.shapes) new.now) }
+    requires old { IsTrue (are_known (length it.now.old_types.now.shapes) old.now) }
+    ensures { IfOk result (λ answer. IsTrue answer ↔ Agrees (rewriting it.now) [] (view it.now.new_types.now new.now) (view it.now.old_types.now old.now)) }
+{
     if !it.is_same_node(new, old) {
         return Ok(false);
     }
     let parts = parts_of(alloc, &new.form)?;
     let others = parts_of(alloc, &old.form)?;
     all_agree(alloc, it, old, &parts, &others)
+}
+
+fn no_run_stands_below(
+    alloc: Global,
+    it: &Comparison,
+    above: &Core,
+    part: &Core,
+) -> Result<bool, Memory>
+    ensures { IfOk result (λ answer. (types : Table) → IsTrue answer ↔ (standing.runs_below it.now.runs.now (label_of (view types above.now)) (spans_of (view types above.now)) (view types part.now) ≡ [])) }
+{
+    let runs = runs_below(alloc, it.runs, above, part)?;
+    Ok(runs.is_empty())
 }
 
 /// Whether parts of a node agree one by one with those of an old node.
