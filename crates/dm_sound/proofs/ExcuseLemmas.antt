@@ -23,13 +23,14 @@ use Rattle.dm_meaning.specs.Steps.{opened, status_of, lacks_value, gone_back, ha
 use Rattle.dm_meaning.proofs.AmongLemmas.{among-map_from}
 use Rattle.dm_meaning.proofs.FormLemmas.{one_tree_has, first_tree_has, option_tree_has, if_tree_has}
 use Rattle.dm_meaning.proofs.StateLemmas.{from_steps}
-use Rattle.dm_sound.specs.Excuses.{results_in, IsExcused, IsExcusedMove, results_at, IsExcusedStep}
+use Rattle.dm_sound.specs.Excuses.{results_in, IsExcused, IsExcusedMove, results_at, IsExcusedStep, HandsBackValues}
 use Rattle.dm_sound.specs.TypedSteps.{IsResult}
 use Rattle.dm_sound.specs.TypedRuns.{IsTypedProgram, MoveFits, result_of}
-use Rattle.dm_sound.specs.TypedStates.{TaskFits, TasksFit, IsTypedState}
+use Rattle.dm_sound.specs.TypedStates.{TaskFits, TasksFit, AreTypedCallers, IsTypedState}
+use Rattle.dm_sound.specs.TypedValues.{IsGiven}
 use Rattle.dm_sound.proofs.FailLemmas.{truth_excused, moves_excused}
 use Rattle.dm_sound.proofs.RunLemmas.{moves_fit}
-use Rattle.dm_sound.proofs.TaskLemmas.{unfolded_fit}
+use Rattle.dm_sound.proofs.TaskLemmas.{unfolded_fit, given_back}
 
 -- ---- steps that go on
 
@@ -210,3 +211,15 @@ step_excused program sound state other t step place e =
     let from = from_steps state.standing _ other step.2 in
     task_excused program sound state t from.0 step.0 (unfolded state.frame.tasks)
     (unfolded_fit program (bare (result_of program state.frame.function)) state.world.memory state.frame.tasks t.frame.tasks) other from.1 (place, e)
+
+-- ---- returns
+
+-- no call lacks a value that it needs
+pub hands_back_values : (program : Program) (state : State) → IsTypedState program state → HandsBackValues state
+hands_back_values program state t value rest caller callers e c h =
+    let f = state.frame.function in
+    let now = state.world.memory in
+    let tasks = subst (TasksFit program now (bare (result_of program f))) e t.frame.tasks in
+    let waits = subst (AreTypedCallers program now f) c t.callers in
+    let back = given_back (layout program) (result_of program f) waits.0.result waits.0.covered value tasks.0 in
+    (subst (λ (type : CType). IsGiven (layout program) type value) (sym waits.0.gives) back).set h
