@@ -18,17 +18,19 @@ use Rattle.dm_meaning.specs.Operations.{Result, Objects, Scene, Truth, holds, un
 use Rattle.dm_meaning.specs.Running.{Run, done, to_do, begun, locks_in, Hole}
 use Rattle.dm_meaning.specs.Expressions.{Move, goes, calls, fails, exits, by_truth, value_of, moves}
 use Rattle.dm_meaning.specs.States.{Use, drops, chooses, selects, repeats, continues, returns, initialises, Task, begins, declares, initials, evaluates, again, tests, ends, ends_switch, leaves, skips, hands_back, Caller, State}
-use Rattle.dm_meaning.specs.Statements.{Turned, onward, refused, type_declared, items_tasks, unlabelled, on_one_tree, on_first_tree, on_option_tree, on_tree_if, returning, begin_form, begin_tree, begin_statement, begin_declarator, begin_initialiser, initial_value, selected_by, by_test, begins_one, concluded, unfolded, ended, after_break, after_continue}
+use Rattle.dm_meaning.specs.Statements.{Turned, onward, refused, type_declared, items_tasks, unlabelled, returning, begin_form, begin_tree, begin_statement, begin_declarator, begin_initialiser, initial_value, selected_by, by_test, begins_one, concluded, unfolded, ended, after_break, after_continue}
 use Rattle.dm_meaning.specs.Steps.{opened, status_of, lacks_value, gone_back, handed_back, is_main, gives_nothing, body_place, no_place, closed, turned, moved, scene_of, expression_steps, task_steps, Step}
 use Rattle.dm_meaning.proofs.AmongLemmas.{among-map_from}
+use Rattle.dm_meaning.proofs.FormLemmas.{one_tree_has, first_tree_has, option_tree_has, if_tree_has}
 use Rattle.dm_meaning.proofs.StateLemmas.{from_steps}
-use Rattle.dm_sound.specs.Excuses.{results_in, IsExcused, IsExcusedMove, results_at, IsExcusedStep}
+use Rattle.dm_sound.specs.Excuses.{results_in, IsExcused, IsExcusedMove, results_at, IsExcusedStep, HandsBackValues}
 use Rattle.dm_sound.specs.TypedSteps.{IsResult}
 use Rattle.dm_sound.specs.TypedRuns.{IsTypedProgram, MoveFits, result_of}
-use Rattle.dm_sound.specs.TypedStates.{TaskFits, TasksFit, IsTypedState}
+use Rattle.dm_sound.specs.TypedStates.{TaskFits, TasksFit, AreTypedCallers, IsTypedState}
+use Rattle.dm_sound.specs.TypedValues.{IsGiven}
 use Rattle.dm_sound.proofs.FailLemmas.{truth_excused, moves_excused}
 use Rattle.dm_sound.proofs.RunLemmas.{moves_fit}
-use Rattle.dm_sound.proofs.TaskLemmas.{unfolded_fit}
+use Rattle.dm_sound.proofs.TaskLemmas.{unfolded_fit, given_back}
 
 -- ---- steps that go on
 
@@ -37,45 +39,26 @@ abbrev IsOnward : Turned → Type 0
 IsOnward (onward objects tasks memory) = Unit {0}
 IsOnward (refused cause place) = ⊥
 
-one_on : (trees : List Tree) (following : Tree → Turned) (otherwise : Turned) → ((x : Tree) → IsOnward (following x)) → IsOnward otherwise → IsOnward (on_one_tree trees following otherwise)
-one_on [] following otherwise h k = k
-one_on (x ∷ []) following otherwise h k = h x
-one_on (x ∷ y ∷ rest) following otherwise h k = k
-
-first_on : (trees : List Tree) (following : Tree → List Tree → Turned) (otherwise : Turned) → ((x : Tree) (xs : List Tree) → IsOnward (following x xs)) → IsOnward otherwise → IsOnward (on_first_tree trees following otherwise)
-first_on [] following otherwise h k = k
-first_on (x ∷ rest) following otherwise h k = h x rest
-
-option_on : (trees : List Tree) (following : Option Tree → Turned) (otherwise : Turned) → ((x : Option Tree) → IsOnward (following x)) → IsOnward otherwise → IsOnward (on_option_tree trees following otherwise)
-option_on [] following otherwise h k = h None
-option_on (x ∷ []) following otherwise h k = h (Some x)
-option_on (x ∷ y ∷ rest) following otherwise h k = k
-
-if_on : (there : Bool) (trees : List Tree) (following : Option Tree → List Tree → Turned) (otherwise : Turned) → ((x : Option Tree) (xs : List Tree) → IsOnward (following x xs)) → IsOnward otherwise → IsOnward (on_tree_if there trees following otherwise)
-if_on false trees following otherwise h k = h None trees
-if_on true [] following otherwise h k = k
-if_on true (x ∷ rest) following otherwise h k = h (Some x) rest
-
 module _ (program : Program) (names : ℕ → ℕ) (objects : Objects) (rest : List Task) (memory : Memory) where
   return_on : (o : Option Tree) → IsOnward (returning objects memory o)
   return_on None = tt
   return_on (Some tree) = tt
 
   form_on : (label : Label) (trees : List Tree) → IsOnward (begin_form program names objects rest memory label trees)
-  form_on full trees = one_on trees _ _ (λ x. tt) tt
-  form_on if_statement trees = first_on trees _ _ (λ x xs. first_on xs _ _ (λ y ys. option_on ys _ _ (λ z. tt) tt) tt) tt
-  form_on switch trees = first_on trees _ _ (λ x xs. tt) tt
-  form_on while_loop trees = first_on trees _ _ (λ x xs. one_on xs _ _ (λ y. tt) tt) tt
-  form_on do_loop trees = first_on trees _ _ (λ x xs. one_on xs _ _ (λ y. tt) tt) tt
-  form_on (for_loop first second third) trees = if_on first trees _ _ (λ x xs. if_on second xs _ _ (λ y ys. if_on third ys _ _ (λ z zs. one_on zs _ _ (λ body. tt) tt) tt) tt) tt
-  form_on return trees = option_on trees _ _ return_on tt
+  form_on full trees = one_tree_has IsOnward trees _ _ (λ x. tt) tt
+  form_on if_statement trees = first_tree_has IsOnward trees _ _ (λ x xs. first_tree_has IsOnward xs _ _ (λ y ys. option_tree_has IsOnward ys _ _ (λ z. tt) tt) tt) tt
+  form_on switch trees = first_tree_has IsOnward trees _ _ (λ x xs. tt) tt
+  form_on while_loop trees = first_tree_has IsOnward trees _ _ (λ x xs. one_tree_has IsOnward xs _ _ (λ y. tt) tt) tt
+  form_on do_loop trees = first_tree_has IsOnward trees _ _ (λ x xs. one_tree_has IsOnward xs _ _ (λ y. tt) tt) tt
+  form_on (for_loop first second third) trees = if_tree_has IsOnward first trees _ _ (λ x xs. if_tree_has IsOnward second xs _ _ (λ y ys. if_tree_has IsOnward third ys _ _ (λ z zs. one_tree_has IsOnward zs _ _ (λ body. tt) tt) tt) tt) tt
+  form_on return trees = option_tree_has IsOnward trees _ _ return_on tt
   form_on label trees = tt
 
   tree_on : (tree : Tree) → IsOnward (begin_tree program names objects rest memory tree)
   tree_on (node label kind spans parts) = form_on label (listed parts)
 
   initialiser_on : (at : At) (kind : CType) (initialiser : Initialiser) (trees : List Tree) → IsOnward (begin_initialiser program objects rest memory at kind initialiser trees)
-  initialiser_on at kind one_expression trees = one_on trees _ _ (λ x. tt) tt
+  initialiser_on at kind one_expression trees = one_tree_has IsOnward trees _ _ (λ x. tt) tt
   initialiser_on at kind (in_braces items) trees = tt
 
 break_on : (objects : Objects) (memory : Memory) (tasks : List Task) → IsOnward (after_break objects memory tasks)
@@ -228,3 +211,15 @@ step_excused program sound state other t step place e =
     let from = from_steps state.standing _ other step.2 in
     task_excused program sound state t from.0 step.0 (unfolded state.frame.tasks)
     (unfolded_fit program (bare (result_of program state.frame.function)) state.world.memory state.frame.tasks t.frame.tasks) other from.1 (place, e)
+
+-- ---- returns
+
+-- no call lacks a value that it needs
+pub hands_back_values : (program : Program) (state : State) → IsTypedState program state → HandsBackValues state
+hands_back_values program state t value rest caller callers e c h =
+    let f = state.frame.function in
+    let now = state.world.memory in
+    let tasks = subst (TasksFit program now (bare (result_of program f))) e t.frame.tasks in
+    let waits = subst (AreTypedCallers program now f) c t.callers in
+    let back = given_back (layout program) (result_of program f) waits.0.result waits.0.covered value tasks.0 in
+    (subst (λ (type : CType). IsGiven (layout program) type value) (sym waits.0.gives) back).set h

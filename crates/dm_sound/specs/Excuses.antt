@@ -2,12 +2,14 @@
 --     results_in run      the results in a tree under evaluation
 --     IsExcused layout memory given      why that is so beside these results
 --     IsExcusedStep program state other      why that is so of a step of a state
-use Rattle.std.specs.Prelude.{◌≡◌, ◌⊎◌, List, [], ◌∷◌, ◌++◌, Err}
+--     HandsBackValues state      what a function hands back is there where it is needed
+use Rattle.std.specs.Prelude.{◌≡◌, ◌⊎◌, false, IsTrue, List, [], ◌∷◌, ◌++◌, Err}
 use Rattle.dm_token.specs.declared.place.Place.{Place}
 use Rattle.dm_meaning.specs.declared.cause.Cause.TheVariants.{OtherType}
 use Rattle.dm_meaning.specs.Among.{IsAmong}
 use Rattle.dm_meaning.specs.Machines.{undefined}
-use Rattle.dm_meaning.specs.Values.{At, to, pointer_value}
+use Rattle.dm_meaning.specs.Values.{At, to, Value, pointer_value}
+use Rattle.dm_meaning.specs.Causes.{is_unset}
 use Rattle.dm_meaning.specs.Objects.{Layout}
 use Rattle.dm_meaning.specs.Memory.{Memory, look}
 use Rattle.dm_meaning.specs.Primitives.{most_in, text_at}
@@ -15,9 +17,10 @@ use Rattle.dm_meaning.specs.Programs.{Program, layout}
 use Rattle.dm_meaning.specs.Operations.{Result, of_value}
 use Rattle.dm_meaning.specs.Running.{Run, done, to_do, Runs, no_runs, more_runs}
 use Rattle.dm_meaning.specs.Expressions.{Move, goes, calls, fails, exits}
-use Rattle.dm_meaning.specs.States.{Task, evaluates, State}
+use Rattle.dm_meaning.specs.States.{Task, evaluates, hands_back, Caller, State}
 use Rattle.dm_meaning.specs.Statements.{unfolded}
 use Rattle.dm_sound.specs.TypedSteps.{IsMistyped, IsTooFar}
+use Rattle.dm_sound.specs.TypedValues.{own_type, has_values}
 
 abbrev mutual
   pub results_in : Run → List Result
@@ -54,3 +57,9 @@ abbrev pub IsExcusedStep : Program → State → State → Type 0
 IsExcusedStep program state other =
     (place : Place) → other.standing ≡ undefined OtherType place
     → IsExcused (layout program) state.world.memory (results_at (unfolded state.frame.tasks))
+
+-- where a function hands back a value to a call whose type has values, that value was set (6.9.1p12)
+abbrev pub HandsBackValues : State → Type 0
+HandsBackValues state =
+    (value : Value) (rest : List Task) (caller : Caller) (callers : List Caller) → state.frame.tasks ≡ hands_back value ∷ rest
+    → state.callers ≡ caller ∷ callers → IsTrue (has_values (own_type caller.kind)) → is_unset value ≡ false

@@ -67,7 +67,7 @@ pub fn typed_unit()
 {}
 
 /// The state in which `main` of `int c; int main(void) {}` runs, and the step to the state behind it, meet each premise of
-/// `steps_keep_states_typed`, `typed_steps_are_never_ill` and `runs_stay_typed`.
+/// `steps_keep_states_typed`, `typed_steps_are_never_ill`, `typed_calls_get_their_values` and `runs_stay_typed`.
 pub fn typed_state()
     ensures program { IsTypedProgram examples.running }
     ensures state { IsTypedState examples.running examples.beginning }

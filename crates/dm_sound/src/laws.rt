@@ -23,7 +23,7 @@ ghost use Rattle.dm_meaning.specs.Steps.{Step, opened_memory};
 ghost use Rattle.dm_meaning.specs.Units.{Begins, machine_of, program_of};
 ghost use Rattle.dm_meaning.specs.Values.{At, Value, literal_of};
 ghost use Rattle.dm_meaning.specs.Wholes.{is_expression};
-ghost use Rattle.dm_sound.specs.Excuses.{IsExcusedMove, IsExcusedStep, results_in};
+ghost use Rattle.dm_sound.specs.Excuses.{HandsBackValues, IsExcusedMove, IsExcusedStep, results_in};
 ghost use Rattle.dm_sound.specs.SameTables.{AreSameStructs, over};
 ghost use Rattle.dm_sound.specs.TypedRuns.{ArgumentsFit, ComesFrom, HoleComesFrom, IsProperUnit, IsTypedProgram, IsTypedWorld, MoveFits};
 ghost use Rattle.dm_sound.specs.TypedStates.{IsTypedState};
@@ -143,6 +143,11 @@ pub fn typed_programs_run_typed()
 pub fn typed_steps_are_never_ill()
     ensures { (program : Program) (state other : State) → IsTypedProgram program → IsTypedState program state → Step program state other
         → IsExcusedStep program state other }
+{}
+
+/// In a typed state, what a function hands back to a call was set, where the call's type has values: no call lacks a value.
+pub fn typed_calls_get_their_values()
+    ensures { (program : Program) (state : State) → IsTypedState program state → HandsBackValues state }
 {}
 
 /// Over tables that say the same of structs a program's types are laid out alike, and its constant expressions have the same values. Nothing
