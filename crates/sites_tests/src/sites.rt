@@ -11,12 +11,12 @@ use std::alloc::Global;
 use std::test::Fail;
 
 /// Some tokens.
-fn span(first: u32, after: u32) -> Span {
+fn tokens(first: u32, after: u32) -> Span {
     Span { first, after }
 }
 
 /// A token of the only line of a file.
-fn place(token: u32) -> Place {
+fn place_of(token: u32) -> Place {
     Place {
         file: 0,
         byte: token,
@@ -30,9 +30,9 @@ fn node(form: Form, kind: TypeId, first: u32, after: u32) -> Core {
     Core {
         form,
         kind,
-        inner: span(first, after),
-        outer: span(first, after),
-        place: place(first),
+        inner: tokens(first, after),
+        outer: tokens(first, after),
+        place: place_of(first),
     }
 }
 
@@ -58,7 +58,7 @@ fn object(alloc: Global, int: TypeId, fixed: bool) -> Result<Declared, Memory> {
         sort: Sort::Object { fixed },
         kind: int,
         linkage: Linkage::Absent,
-        place: place(0),
+        place: place_of(0),
     })
 }
 
@@ -71,7 +71,7 @@ fn declaration(alloc: Global, value: Core) -> Result<CoreExternal, Memory> {
         initial: Some(Initial::Value(Boxed::new(alloc, value)?)),
     })?;
     Ok(CoreExternal {
-        span: span(0, 5),
+        span: tokens(0, 5),
         constants: List::new(alloc),
         form: CoreExternalForm::Declaration(locals),
     })
@@ -83,7 +83,7 @@ fn function(alloc: Global, int: TypeId, value: Core) -> Result<CoreExternal, Mem
     let mut items = List::new(alloc);
     items.push(node(Form::Return(Some(value)), int, 10, 40))?;
     Ok(CoreExternal {
-        span: span(5, 41),
+        span: tokens(5, 41),
         constants: List::new(alloc),
         form: CoreExternalForm::Function {
             function: 2,
@@ -113,17 +113,17 @@ fn places_are_found_by_their_tokens(rt: HostRuntime) -> Result<(), Fail> {
     let mut types = Types::new(rt.alloc())?;
     let int = types.intern(Shape::Integer(Kind::Int))?;
     let one = Boxed::new(rt.alloc(), node(Form::Number(1), int, 11, 12))?;
-    let read = enclosed_read(rt.alloc(), int, 14, span(13, 16))?;
+    let read = enclosed_read(rt.alloc(), int, 14, tokens(13, 16))?;
     let read = Boxed::new(rt.alloc(), read)?;
     let sum = node(Form::Binary(Op::Add, one, read), int, 11, 16);
     let unit = unit(rt.alloc(), int, sum)?;
     let sites = Sites::of(rt.alloc(), &unit)?;
-    assert_eq!(rt; sites.find(span(3, 4)), Some(0));
-    assert_eq!(rt; sites.find(span(11, 16)), Some(1));
-    assert_eq!(rt; sites.find(span(11, 12)), Some(2));
-    assert_eq!(rt; sites.find(span(14, 15)), Some(3));
-    assert_eq!(rt; sites.find(span(13, 16)), Some(3));
-    assert_eq!(rt; sites.find(span(13, 15)), None);
+    assert_eq!(rt; sites.find(tokens(3, 4)), Some(0));
+    assert_eq!(rt; sites.find(tokens(11, 16)), Some(1));
+    assert_eq!(rt; sites.find(tokens(11, 12)), Some(2));
+    assert_eq!(rt; sites.find(tokens(14, 15)), Some(3));
+    assert_eq!(rt; sites.find(tokens(13, 16)), Some(3));
+    assert_eq!(rt; sites.find(tokens(13, 15)), None);
     let way = sites.path(rt.alloc(), 4)?;
     assert!(rt; way.items() == [1usize, 0].as_slice());
     let Some(site) = sites.get(0) else {
@@ -146,8 +146,8 @@ fn a_hundred_thousand_commas_are_walked_over(rt: HostRuntime) -> Result<(), Fail
     }
     let unit = unit(rt.alloc(), int, tree)?;
     let sites = Sites::of(rt.alloc(), &unit)?;
-    assert_eq!(rt; sites.find(span(20, 30)), Some(1));
-    assert_eq!(rt; sites.find(span(20, 21)), Some(100001));
+    assert_eq!(rt; sites.find(tokens(20, 30)), Some(1));
+    assert_eq!(rt; sites.find(tokens(20, 21)), Some(100001));
     let way = sites.path(rt.alloc(), 100001)?;
     assert_eq!(rt; way.items().len(), 100000);
     Ok(())
