@@ -13,7 +13,7 @@ use Rattle.dm_tree.specs.Trees.{Label, Spans, Tree, Trees, node, no_trees, more_
 use Rattle.dm_tree.specs.TypeNumbers.{are_known}
 use Rattle.dm_tree.specs.Views.{Opened, opened, opened_form, view}
 use Rattle.dm_tree.proofs.ViewLemmas.{view-core, opened-Comma}
-use Rattle.dm_align.specs.Agreement.{Rewriting, Added, nothing, added_enumerator, added_constant, SameNode, IsReadOf, AtRun, Agrees, AllAgree, Passes}
+use Rattle.dm_align.specs.Agreement.{Rewriting, Added, added_enumerator, added_constant, SameNode, IsReadOf, AtRun, Agrees, AllAgree, Passes}
 use Rattle.dm_align.specs.Parts.{nows, are_all_known}
 use Rattle.dm_align.specs.Runs.{runs_in}
 use Rattle.dm_align.specs.Standing.{runs_below}
@@ -31,9 +31,6 @@ at-run : (it : Rewriting) (added : Added) → it.added ≡ added → (run : Run)
     → AtRun it added run inner (label_of new) (kind_of new) (trees_of new) other (Passes it (trees_of new) run inner other) ↔ Agrees it (run ∷ inner) new other
 at-run it added is run inner (node label kind spans parts) other =
     subst (λ (one : Added). AtRun it one run inner label kind parts other (Passes it parts run inner other) ↔ Agrees it (run ∷ inner) (node label kind spans parts) other) is itself
-
-pub at-nothing : (it : Rewriting) → it.added ≡ nothing → (run : Run) (inner : List Run) (new other : Tree) → Agrees it (run ∷ inner) new other → ⊥
-at-nothing it is run inner new other agrees = (at-run it nothing is run inner new other).1 agrees
 
 pub at-enumerator : (it : Rewriting) (d : ℕ) (value : ℤ) → it.added ≡ added_enumerator d value → (run : Run) (inner : List Run) (new other : Tree)
     → ((label_of new ≡ label.enumerator d) × (kind_of new ≡ kind_of other) × (trees_of new ≡ no_trees) × (it.value other ≡ Some value)) ↔ Agrees it (run ∷ inner) new other
