@@ -366,8 +366,3 @@ module _ (change : Called) (added : IsAdded change) (objects others : Objects) (
       agrees = h.2;
       steps = λ all m k. runs_matched [] beside only_closed every (λ e. absurd (cc)) rest inner h.2 all m k;
     }
-
-  -- A tree that may be a parameter's read as a whole.
-  pub whole_matched : (beside : List Effect) (run other : Run) → PartAgrees change stage mode world beside run other → AllFirst stage world locks other → (m : Move Run Hole) → IsAmong m (moves scene world fewer run)
-      → PartHere beside other m
-  whole_matched beside run other h shut m k = part_matched beside run other h (λ agrees x among_x. run_matched beside run other agrees shut x among_x) m k
