@@ -4,3 +4,5 @@ pub mod StepLemmas
 pub mod FollowLemmas
 pub mod CallLemmas
 pub mod ViewLemmas
+pub mod StageLemmas
+pub mod StatementCalls
