@@ -1,20 +1,19 @@
 -- The lengths and enumerator values that the typing of a part collects stand in its syntax, one behind the other.
-use Rattle.std.specs.Prelude.{◌≡◌, ℕ, ◌+◌, ◌<◌, ◌≤◌, ℤ, pos, Bool, true, false, ◌&&◌, not, if◌then◌else◌, List, [], ◌∷◌, ◌++◌, length, Option, Some, None, is_some, option_and_then, unwrap_or, refl}
-use Rattle.std.proofs.Common.{sym, ap, ◌∙◌, subst, arith, append_assoc}
+use Rattle.std.specs.Prelude.{◌≡◌, ℕ, ◌≤◌, ℤ, Bool, true, false, ◌&&◌, not, if◌then◌else◌, List, [], ◌∷◌, ◌++◌, Option, Some, None, is_some, option_and_then, refl}
+use Rattle.std.proofs.Common.{sym, ap, ◌∙◌, subst, append_assoc}
 use Rattle.dm_token.specs.declared.place.Span.{Span}
 use Rattle.dm_int.specs.declared.Kind.TheVariants as k
 use Rattle.dm_type.specs.CTypes.{CType, integer}
 use Rattle.dm_type.specs.Layouts.{struct_layout}
-use Rattle.dm_scope.specs.Scopes.{Scopes}
 use Rattle.dm_syn.specs.Sources.{spelling_at}
 use Rattle.dm_tree.specs.Scenes.{is_integer, is_function}
-use Rattle.dm_tree.specs.Trees.{Tree, spans_of}
+use Rattle.dm_tree.specs.Trees.{Tree}
 use Rattle.dm_tree.specs.Units.{Declaration}
 use Rattle.dm_effect.specs.Spans.{StandBetween}
 use Rattle.dm_typing.specs.Known.{Known, Setting, Outcome, given, broken, after, with_it, obeys, if_given, declaring}
 use Rattle.dm_typing.specs.Conversions.{is_complete, constant_of}
-use Rattle.dm_typing.specs.Specifiers.{Said, type_said, are_allowed, with_said_const, Where}
-use Rattle.dm_typing.specs.Typing.{number_if_struct, tag_declared, new_struct, struct_named, enum_named, with_new_struct, beginning, TypedMember, typed_field, fields, struct_ended, is_int, enumerator_entry, enumerator_declared, with_constant, enumerator_valued, TypedParameter, Step, pointing, arraying, calling, stepped, derived, length_fits, is_result, natural, length_of, adjusted, is_new_parameter, parameter_declared, typed_parameter, entered, left, typed_said, TypedName, name_ended}
+use Rattle.dm_typing.specs.Specifiers.{Said, type_said, are_allowed, Where}
+use Rattle.dm_typing.specs.Typing.{number_if_struct, tag_declared, new_struct, struct_named, enum_named, with_new_struct, beginning, TypedMember, typed_field, fields, struct_ended, is_int, enumerator_entry, enumerator_declared, with_constant, enumerator_valued, Step, pointing, arraying, calling, stepped, derived, length_fits, is_result, natural, length_of, adjusted, is_new_parameter, parameter_declared, typed_parameter, entered, left, typed_said, TypedName, name_ended}
 use Rattle.dm_scoped.proofs.SpanLemmas.{row-wider, row-append}
 
 -- ---- what is given

@@ -1,38 +1,35 @@
 -- The names in declarations are in scope.
-use Rattle.std.specs.Prelude.{◌≡◌, ℕ, ◌==◌, Bool, true, false, ◌||◌, ◌&&◌, not, if◌then◌else◌, List, [], ◌∷◌, ◌++◌, map, replicate, length, Option, Some, None, slice_get, refl}
-use Rattle.std.specs.List.{list_any, list_all}
-use Rattle.std.proofs.Common.{sym, ap, ◌∙◌, subst, arith}
+use Rattle.std.specs.Prelude.{◌≡◌, ℕ, Bool, true, false, if◌then◌else◌, List, [], ◌∷◌, ◌++◌, length, Option, Some, None, refl}
+use Rattle.std.proofs.Common.{sym, ◌∙◌, subst, arith}
 use Rattle.dm_token.specs.declared.place.Span.{Span}
 use Rattle.dm_type.specs.CTypes.{CType}
 use Rattle.dm_scope.specs.Scopes.{Scopes}
 use Rattle.dm_syn.specs.Sources.{spelling_at}
-use Rattle.dm_syn.specs.Spans.{declarator_span, declaration_span}
+use Rattle.dm_syn.specs.Spans.{declarator_span}
 use Rattle.dm_syn.specs.Trees.{Specifiers, Declarator, Initialiser, Item}
 use Rattle.dm_syn.specs.Trees as tree
 use Rattle.dm_tree.specs.declared.unit.Linkage.{Linkage}
 use Rattle.dm_tree.specs.declared.unit.Linkage.TheVariants.{External}
 use Rattle.dm_tree.specs.Initialisers.{is_fixed, expressions_of as count_expressions}
 use Rattle.dm_tree.specs.Scenes.{is_function}
-use Rattle.dm_tree.specs.Trees.{Tree, trees}
-use Rattle.dm_tree.specs.Trees as label
+use Rattle.dm_tree.specs.Trees.{Tree}
 use Rattle.dm_tree.specs.Typing.{has_linkage}
 use Rattle.dm_tree.specs.Units.{Declaration}
 use Rattle.dm_meaning.specs.Statements.{is_automatic_sort}
-use Rattle.dm_effect.specs.Scoped.{Scope, is_in_scope, declared_by, scopes_of_initialisers, is_scoped, are_scoped}
 use Rattle.dm_typing.specs.Known.{Known, Setting, meaning_of}
 use Rattle.dm_typing.specs.Conversions.{is_complete}
 use Rattle.dm_typing.specs.Specifiers.{Where, of_declaration, nothing_said}
-use Rattle.dm_typing.specs.Typing.{is_file_scope, words_said, typed_said, steps_of, derived}
-use Rattle.dm_edecl.specs.Standing.{Standing, Progress, goes_on, stops, further, typing, collecting, keeps}
-use Rattle.dm_edecl.specs.Linkages.{Storage, unsaid, typedef, extern, static, is_static, linkage_before, linkage_of, sort_of, entry_of, kind_seen, number_here, declared_here, object_here}
+use Rattle.dm_typing.specs.Typing.{is_file_scope, words_said, typed_said, steps_of}
+use Rattle.dm_edecl.specs.Standing.{Standing, Progress, stops, typing}
+use Rattle.dm_edecl.specs.Linkages.{Storage, unsaid, typedef, extern, static, linkage_before, linkage_of, sort_of, entry_of, kind_seen, number_here, declared_here, object_here}
 use Rattle.dm_edecl.specs.Initialising.{Initial, completed, expressions_alone, typed_initialiser}
-use Rattle.dm_edecl.specs.Declaring.{Specified, specified_by, specified, is_alone, typed_declarator, name_at, defines_object, declarable, Local, local_plain, local_initialised, with_lengths, may_be_initialised, may_define, object_defined, initialised, item_plain, item_initialised, item_with, typed_item, typed_items, Declared, declarators_of, expressions_of, constants_of, declared_by as all_declared, typed_declaration}
+use Rattle.dm_edecl.specs.Declaring.{Specified, specified, is_alone, typed_declarator, name_at, defines_object, declarable, Local, local_plain, local_initialised, with_lengths, may_be_initialised, may_define, object_defined, item_plain, item_initialised, item_with, typed_item, typed_items, Declared, constants_of, typed_declaration}
 use Rattle.dm_scoped.proofs.OverLemmas.{Every}
-use Rattle.dm_scoped.proofs.ScopeLemmas.{Grown, Has, has-later, has-wider, IsWider, Sees}
-use Rattle.dm_scoped.proofs.StepLemmas.{Fits, fits-before, Covers, IsScopedIn, every-later, each-scoped, both-true, Step, Gives, Any, AllScoped, after-gives, with-gives}
+use Rattle.dm_scoped.proofs.ScopeLemmas.{Grown, Has, has-later, IsWider, Sees}
+use Rattle.dm_scoped.proofs.StepLemmas.{IsScopedIn, every-later, Gives, Any, AllScoped, after-gives, with-gives}
 use Rattle.dm_scoped.proofs.ExpressionLemmas.{words-scoped, said-gives, declarator-scoped, derived-gives}
 use Rattle.dm_scoped.proofs.InitialiserLemmas.{IsScopedInitial, initialiser-scoped, alone-scoped}
-use Rattle.dm_scoped.proofs.StandingLemmas.{IsStatic, static-later, Holds, Moves, Leads, moves-none, moves-through, leads-so, leads-from, stops-lead, further-leads, keeps-leads, typing-leads, collecting-leads, IsLasting, named-has, linked-static, declared-moves, object-moves}
+use Rattle.dm_scoped.proofs.StandingLemmas.{IsStatic, static-later, Holds, Moves, Leads, moves-none, leads-so, leads-from, stops-lead, further-leads, keeps-leads, typing-leads, collecting-leads, named-has, linked-static, declared-moves, object-moves}
 
 -- ---- which declarations are automatic (6.2.4p3)
 

@@ -1,12 +1,11 @@
 -- The names in expressions are in scope, and what type names and declarators declare isn't automatic: by induction over the syntax.
-use Rattle.std.specs.Prelude.{◌≡◌, ℕ, ℤ, pos, ◌+ℤ◌, negsuc, Bool, true, false, ◌&&◌, not, if◌then◌else◌, List, [], ◌∷◌, ◌++◌, length, Option, Some, None, is_some, option_and_then, slice_get, unwrap_or, bytes_eq, codes, refl}
-use Rattle.std.proofs.Common.{cond}
+use Rattle.std.specs.Prelude.{ℕ, ℤ, pos, ◌+ℤ◌, negsuc, Bool, true, false, ◌&&◌, not, if◌then◌else◌, List, [], ◌∷◌, length, Option, Some, None, is_some, option_and_then, slice_get, refl}
 use Rattle.dm_token.specs.declared.place.Span.{Span}
 use Rattle.dm_int.specs.declared.Kind.TheVariants as k
 use Rattle.dm_int.specs.declared.Op.{Op}
 use Rattle.dm_int.specs.declared.Op.TheVariants as o
 use Rattle.dm_token.specs.declared.token.CToken.{CToken}
-use Rattle.dm_type.specs.CTypes.{CType, integer, pointer, bare, struct as struct_type}
+use Rattle.dm_type.specs.CTypes.{CType, integer, bare, struct as struct_type}
 use Rattle.dm_type.specs.Layouts.{struct_layout}
 use Rattle.dm_syn.specs.declared.symbol.Symbol.{Symbol}
 use Rattle.dm_syn.specs.declared.symbol.Symbol.TheVariants as symbol
@@ -15,22 +14,20 @@ use Rattle.dm_syn.specs.Spans.{expr_span, declarator_span}
 use Rattle.dm_syn.specs.Scopes.{declarator_name}
 use Rattle.dm_syn.specs.Trees.{Expr, Exprs, TypeName, Specifiers, Words, Specifier, Members, Member, Declarators, Enumerators, Enumerator, Declarator, Direct, Parameters, Parameter}
 use Rattle.dm_syn.specs.Trees as tree
-use Rattle.dm_tree.specs.Initialisers.{is_function_sort}
 use Rattle.dm_tree.specs.Scenes.{is_lvalue, is_integer, is_scalar, is_function}
 use Rattle.dm_tree.specs.Trees.{Label, Tree, label_of, kind_of}
 use Rattle.dm_tree.specs.Trees as label
 use Rattle.dm_tree.specs.Units.{Declaration}
-use Rattle.dm_scope.specs.Scopes.{is_declared}
 use Rattle.dm_typing.specs.declared.extent.Extent.{Extent}
-use Rattle.dm_typing.specs.Known.{Known, Setting, Outcome, given, broken, after, with_it, obeys, if_given, meaning_of, tag_key, tag_entry, place_at}
-use Rattle.dm_typing.specs.Operators.{row_at, keyword_at, operator_of_row, operator_of_assignment, sign_of_row}
+use Rattle.dm_typing.specs.Known.{Known, Setting, Outcome, given, broken, after, if_given, meaning_of, tag_key, tag_entry, place_at}
+use Rattle.dm_typing.specs.Operators.{row_at, operator_of_row, operator_of_assignment, sign_of_row}
 use Rattle.dm_typing.specs.Conversions.{made, as_value, as_type, complete_target, is_complete, constant_of}
-use Rattle.dm_typing.specs.Rules.{Pair, indexed, member_by_name, is_modifiable, may_be_counted, signed, may_be_cast, operated, rule_of, arms, is_assignable, called, updated}
-use Rattle.dm_typing.specs.Specifiers.{Said, nothing_said, with_word, with_type, type_said, are_allowed, with_said_const, Where, elsewhere}
-use Rattle.dm_typing.specs.Typing.{constant_tree, literal_tree, index_tree, typed_index, typed_member, typed_arrow, is_plus_plus, typed_count, typed_address, typed_follow, typed_sign, typed_prefix, typed_sizeof, typed_sizeof_name, typed_cast, typed_operation, typed_logic, typed_binary, typed_choice, typed_store, typed_update, typed_assignment, is_name, is_function_label, typed_call, comma_tree, comma_of, number_if_struct, tag_declared, new_struct, tag_inside, tag_seen, struct_named, enum_named, with_new_struct, struct_begun, beginning, TypedMember, is_named, name_of, typed_field, fields, struct_ended, is_int, is_file_scope, enumerator_entry, enumerator_declared, with_constant, enumerator_valued, TypedParameter, Step as Made, arraying, calling, pointing, stepped, derived, length_fits, is_result, direct_at, natural, length_of, adjusted, without_void, parameter_entry, is_new_parameter, parameter_declared, typed_parameter, parameter_at, entered, left, typed_said, TypedName, name_ended, extent, typed, typed_within, typed_values, typed_name, typed_specifiers, words_said, word_said, fields_of, fields_declared, fields_with, enumerators_of, enumerator_of, steps_of, direct_steps, parameters_of, parameter_of}
+use Rattle.dm_typing.specs.Rules.{indexed, member_by_name, is_modifiable, may_be_counted, signed, may_be_cast, operated, rule_of, arms, is_assignable, called, updated}
+use Rattle.dm_typing.specs.Specifiers.{Said, nothing_said, with_type, type_said, are_allowed, Where, elsewhere}
+use Rattle.dm_typing.specs.Typing.{constant_tree, literal_tree, index_tree, typed_index, typed_member, typed_arrow, is_plus_plus, typed_count, typed_address, typed_follow, typed_sign, typed_prefix, typed_sizeof, typed_sizeof_name, typed_cast, typed_operation, typed_logic, typed_binary, typed_choice, typed_store, typed_update, typed_assignment, is_name, is_function_label, typed_call, comma_tree, comma_of, number_if_struct, tag_declared, new_struct, tag_inside, tag_seen, struct_named, enum_named, with_new_struct, struct_begun, beginning, TypedMember, typed_field, fields, struct_ended, is_int, enumerator_entry, enumerator_declared, with_constant, enumerator_valued, Step as Made, arraying, calling, pointing, stepped, derived, length_fits, is_result, direct_at, natural, length_of, adjusted, parameter_entry, is_new_parameter, parameter_declared, typed_parameter, parameter_at, entered, left, typed_said, name_ended, extent, typed, typed_within, typed_values, typed_name, typed_specifiers, words_said, word_said, fields_of, fields_declared, fields_with, enumerators_of, enumerator_of, steps_of, direct_steps, parameters_of, parameter_of}
 use Rattle.dm_scoped.proofs.OverLemmas.{Every, pair-of, signed-of, called-of, updated-of, value-kept, type-kept, operated-kept, arms-kept, signed-kept, called-kept, updated-kept}
 use Rattle.dm_scoped.proofs.ScopeLemmas.{Sees}
-use Rattle.dm_scoped.proofs.StepLemmas.{IsScopedIn, scoped-later, every-later, scoped-kept, made-scoped, cast-scoped, size-scoped, Step, Gives, Any, AllScoped, step-none, step-through, gives-so, stays, gives-from, after-gives, with-gives, obeys-gives, if-gives, test-gives, broken-gives, weaker-gives, declaring-step, all-pass, entered-sees, left-gives, name-gives}
+use Rattle.dm_scoped.proofs.StepLemmas.{IsScopedIn, scoped-later, scoped-kept, made-scoped, cast-scoped, size-scoped, Step, Gives, Any, AllScoped, step-none, gives-so, stays, gives-from, after-gives, with-gives, obeys-gives, if-gives, broken-gives, declaring-step, all-pass, entered-sees, left-gives, name-gives}
 
 -- ---- nodes on typed parts
 

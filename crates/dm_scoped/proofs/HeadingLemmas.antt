@@ -1,16 +1,15 @@
 -- The parameters of a function definition pass in its body: what the scope of its own parameters names is one of them, or isn't automatic.
-use Rattle.std.specs.Prelude.{◌≡◌, ℕ, ◌==◌, ◌⊎◌, Bool, true, false, ◌||◌, ◌&&◌, not, if◌then◌else◌, List, [], ◌∷◌, ◌++◌, length, Option, Some, None, is_some, unwrap_or, refl}
+use Rattle.std.specs.Prelude.{◌≡◌, ℕ, ◌==◌, ◌⊎◌, Bool, true, false, ◌||◌, ◌&&◌, not, if◌then◌else◌, List, [], ◌∷◌, ◌++◌, length, Option, Some, None, is_some, refl}
 use Rattle.std.specs.FinMap as map
-use Rattle.std.proofs.Common.{sym, ap, ◌∙◌, subst, inl, inr, ⊎_elim}
+use Rattle.std.proofs.Common.{sym, ◌∙◌, subst, inl, inr, ⊎_elim}
 use Rattle.dm_type.specs.CTypes.{CType, void}
 use Rattle.dm_type.specs.TableLaws.{injected}
-use Rattle.dm_name_map.specs.Numbers.{Numbers}
 use Rattle.dm_scope.specs.Scopes.{Scopes}
 use Rattle.dm_syn.specs.Sources.{spelling_at}
 use Rattle.dm_syn.specs.Spans.{expr_span}
 use Rattle.dm_syn.specs.Scopes.{declarator_name}
 use Rattle.dm_syn.specs.Statements.{own_in_pointers, own_parameters, own_in_direct}
-use Rattle.dm_syn.specs.Trees.{Expr, Specifiers, Declarator, Direct, Parameters, Parameter}
+use Rattle.dm_syn.specs.Trees.{Expr, Declarator, Direct, Parameters, Parameter}
 use Rattle.dm_syn.specs.Trees as tree
 use Rattle.dm_tree.specs.Scenes.{is_function}
 use Rattle.dm_tree.specs.Units.{Declaration}
@@ -18,13 +17,13 @@ use Rattle.dm_effect.specs.Scoped.{is_in_scope}
 use Rattle.dm_typing.specs.Known.{Known, Setting, Outcome, given, broken, after, with_it, obeys}
 use Rattle.dm_typing.specs.Conversions.{is_same, as_value}
 use Rattle.dm_typing.specs.Specifiers.{elsewhere}
-use Rattle.dm_typing.specs.Typing.{TypedParameter, Step as Made, arraying, calling, pointers, direct_at, derived, length_of, typed, adjusted, is_no_parameters, without_void, parameter_entry, is_new_parameter, parameter_declared, typed_parameter, parameter_at, entered, left, typed_specifiers, steps_of, direct_steps, parameters_of, parameter_of}
+use Rattle.dm_typing.specs.Typing.{TypedParameter, Step as Made, arraying, calling, pointers, direct_at, derived, length_of, typed, adjusted, without_void, parameter_entry, is_new_parameter, parameter_declared, entered, left, typed_specifiers, steps_of, direct_steps, parameters_of, parameter_of}
 use Rattle.dm_typing.proofs.KindLemmas.{numbers-same}
 use Rattle.dm_edecl.specs.Declaring.{typed_declarator}
 use Rattle.dm_edecl.specs.Units.{defined_parameters, own_defined, Heading, innermost, put_before, numbers_of, typed_heading}
 use Rattle.dm_edecl.proofs.ParameterLemmas.{SameAs, list-same}
-use Rattle.dm_scoped.proofs.ScopeLemmas.{Grown, grown-itself, grown-through, IsWider, SeesIn, Sees, sees-in, empty-sees, sees-first, sees-changes, in-changes}
-use Rattle.dm_scoped.proofs.StepLemmas.{IsScopedIn, Step, Gives, Any, step-none, step-through, gives-so, stays, after-gives, with-gives, weaker-gives, declaring-step, all-pass, entered-sees, left-gives}
+use Rattle.dm_scoped.proofs.ScopeLemmas.{Grown, grown-itself, grown-through, SeesIn, Sees, sees-in, empty-sees, sees-first, sees-changes, in-changes}
+use Rattle.dm_scoped.proofs.StepLemmas.{IsScopedIn, Step, Gives, Any, step-none, step-through, after-gives, with-gives, declaring-step, entered-sees, left-gives}
 use Rattle.dm_scoped.proofs.ExpressionLemmas.{expr-scoped, specifiers-scoped, declarator-scoped, direct-scoped, parameters-scoped, derived-gives, length-gives}
 use Rattle.dm_scoped.proofs.StandingLemmas.{none-pass}
 use Rattle.dm_scoped.proofs.StatementLemmas.{also, or-left, or-right, or-swap}

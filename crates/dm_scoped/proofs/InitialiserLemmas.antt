@@ -1,23 +1,22 @@
 -- The names in initialisers are in scope: by induction over the syntax.
-use Rattle.std.specs.Prelude.{◌≡◌, ℕ, zero, suc, ◌+◌, Bool, true, false, ◌||◌, not, if◌then◌else◌, List, [], ◌∷◌, ◌++◌, length, Option, Some, None, refl}
+use Rattle.std.specs.Prelude.{◌≡◌, ℕ, zero, suc, ◌+◌, Bool, true, ◌||◌, not, List, [], ◌∷◌, ◌++◌, length, Option, Some, None, refl}
 use Rattle.std.proofs.Common.{sym, ap, ◌∙◌, arith, length-append}
 use Rattle.dm_token.specs.declared.place.Span.{Span}
 use Rattle.dm_type.specs.CTypes.{CType}
-use Rattle.dm_scope.specs.Scopes.{Scopes}
 use Rattle.dm_syn.specs.Spans.{expr_span}
 use Rattle.dm_syn.specs.Trees.{Expr, Initialiser, Initialisers}
 use Rattle.dm_syn.specs.Trees as tree
 use Rattle.dm_tree.specs.Scenes.{is_scalar, part_type}
 use Rattle.dm_tree.specs.Trees.{Tree, expressions_in, expressions_in_items}
 use Rattle.dm_tree.specs.Units.{Declaration}
-use Rattle.dm_typing.specs.Known.{Known, Setting, Outcome, given, broken, after}
+use Rattle.dm_typing.specs.Known.{Known, Setting, Outcome}
 use Rattle.dm_typing.specs.Conversions.{as_value, as_type}
 use Rattle.dm_typing.specs.Rules.{is_assignable}
 use Rattle.dm_typing.specs.Typing.{typed}
 use Rattle.dm_edecl.specs.Initialising.{Initial, Initials, no_initials, with_first, enclosed, single, is_static_value, has_value, scalar_initialised, is_string_for, initialised_by, First, in_each_brace, braced, zero_initialised, first_scalar, expressions_alone, all_expressions_alone, misplaced, scalar_in_braces, is_zero_list, all_zero, if_part, typed_initialiser, typed_initialisers}
 use Rattle.dm_scoped.proofs.OverLemmas.{Every}
-use Rattle.dm_scoped.proofs.ScopeLemmas.{Grown, Sees}
-use Rattle.dm_scoped.proofs.StepLemmas.{IsScopedIn, every-later, Step, Gives, Any, AllScoped, stays, after-gives, obeys-gives, if-gives, test-gives, broken-gives, weaker-gives}
+use Rattle.dm_scoped.proofs.ScopeLemmas.{Sees}
+use Rattle.dm_scoped.proofs.StepLemmas.{IsScopedIn, every-later, Gives, AllScoped, stays, after-gives, obeys-gives, if-gives, test-gives, broken-gives, weaker-gives}
 use Rattle.dm_scoped.proofs.ExpressionLemmas.{value-scoped, as-type-scoped, expr-scoped}
 
 -- its expressions are in scope, and as many as it says

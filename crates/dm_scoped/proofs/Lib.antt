@@ -14,3 +14,4 @@ pub mod SpanFormLemmas
 pub mod SpanExpressionLemmas
 pub mod SpanStatementLemmas
 pub mod SpanUnitLemmas
+pub mod ExternalSpanLemmas

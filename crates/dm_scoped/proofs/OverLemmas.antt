@@ -12,7 +12,7 @@ use Rattle.dm_tree.specs.declared.tree.Sign.TheVariants as s
 use Rattle.dm_tree.specs.Constants.{integer_kind}
 use Rattle.dm_tree.specs.Evaluation.{is_shift}
 use Rattle.dm_tree.specs.Trees.{read, decay, convert, Tree, kind_of}
-use Rattle.dm_tree.specs.Scenes.{is_lvalue, target, is_integer, is_pointer, is_scalar}
+use Rattle.dm_tree.specs.Scenes.{is_lvalue, target, is_pointer, is_scalar}
 use Rattle.dm_typing.specs.Known.{Known}
 use Rattle.dm_typing.specs.Conversions.{over, is_same, value_of_lvalue, as_value, as_type, as_kind, promoted, is_null}
 use Rattle.dm_typing.specs.Rules.{Pair, pair, point_alike, points_to_complete, is_void_pointer, signed_integer, signed, of_kind, of_integers, of_pointer_and_integer, ordered, equated, of_others, of_kinds, operated, arms_by_targets, both_as, arms_of_types, arms_of_kinds, arms, is_assignable, put_before, passed, called, updated_integer, moves, updated_by, updated, is_modifiable}

@@ -1,25 +1,25 @@
 -- The nodes of expressions and of what stands in type names stand where their syntax stands: by induction over the syntax.
-use Rattle.std.specs.Prelude.{◌≡◌, ℕ, ◌+◌, ◌<◌, ◌≤◌, ℤ, pos, ◌+ℤ◌, negsuc, Bool, true, false, not, if◌then◌else◌, List, [], ◌∷◌, ◌++◌, Option, Some, None, is_some, slice_get, refl}
-use Rattle.std.proofs.Common.{sym, ap, ◌∙◌, subst, arith}
+use Rattle.std.specs.Prelude.{◌≡◌, ℕ, ◌+◌, ◌<◌, ◌≤◌, ℤ, pos, ◌+ℤ◌, negsuc, Bool, true, false, not, if◌then◌else◌, List, [], ◌∷◌, Option, Some, None, is_some, slice_get, refl}
+use Rattle.std.proofs.Common.{sym, subst, arith}
 use Rattle.dm_token.specs.declared.place.Span.{Span}
 use Rattle.dm_int.specs.declared.Kind.TheVariants as k
 use Rattle.dm_type.specs.CTypes.{CType, integer, bare}
 use Rattle.dm_syn.specs.declared.declared.Declared.{Declared}
-use Rattle.dm_syn.specs.Sources.{Source, symbol_at, spelling_at}
+use Rattle.dm_syn.specs.Sources.{symbol_at, spelling_at}
 use Rattle.dm_syn.specs.Spans.{expr_span, exprs_after, type_name_span, specifiers_span, specifier_after, words_after, member_span, members_after, declarator_span, declarators_after, enumerator_span, enumerators_after, parameter_span, parameters_after, pointers_after, direct_after}
 use Rattle.dm_syn.specs.Scopes.{declarator_name}
 use Rattle.dm_syn.specs.Grammar.{Types, tag_after, trailing_after, IsExpr, AreArguments, AreMoreExprs, IsTypeName, IsSpecifiers, AreWords, IsSpecifier, AreMembers, IsMember, AreMoreDeclarators, AreMoreEnumerators, IsEnumerator, IsDeclarator, IsDirect, AreParameters, AreMoreParameters, IsParameter}
 use Rattle.dm_syn.specs.Trees.{Expr, Exprs, TypeName, Specifiers, Words, Specifier, Members, Member, Declarators, Enumerators, Enumerator, Declarator, Direct, Parameters, Parameter}
 use Rattle.dm_syn.specs.Trees as tree
-use Rattle.dm_tree.specs.Trees.{Spans, Tree, spans_of}
+use Rattle.dm_tree.specs.Trees.{Tree}
 use Rattle.dm_effect.specs.Spans.{IsLaidOut, StandBetween}
-use Rattle.dm_typing.specs.Known.{Known, Setting, Outcome, given, after, with_it, obeys, if_given, meaning_of}
+use Rattle.dm_typing.specs.Known.{Known, Setting, Outcome, given, after, if_given, meaning_of}
 use Rattle.dm_typing.specs.Conversions.{as_value}
 use Rattle.dm_typing.specs.Specifiers.{Said, nothing_said, with_type, Where, elsewhere}
-use Rattle.dm_typing.specs.Typing.{comma_of, tag_declared, tag_inside, tag_seen, struct_named, with_new_struct, struct_begun, beginning, TypedMember, typed_field, struct_ended, TypedParameter, Step, arraying, calling, derived, direct_at, length_of, without_void, typed_parameter, parameter_at, entered, left, TypedName, extent, typed, typed_within, typed_values, typed_name, typed_specifiers, words_said, word_said, fields_of, fields_declared, fields_with, enumerators_of, enumerator_of, steps_of, direct_steps, parameters_of, parameter_of}
+use Rattle.dm_typing.specs.Typing.{comma_of, tag_declared, tag_inside, tag_seen, with_new_struct, struct_begun, beginning, TypedMember, typed_field, struct_ended, derived, direct_at, length_of, parameter_at, entered, left, TypedName, extent, typed, typed_within, typed_values, typed_name, typed_specifiers, words_said, word_said, fields_of, fields_declared, fields_with, enumerators_of, enumerator_of, steps_of, direct_steps, parameters_of, parameter_of}
 use Rattle.dm_scoped.specs.Bare.{bare_span}
-use Rattle.dm_scoped.proofs.SpanLemmas.{IsAround, outer-some, IsMade, outer-of, row-wider}
-use Rattle.dm_scoped.proofs.CollectLemmas.{Yields, Collects, yields-so, yields-after, collects-kept, collects-none, collects-wider, collects-after, collects-with, collects-behind, collects-obeys, collects-if, collects-known, said-collects, struct-collects, begun-constants, enum-constants, ended-collects, enum-collects, field-collects, enumerator-collects, parameter-collects, length-collects, valued-collects, derived-collects, left-collects, name-yields as named-yields}
+use Rattle.dm_scoped.proofs.SpanLemmas.{IsAround, IsMade, outer-of}
+use Rattle.dm_scoped.proofs.CollectLemmas.{Yields, Collects, yields-so, yields-after, collects-kept, collects-wider, collects-after, collects-with, collects-behind, collects-obeys, collects-if, collects-known, said-collects, struct-collects, begun-constants, enum-constants, ended-collects, enum-collects, field-collects, enumerator-collects, parameter-collects, length-collects, valued-collects, derived-collects, left-collects, name-yields as named-yields}
 use Rattle.dm_scoped.proofs.SpanFormLemmas.{value-made, name-yields, constant-made, literal-made, member-yields, arrow-yields, count-yields, prefix-yields, sizeof-yields, sizeof-name-yields, cast-yields, index-yields, binary-yields, assignment-yields, choice-yields, call-yields, comma-yields}
 
 -- ---- where an expression stands

@@ -1,6 +1,6 @@
 -- A node on typed parts stands where its syntax stands, and they stand inside it, form by form.
-use Rattle.std.specs.Prelude.{◌≡◌, ℕ, ℤ, pos, ◌+◌, ◌<◌, ◌≤◌, Bool, true, false, ◌&&◌, not, if◌then◌else◌, List, [], ◌∷◌, ◌++◌, length, Option, Some, None, is_some, option_and_then, unwrap_or, refl}
-use Rattle.std.proofs.Common.{sym, ap, ◌∙◌, subst, arith}
+use Rattle.std.specs.Prelude.{◌≡◌, ℕ, pos, ◌+◌, ◌<◌, ◌≤◌, Bool, true, false, ◌&&◌, if◌then◌else◌, List, [], ◌∷◌, ◌++◌, length, Option, Some, None, is_some, option_and_then, unwrap_or, refl}
+use Rattle.std.proofs.Common.{sym, ap, subst, arith}
 use Rattle.dm_token.specs.declared.place.Span.{Span}
 use Rattle.dm_token.specs.declared.token.CToken.{CToken}
 use Rattle.dm_int.specs.declared.Kind.TheVariants as k
@@ -12,23 +12,22 @@ use Rattle.dm_scope.specs.Scopes.{number_of}
 use Rattle.dm_syn.specs.declared.symbol.Symbol.{Symbol}
 use Rattle.dm_syn.specs.declared.symbol.Symbol.TheVariants as symbol
 use Rattle.dm_syn.specs.Sources.{Source, spelling_at}
-use Rattle.dm_syn.specs.Trees.{Expr, Exprs}
-use Rattle.dm_syn.specs.Trees as tree
+use Rattle.dm_syn.specs.Trees.{Expr}
 use Rattle.dm_tree.specs.declared.unit.Sort.{Sort}
 use Rattle.dm_tree.specs.declared.unit.Sort.TheVariants.{Object, Function, Typedef, Enumerator, Tag}
 use Rattle.dm_tree.specs.Scenes.{is_lvalue, is_integer, is_scalar}
-use Rattle.dm_tree.specs.Trees.{Label, Spans, Tree, label_of, kind_of, spans_of, trees, listed}
+use Rattle.dm_tree.specs.Trees.{Label, Tree, label_of, kind_of, spans_of, trees, listed}
 use Rattle.dm_tree.specs.Trees as label
 use Rattle.dm_tree.specs.Units.{Declaration}
-use Rattle.dm_effect.specs.Spans.{IsShorter, AreInside, in_source_order, EachInside, IsLaidOut, AreLaidOut, StandBetween}
-use Rattle.dm_typing.specs.Known.{Known, Setting, Outcome, given, broken, obeys, if_given}
+use Rattle.dm_effect.specs.Spans.{IsShorter, AreInside, StandBetween}
+use Rattle.dm_typing.specs.Known.{Known, Setting, Outcome, given, broken, if_given}
 use Rattle.dm_typing.specs.Operators.{row_at, operator_of_row, operator_of_assignment, sign_of_row}
 use Rattle.dm_typing.specs.Conversions.{spans_at, made, as_value, as_type, complete_target, is_complete}
-use Rattle.dm_typing.specs.Rules.{Pair, named_by_sort, points_to_complete, indexed, member_by_name, is_modifiable, may_be_counted, signed, may_be_cast, operated, rule_of, arms, is_assignable, called, updated}
+use Rattle.dm_typing.specs.Rules.{named_by_sort, points_to_complete, indexed, member_by_name, is_modifiable, may_be_counted, signed, may_be_cast, operated, rule_of, arms, is_assignable, called, updated}
 use Rattle.dm_typing.specs.Typing.{may_be_used, named, kind_numbered, constant_tree, literal_tree, index_tree, typed_index, typed_member, typed_arrow, is_plus_plus, typed_count, typed_address, typed_follow, typed_sign, typed_prefix, typed_sizeof, typed_sizeof_name, typed_cast, typed_operation, typed_logic, typed_binary, typed_choice, typed_store, typed_update, typed_assignment, is_name, is_function_label, typed_call, comma_tree, comma_of, extent}
 use Rattle.dm_scoped.proofs.OverLemmas.{pair-of, signed-of, updated-of, value-kept, type-kept, operated-kept, arms-kept, signed-kept, updated-kept}
 use Rattle.dm_scoped.proofs.StepLemmas.{first-of}
-use Rattle.dm_scoped.proofs.SpanLemmas.{listed-trees, IsAround, outer-some, IsMade, made-kept, outer-of, next-inside, same-inside, is_straight, all-laid, laid-trees, straight-made, leaf-made, one-made, two-made, three-made, same-made, row-length, row-laid, row-inside, AreAlike, called-alike, alike-row}
+use Rattle.dm_scoped.proofs.SpanLemmas.{listed-trees, IsAround, outer-some, IsMade, made-kept, outer-of, next-inside, same-inside, is_straight, laid-trees, straight-made, leaf-made, one-made, two-made, three-made, same-made, row-length, row-laid, row-inside, called-alike, alike-row}
 use Rattle.dm_scoped.proofs.CollectLemmas.{Yields, more-none, yields-so, yields-none, yields-obeys, yields-if}
 
 -- a value stands where its expression stands

@@ -1,10 +1,10 @@
 -- Nodes that the typing makes stand where their syntax stands.
-use Rattle.std.specs.Prelude.{◌≡◌, ℕ, ◌+◌, ◌<◌, ◌≤◌, ◌⊎◌, Bool, true, false, if◌then◌else◌, List, [], ◌∷◌, ◌++◌, Option, Some, None, option_map, refl}
+use Rattle.std.specs.Prelude.{◌≡◌, ℕ, ◌+◌, ◌<◌, ◌≤◌, Bool, true, false, if◌then◌else◌, List, [], ◌∷◌, ◌++◌, Option, Some, None, option_map, refl}
 use Rattle.std.proofs.Common.{sym, ap, ◌∙◌, subst, arith, inl, inr, ⊎_elim}
 use Rattle.dm_token.specs.declared.place.Span.{Span}
 use Rattle.dm_type.specs.CTypes.{CType, CTypes, function as function_type, no_types, more_types, bare}
 use Rattle.dm_syn.specs.Sources.{Source}
-use Rattle.dm_tree.specs.Trees.{Label, Spans, Tree, Trees, node, no_trees, more_trees, spans_of, listed, trees}
+use Rattle.dm_tree.specs.Trees.{Label, Spans, Tree, node, spans_of, listed, trees}
 use Rattle.dm_tree.specs.Trees as label
 use Rattle.dm_effect.specs.Spans.{IsShorter, AreInside, in_source_order, EachInside, IsLaidOut, AreLaidOut, StandBetween}
 use Rattle.dm_typing.specs.Known.{Known}

@@ -1,14 +1,13 @@
 -- The nodes of declarations and statements stand where their syntax stands: by induction over the syntax.
-use Rattle.std.specs.Prelude.{◌≡◌, ℕ, zero, suc, ◌+◌, ◌<◌, ◌≤◌, ℤ, Bool, true, false, ◌||◌, not, if◌then◌else◌, List, [], ◌∷◌, ◌++◌, length, take, drop, Option, Some, None, refl}
+use Rattle.std.specs.Prelude.{◌≡◌, ℕ, ◌+◌, ◌<◌, ◌≤◌, ℤ, Bool, true, false, ◌||◌, not, if◌then◌else◌, List, [], ◌∷◌, ◌++◌, length, take, drop, Option, Some, None, refl}
 use Rattle.std.specs.FinMap as map
-use Rattle.std.proofs.Common.{sym, ap, ◌∙◌, subst, arith, append_assoc}
+use Rattle.std.proofs.Common.{sym, ap, ◌∙◌, subst, arith}
 use Rattle.dm_token.specs.declared.place.Span.{Span}
 use Rattle.dm_int.specs.declared.Kind.{Kind}
 use Rattle.dm_int.specs.Kinds.{promote}
-use Rattle.dm_name_map.specs.Numbers.{Numbers}
 use Rattle.dm_type.specs.CTypes.{CType, void, integer}
 use Rattle.dm_syn.specs.declared.declared.Declared.{Declared as Seen}
-use Rattle.dm_syn.specs.Grammar.{no_type, IsExpr, IsSpecifiers, IsDeclarator, trailing_after}
+use Rattle.dm_syn.specs.Grammar.{no_type, IsExpr, IsSpecifiers, IsDeclarator}
 use Rattle.dm_syn.specs.Spans.{expr_span, specifiers_span, declarator_span, initialiser_span, initialisers_after, item_span, items_after, words_after, declaration_span, stmt_span, block_item_span, block_items_after, switch_item_span, switch_items_after}
 use Rattle.dm_syn.specs.Scopes.{item_declares}
 use Rattle.dm_syn.specs.Statements.{IsInitialiser, AreMoreInitialisers, IsItem, AreItems, AreMoreItems, IsDeclaration, IsOptional, optional_after, IsStart, start_after, IsStmt, AreBlockItems, IsBlockItem, AreSwitchItems, IsSwitchItem}
@@ -17,23 +16,23 @@ use Rattle.dm_syn.specs.Trees as tree
 use Rattle.dm_tree.specs.Constants.{integer_kind}
 use Rattle.dm_tree.specs.Initialisers.{is_fixed}
 use Rattle.dm_tree.specs.Scenes.{is_scalar, is_void, part_type}
-use Rattle.dm_tree.specs.Trees.{Label, Spans, Tree, trees, listed, kind_of, spans_of}
+use Rattle.dm_tree.specs.Trees.{Label, Tree, trees, listed, kind_of, spans_of}
 use Rattle.dm_tree.specs.Trees as label
 use Rattle.dm_tree.specs.Units.{Declaration}
-use Rattle.dm_effect.specs.Spans.{AreInside, in_source_order, EachInside, IsLaidOut, AreLaidOut, StandBetween}
-use Rattle.dm_typing.specs.Known.{Known, Setting, Outcome, given, broken, after, with_it, obeys, if_given}
+use Rattle.dm_effect.specs.Spans.{AreInside, IsLaidOut, StandBetween}
+use Rattle.dm_typing.specs.Known.{Known, Setting, Outcome, given, broken, after, obeys}
 use Rattle.dm_typing.specs.Conversions.{spans_at, as_value, as_type, as_kind, constant_of, is_complete}
 use Rattle.dm_typing.specs.Rules.{is_assignable}
 use Rattle.dm_typing.specs.Specifiers.{Where, of_declaration, nothing_said}
-use Rattle.dm_typing.specs.Typing.{extent, typed, words_said, typed_said, steps_of, derived}
+use Rattle.dm_typing.specs.Typing.{extent, typed, words_said, typed_said, steps_of}
 use Rattle.dm_edecl.specs.Standing.{Standing, Progress, goes_on, stops, further, knowing, typing, collecting, keeps, opened, closed, in_scope}
-use Rattle.dm_edecl.specs.Linkages.{entry_of, naming, named_here, number_here, number_before, kind_seen, declared_here, object_here}
+use Rattle.dm_edecl.specs.Linkages.{entry_of, naming, number_here, number_before, kind_seen, declared_here, object_here}
 use Rattle.dm_edecl.specs.Initialising.{Initial, Initials, no_initials, with_first, enclosed, single, is_static_value, has_value, scalar_initialised, is_string_for, initialised_by, First, braced, zero_initialised, first_scalar, completed, expressions_alone, all_expressions_alone, misplaced, scalar_in_braces, is_zero_list, all_zero, if_part, typed_initialiser, typed_initialisers}
-use Rattle.dm_edecl.specs.Declaring.{Specified, specified, is_alone, typed_declarator, name_at, defines_object, declarable, Local, local_plain, local_initialised, with_lengths, may_be_initialised, may_define, object_defined, initialised, item_plain, item_initialised, item_with, typed_item, typed_items, Declared, declarators_of, expressions_of, constants_of, typed_declaration}
+use Rattle.dm_edecl.specs.Declaring.{Specified, specified, is_alone, typed_declarator, name_at, defines_object, declarable, Local, local_plain, local_initialised, with_lengths, may_be_initialised, may_define, object_defined, initialised, item_with, typed_item, typed_items, Declared, declarators_of, expressions_of, constants_of, typed_declaration}
 use Rattle.dm_edecl.specs.Statements.{Within, in_loop, in_switch, statement, Subject, subject, Labelled, AllLabelled, is_label_among, CaseValue, typed_value, typed_optional, typed_condition, typed_optional_condition, typed_subject, typed_case, full_statement, returned, typed_return, declaration_tree, declared_in, typed_start, is_there, for_statement, typed_stmt, typed_items_in, typed_item_in, typed_switch_items, typed_switch_item}
 use Rattle.dm_scoped.specs.Bare.{bare_span}
-use Rattle.dm_scoped.proofs.SpanLemmas.{listed-trees, outer-some, IsMade, outer-of, is_straight, all-laid, laid-trees, straight-made, row-wider, row-append, row-length, row-laid, row-inside}
-use Rattle.dm_scoped.proofs.CollectLemmas.{Yields, Collects, more-none, yields-so, yields-none, yields-after, yields-with, yields-obeys, yields-if, collects-after, collects-with, collects-wider, said-collects, derived-collects}
+use Rattle.dm_scoped.proofs.SpanLemmas.{listed-trees, outer-of, is_straight, all-laid, laid-trees, straight-made, row-wider, row-append, row-laid, row-inside}
+use Rattle.dm_scoped.proofs.CollectLemmas.{Yields, Collects, more-none, yields-so, yields-after, yields-with, yields-obeys, yields-if, collects-after, collects-with, collects-wider, said-collects, derived-collects}
 use Rattle.dm_scoped.proofs.SpanFormLemmas.{type-made}
 use Rattle.dm_scoped.proofs.SpanExpressionLemmas.{trailing-on, IsOf, Laid, laid-some, laid-typed, of-value, of-row, expr-laid, specifiers-laid, words-laid, declarator-laid}
 

@@ -10,22 +10,22 @@ use Rattle.dm_syn.specs.declared.declared.Declared.{Declared as Seen}
 use Rattle.dm_syn.specs.Grammar.{IsExpr, IsDeclarator}
 use Rattle.dm_syn.specs.Spans.{expr_span, specifiers_span, declarator_span, declaration_span, stmt_span, block_items_after, external_span}
 use Rattle.dm_syn.specs.Scopes.{external_declares}
-use Rattle.dm_syn.specs.Statements.{IsDeclaration, IsBlock, IsStmt, IsExternal, own_parameters}
-use Rattle.dm_syn.specs.Trees.{Expr, Specifiers, Declarator, Parameters, Stmt, BlockItems, External}
+use Rattle.dm_syn.specs.Statements.{IsBlock, IsStmt, IsExternal, own_parameters}
+use Rattle.dm_syn.specs.Trees.{Expr, Declarator, Stmt, BlockItems, External}
 use Rattle.dm_syn.specs.Trees as tree
 use Rattle.dm_tree.specs.Trees.{Tree, spans_of}
 use Rattle.dm_tree.specs.Trees as label
-use Rattle.dm_tree.specs.Units.{Declaration, declares, defines_function, TypedUnit}
+use Rattle.dm_tree.specs.Units.{Declaration, TypedUnit}
 use Rattle.dm_tree.specs.Units as unit
-use Rattle.dm_effect.specs.Spans.{IsLaidOut, StandBetween, IsLaidOutForm, IsLaidOutExternal, AreLaidOutFrom, IsLaidOutUnit}
-use Rattle.dm_typing.specs.Known.{Known, Setting, Outcome, given, broken, after, with_it}
+use Rattle.dm_effect.specs.Spans.{IsLaidOut, StandBetween, IsLaidOutExternal, AreLaidOutFrom, IsLaidOutUnit}
+use Rattle.dm_typing.specs.Known.{Known, Setting, Outcome, given, broken, after}
 use Rattle.dm_typing.specs.Specifiers.{of_definition}
-use Rattle.dm_typing.specs.Typing.{TypedParameter, without_void, typed}
-use Rattle.dm_edecl.specs.Standing.{Standing, Progress, goes_on, stops, further, collecting, keeps, opened, closed}
-use Rattle.dm_edecl.specs.Linkages.{entry_of, naming, named_here, number_here, number_before, kind_seen, function_here, with_whole_kinds}
-use Rattle.dm_edecl.specs.Declaring.{Specified, specified, name_at, declarable, fits_main, Declared, declarators_of, expressions_of, typed_declarator, typed_declaration}
+use Rattle.dm_typing.specs.Typing.{typed}
+use Rattle.dm_edecl.specs.Standing.{Standing, Progress, goes_on, stops, further, opened}
+use Rattle.dm_edecl.specs.Linkages.{entry_of, number_before, kind_seen, function_here, with_whole_kinds}
+use Rattle.dm_edecl.specs.Declaring.{Specified, name_at, declarable, fits_main, expressions_of, typed_declarator, typed_declaration}
 use Rattle.dm_edecl.specs.Statements.{Within, statement, typed_stmt, typed_items_in}
-use Rattle.dm_edecl.specs.Units.{own_defined, Heading, innermost, numbers_of, typed_heading, body_within, typed_body, external_of, function_defined, typed_external, typed_externals, unit_setting, beginning, unit_of, typed_unit}
+use Rattle.dm_edecl.specs.Units.{own_defined, Heading, typed_heading, body_within, typed_body, function_defined, typed_external, typed_externals, unit_setting, beginning, unit_of, typed_unit}
 use Rattle.dm_edecl.specs.Placing.{AreExternals}
 use Rattle.dm_scoped.specs.Bare.{bare_span}
 use Rattle.dm_scoped.proofs.SpanLemmas.{IsMade, row-wider, row-append}

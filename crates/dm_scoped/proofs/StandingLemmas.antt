@@ -1,20 +1,19 @@
 -- What the typing of declarations and statements keeps: scopes name such entries as pass, and what has linkage isn't automatic.
-use Rattle.std.specs.Prelude.{◌≡◌, ℕ, zero, suc, ◌==◌, Bool, true, false, ◌||◌, not, if◌then◌else◌, List, [], ◌∷◌, ◌++◌, length, drop, Option, Some, None, unwrap_or, is_some, slice_get, refl}
-use Rattle.std.specs.FinMap as map
-use Rattle.std.proofs.Common.{sym, ap, ◌∙◌, subst, arith}
+use Rattle.std.specs.Prelude.{◌≡◌, ℕ, zero, suc, Bool, true, false, if◌then◌else◌, List, [], ◌∷◌, ◌++◌, length, drop, Option, Some, None, unwrap_or, is_some, slice_get, refl}
+use Rattle.std.proofs.Common.{sym, ap, ◌∙◌, subst}
 use Rattle.dm_name_map.specs.Numbers.{Numbers}
 use Rattle.dm_type.specs.CTypes.{CType}
 use Rattle.dm_type.specs.TableLaws.{injected}
-use Rattle.dm_scope.specs.Scopes.{Scopes, number_of, declared as declared_in}
+use Rattle.dm_scope.specs.Scopes.{number_of}
 use Rattle.dm_tree.specs.Trees.{Tree}
 use Rattle.dm_tree.specs.Typing.{has_linkage}
 use Rattle.dm_tree.specs.Units.{Declaration}
 use Rattle.dm_meaning.specs.Statements.{is_automatic_sort}
-use Rattle.dm_typing.specs.Known.{Known, Outcome, given, broken, declaring}
+use Rattle.dm_typing.specs.Known.{Known, Outcome, given, broken}
 use Rattle.dm_edecl.specs.Standing.{Linked, Standing, Progress, goes_on, stops, further, knowing, typing, collecting, keeps, opened, closed, known_behind}
 use Rattle.dm_edecl.specs.Linkages.{number_linked, is_called, number_shared, kind_seen, meaning_here, number_before, with_kind, naming, number_here, named_here, with_link_if, declared_here, function_here, object_here}
-use Rattle.dm_scoped.proofs.ScopeLemmas.{Grown, grown-itself, grown-through, grown-more, get-front, get-last, Has, has-later, has-wider, IsWider, SeesIn, Sees, sees-in, sees-changes, sees-later, found-has, sees-with, depth-with}
-use Rattle.dm_scoped.proofs.StepLemmas.{Step, Gives, step-none, declaring-step}
+use Rattle.dm_scoped.proofs.ScopeLemmas.{Grown, grown-itself, grown-through, grown-more, get-last, Has, has-later, has-wider, IsWider, SeesIn, Sees, sees-in, sees-changes, sees-later, found-has, sees-with, depth-with}
+use Rattle.dm_scoped.proofs.StepLemmas.{Step, Gives, declaring-step}
 
 -- ---- what has linkage
 

@@ -1,38 +1,35 @@
 -- The names in statements are in scope: by induction over the syntax.
-use Rattle.std.specs.Prelude.{◌≡◌, ℕ, zero, suc, ℤ, ◌==◌, Bool, true, false, ◌||◌, ◌&&◌, not, List, [], ◌∷◌, ◌++◌, map as each, replicate, length, Option, Some, None, refl}
-use Rattle.std.specs.List.{list_any}
+use Rattle.std.specs.Prelude.{◌≡◌, ℕ, ℤ, ◌==◌, Bool, true, false, ◌||◌, not, List, [], ◌∷◌, ◌++◌, map as each, replicate, length, Option, Some, None, refl}
 use Rattle.std.specs.FinMap as map
-use Rattle.std.proofs.Common.{sym, ap, ◌∙◌, subst}
+use Rattle.std.proofs.Common.{◌∙◌, subst}
 use Rattle.dm_token.specs.declared.place.Span.{Span}
 use Rattle.dm_int.specs.declared.Kind.{Kind}
 use Rattle.dm_int.specs.Kinds.{promote}
-use Rattle.dm_name_map.specs.Numbers.{Numbers}
 use Rattle.dm_type.specs.CTypes.{CType, void, integer}
 use Rattle.dm_syn.specs.Spans.{expr_span, declaration_span}
 use Rattle.dm_syn.specs.Trees.{Expr, ForStart, Stmt, BlockItems, BlockItem, SwitchItems, SwitchItem}
 use Rattle.dm_syn.specs.Trees as tree
 use Rattle.dm_tree.specs.Constants.{integer_kind}
-use Rattle.dm_tree.specs.Initialisers.{expressions_of as count_expressions}
 use Rattle.dm_tree.specs.Scenes.{is_scalar, is_void}
 use Rattle.dm_tree.specs.Trees.{Label, Declarator, Tree, trees, kind_of}
 use Rattle.dm_tree.specs.Trees as label
 use Rattle.dm_tree.specs.Units.{Declaration}
 use Rattle.dm_effect.specs.Scoped.{Scope, is_in_scope, declared_by, scopes_in_order, scopes_of_initialisers, is_scoped, are_scoped}
 use Rattle.dm_typing.proofs.KindLemmas.{numbers-same}
-use Rattle.dm_typing.specs.Known.{Known, Setting, Outcome, given, obeys}
-use Rattle.dm_typing.specs.Conversions.{as_value, as_type, as_kind, constant_of}
+use Rattle.dm_typing.specs.Known.{Known, Setting}
+use Rattle.dm_typing.specs.Conversions.{as_type, as_kind, constant_of}
 use Rattle.dm_typing.specs.Rules.{is_assignable}
 use Rattle.dm_typing.specs.Typing.{extent, typed}
-use Rattle.dm_edecl.specs.Standing.{Standing, Progress, goes_on, stops, further, typing, keeps, closed, in_scope, opened}
+use Rattle.dm_edecl.specs.Standing.{Standing, Progress, goes_on, stops, in_scope, opened}
 use Rattle.dm_edecl.specs.Declaring.{Local, Declared, declarators_of, expressions_of, typed_declaration}
-use Rattle.dm_edecl.specs.Statements.{Within, in_loop, in_switch, statement, Subject, subject, Labelled, AllLabelled, is_label_among, CaseValue, case_value, typed_value, typed_optional, typed_condition, typed_optional_condition, typed_subject, typed_case, full_statement, returned, typed_return, declaration_tree, declared_in, typed_start, is_there, for_statement, typed_stmt, typed_items_in, typed_item_in, typed_switch_items, typed_switch_item}
-use Rattle.dm_scoped.proofs.OverLemmas.{Every, type-kept}
-use Rattle.dm_scoped.proofs.ScopeLemmas.{Grown, IsWider, SeesIn, empty-sees, Sees}
-use Rattle.dm_scoped.proofs.StepLemmas.{Fits, Covers, IsScopedIn, scoped-later, every-later, scoped-kept, both-true, each-scoped, made-scoped, Step, Gives, AllScoped, all-pass, stays, after-gives, with-gives, obeys-gives, if-gives}
+use Rattle.dm_edecl.specs.Statements.{Within, in_loop, in_switch, statement, Subject, subject, Labelled, AllLabelled, is_label_among, CaseValue, typed_value, typed_optional, typed_condition, typed_optional_condition, typed_subject, typed_case, full_statement, returned, typed_return, declaration_tree, declared_in, typed_start, is_there, for_statement, typed_stmt, typed_items_in, typed_item_in, typed_switch_items, typed_switch_item}
+use Rattle.dm_scoped.proofs.OverLemmas.{Every}
+use Rattle.dm_scoped.proofs.ScopeLemmas.{Grown, IsWider, empty-sees, Sees}
+use Rattle.dm_scoped.proofs.StepLemmas.{Fits, Covers, IsScopedIn, scoped-later, every-later, both-true, each-scoped, made-scoped, Gives, AllScoped, all-pass, stays, after-gives, with-gives, obeys-gives, if-gives}
 use Rattle.dm_scoped.proofs.ExpressionLemmas.{value-scoped, as-type-scoped, expr-scoped}
 use Rattle.dm_scoped.proofs.InitialiserLemmas.{every-append}
-use Rattle.dm_scoped.proofs.StandingLemmas.{Holds, Moves, Leads, moves-none, moves-through, holds-wider, leads-so, leads-from, further-leads, keeps-leads, typing-leads, IsLasting, opened-holds, closed-leads}
-use Rattle.dm_scoped.proofs.DeclarationLemmas.{Extends, IsScopedLocal, behind_all, AreFine, behind_declaration, IsFineDeclaration, declaration-leads}
+use Rattle.dm_scoped.proofs.StandingLemmas.{Holds, Leads, moves-none, holds-wider, leads-so, further-leads, keeps-leads, typing-leads, IsLasting, opened-holds, closed-leads}
+use Rattle.dm_scoped.proofs.DeclarationLemmas.{Extends, behind_all, AreFine, behind_declaration, IsFineDeclaration, declaration-leads}
 
 -- ---- what passes behind declarations in blocks
 

@@ -1,24 +1,24 @@
 -- What the typing of a part gives: scopes that name what they named, and trees whose names are in scope.
-use Rattle.std.specs.Prelude.{◌≡◌, ℕ, Bool, true, false, ◌&&◌, not, ◌||◌, List, [], ◌∷◌, ◌++◌, length, Option, Some, None, slice_get, unwrap_or, option_and_then, if◌then◌else◌, refl}
+use Rattle.std.specs.Prelude.{◌≡◌, ℕ, Bool, true, false, ◌&&◌, List, [], ◌∷◌, length, Option, Some, None, slice_get, unwrap_or, option_and_then, if◌then◌else◌, refl}
 use Rattle.std.proofs.Common.{sym, ap, ◌∙◌, subst}
 use Rattle.std.specs.FinMap as map
 use Rattle.dm_type.specs.CTypes.{CType}
 use Rattle.dm_type.specs.TableLaws.{injected}
-use Rattle.dm_scope.specs.Scopes.{Scopes, number_of, declared as declared_in}
+use Rattle.dm_scope.specs.Scopes.{number_of}
 use Rattle.dm_tree.specs.declared.unit.Sort.{Sort}
 use Rattle.dm_tree.specs.declared.unit.Sort.TheVariants.{Object, Function, Typedef, Enumerator, Tag}
-use Rattle.dm_tree.specs.Trees.{Label, Tree, Trees, no_trees, more_trees, trees}
+use Rattle.dm_tree.specs.Trees.{Label, Tree, trees}
 use Rattle.dm_tree.specs.Trees as label
 use Rattle.dm_tree.specs.Units.{Declaration}
 use Rattle.dm_meaning.specs.Statements.{is_automatic_sort}
 use Rattle.dm_effect.specs.Scoped.{Scope, is_in_scope, same_scopes, names_in_scope, is_scoped, are_scoped}
 use Rattle.dm_typing.specs.Known.{Known, Setting, Outcome, given, broken, after, with_it, obeys, if_given, meaning_of, declaring}
 use Rattle.dm_typing.specs.declared.extent.Extent.{Extent}
-use Rattle.dm_typing.specs.Conversions.{spans_at, made, over}
+use Rattle.dm_typing.specs.Conversions.{spans_at, made}
 use Rattle.dm_typing.specs.Rules.{named_by_sort}
 use Rattle.dm_typing.specs.Typing.{named, may_be_used, entered, left}
 use Rattle.dm_scoped.proofs.OverLemmas.{IsKept, Every}
-use Rattle.dm_scoped.proofs.ScopeLemmas.{Grown, grown-itself, grown-through, grown-more, get-last, Has, has-later, IsWider, SeesIn, Sees, sees-in, empty-sees, sees-changes, sees-later, found-has, sees-with, depth-with}
+use Rattle.dm_scoped.proofs.ScopeLemmas.{Grown, grown-itself, grown-through, grown-more, get-last, Has, Sees, sees-in, empty-sees, sees-changes, sees-later, found-has, sees-with, depth-with}
 
 -- ---- trees whose names are in scope
 

@@ -1,7 +1,6 @@
 -- The names in units are in scope.
-use Rattle.std.specs.Prelude.{◌≡◌, ℕ, zero, suc, ◌+◌, Bool, true, false, ◌&&◌, not, IsTrue, List, [], ◌∷◌, ◌++◌, length, Option, Some, None, slice_get, unwrap_or, refl}
-use Rattle.std.specs.List.{list_any, list_all}
-use Rattle.std.specs.FinMap as map
+use Rattle.std.specs.Prelude.{◌≡◌, ℕ, zero, suc, ◌+◌, Bool, true, false, not, List, [], ◌∷◌, ◌++◌, length, Some, slice_get, refl}
+use Rattle.std.specs.List.{list_all}
 use Rattle.std.proofs.Common.{sym, ap, ◌∙◌, subst}
 use Rattle.dm_token.specs.declared.place.Span.{Span}
 use Rattle.dm_token.specs.declared.token.CToken.{CToken}
@@ -9,30 +8,28 @@ use Rattle.dm_type.specs.declared.shape.Shape.{Shape}
 use Rattle.dm_type.specs.CTypes.{CType}
 use Rattle.dm_type.specs.TableLaws.{injected}
 use Rattle.dm_name_map.specs.Numbers.{Numbers}
-use Rattle.dm_syn.specs.Sources.{spelling_at}
 use Rattle.dm_syn.specs.Spans.{declarator_span}
-use Rattle.dm_syn.specs.Trees.{Specifiers, Declarator, Stmt, External}
+use Rattle.dm_syn.specs.Trees.{Declarator, Stmt, External}
 use Rattle.dm_syn.specs.Trees as tree
 use Rattle.dm_tree.specs.Trees.{Tree}
 use Rattle.dm_tree.specs.Trees as label
-use Rattle.dm_tree.specs.Typing.{has_linkage}
 use Rattle.dm_tree.specs.Units.{Declaration, declares, defines_function, TypedUnit}
 use Rattle.dm_tree.specs.Units as unit
 use Rattle.dm_meaning.specs.Statements.{is_automatic_sort, is_automatic_declaration}
-use Rattle.dm_effect.specs.Scoped.{Scope, is_in_scope, is_scoped, is_automatic, is_scoped_form, is_scoped_external, IsScopedUnit}
-use Rattle.dm_typing.specs.Known.{Known, Setting, Outcome, given, broken, meaning_of}
+use Rattle.dm_effect.specs.Scoped.{is_in_scope, is_scoped, is_automatic, is_scoped_form, is_scoped_external, IsScopedUnit}
+use Rattle.dm_typing.specs.Known.{Known, Setting, given}
 use Rattle.dm_typing.specs.Specifiers.{of_definition}
-use Rattle.dm_edecl.specs.Standing.{Linked, Standing, Progress, goes_on, stops, further, collecting, keeps, opened, closed}
-use Rattle.dm_edecl.specs.Linkages.{Storage, entry_of, function_here, number_here, named_here, is_defined, with_whole_kinds, kind_seen}
-use Rattle.dm_edecl.specs.Declaring.{Specified, specified, name_at, fits_main, declarable, Local, Declared, declarators_of, expressions_of, typed_declaration}
+use Rattle.dm_edecl.specs.Standing.{Linked, Standing, Progress, goes_on, stops, opened}
+use Rattle.dm_edecl.specs.Linkages.{entry_of, function_here, number_here, named_here, with_whole_kinds}
+use Rattle.dm_edecl.specs.Declaring.{Specified, name_at, declarable, Local, Declared, declarators_of, expressions_of, typed_declaration}
 use Rattle.dm_edecl.specs.Statements.{Within, statement, typed_stmt, typed_items_in}
-use Rattle.dm_edecl.specs.Units.{Heading, numbers_of, typed_heading, body_within, typed_body, external_of, function_defined, typed_external, typed_externals, unit_setting, beginning, unit_of, typed_unit}
+use Rattle.dm_edecl.specs.Units.{Heading, numbers_of, body_within, typed_body, external_of, function_defined, typed_external, typed_externals, unit_setting, beginning, unit_of, typed_unit}
 use Rattle.dm_scoped.proofs.OverLemmas.{Every}
-use Rattle.dm_scoped.proofs.ScopeLemmas.{Grown, grown-itself, Has, has-later, IsWider, SeesIn, Sees, sees-in, empty-sees, in-changes}
-use Rattle.dm_scoped.proofs.StepLemmas.{Fits, fits-before, Covers, IsScopedIn, both-true, Step, Gives, Any, AllScoped, all-pass}
-use Rattle.dm_scoped.proofs.StandingLemmas.{IsStatic, has-static, AreStatic, none-pass, Holds, Moves, Leads, moves-none, holds-wider, leads-so, leads-from, further-leads, keeps-leads, collecting-leads, IsLasting, opened-holds, closed-leads, named-has, linked-static, function-moves}
-use Rattle.dm_scoped.proofs.DeclarationLemmas.{entry-linked, entry-in-file, specified-gives, Extends, IsScopedLocal, behind_all, AreFine, behind_declaration, IsFineDeclaration, declaration-leads}
-use Rattle.dm_scoped.proofs.StatementLemmas.{AreScopedItems, behind_items, same, anything, leads-wider, there, tree-lasts, scoped-wider, block-scoped, items-lead, stmt-leads}
+use Rattle.dm_scoped.proofs.ScopeLemmas.{Grown, Has, SeesIn, Sees, empty-sees, in-changes}
+use Rattle.dm_scoped.proofs.StepLemmas.{Fits, fits-before, IsScopedIn, both-true, Any}
+use Rattle.dm_scoped.proofs.StandingLemmas.{has-static, AreStatic, none-pass, Holds, Leads, leads-from, further-leads, keeps-leads, collecting-leads, opened-holds, closed-leads, named-has, function-moves}
+use Rattle.dm_scoped.proofs.DeclarationLemmas.{entry-linked, entry-in-file, specified-gives, Extends, behind_all, AreFine, behind_declaration, IsFineDeclaration, declaration-leads}
+use Rattle.dm_scoped.proofs.StatementLemmas.{AreScopedItems, behind_items, same, anything, there, tree-lasts, scoped-wider, block-scoped, items-lead, stmt-leads}
 use Rattle.dm_scoped.proofs.HeadingLemmas.{IsScopedHeading, heading-gives}
 
 -- ---- file scope, in which nothing passes

@@ -1,7 +1,6 @@
 -- Small units in which a name stands in the scope of its declaration, and in which it doesn't.
 use Rattle.std.specs.Prelude.{ℕ, true, false, List, [], ◌∷◌, None}
 use Rattle.dm_token.specs.declared.place.Place.{Place}
-use Rattle.dm_token.specs.declared.place.Span.{Span}
 use Rattle.dm_int.specs.declared.Kind.TheVariants.{Int}
 use Rattle.dm_type.specs.CTypes.{integer, void}
 use Rattle.dm_tree.specs.declared.unit.Sort.{Sort}

@@ -1,16 +1,16 @@
 //! Where names and nodes of typed units stand.
 
-ghost use Rattle.std.specs.Prelude.{ℕ, Bool, true, false, List, [], ◌≡◌};
+ghost use Rattle.std.specs.Prelude.{ℕ, Bool, true, false, List, [], map, ◌≡◌};
 ghost use Rattle.dm_token.specs.declared.token.CToken.{CToken};
 ghost use Rattle.dm_type.specs.declared.shape.Shape.{Shape};
 ghost use Rattle.dm_type.specs.CTypes.{CType};
 ghost use Rattle.dm_syn.specs.declared.declared.Declared.{Declared};
 ghost use Rattle.dm_syn.specs.Grammar.{IsExpr};
-ghost use Rattle.dm_syn.specs.Spans.{expr_span, stmt_span};
+ghost use Rattle.dm_syn.specs.Spans.{expr_span, stmt_span, external_span};
 ghost use Rattle.dm_syn.specs.Statements.{IsStmt};
 ghost use Rattle.dm_syn.specs.Trees.{Expr, Stmt, External};
 ghost use Rattle.dm_tree.specs.Trees.{Tree, spans_of};
-ghost use Rattle.dm_tree.specs.Units.{TypedUnit};
+ghost use Rattle.dm_tree.specs.Units.{External as TypedExternal, TypedUnit};
 ghost use Rattle.dm_meaning.specs.Statements.{is_automatic_sort};
 ghost use Rattle.dm_effect.specs.Scoped.{IsScopedUnit};
 ghost use Rattle.dm_effect.specs.Spans.{IsLaidOut, IsLaidOutUnit};
@@ -57,4 +57,10 @@ pub fn statements_are_laid_out()
 pub fn units_are_laid_out()
     ensures { (shapes : List Shape) (tokens : List CToken) (externals : List External) (known : Known) (unit : TypedUnit) →
         AreExternals (unit_setting tokens externals).source [] 0 externals → typed_unit shapes tokens externals ≡ given known unit → IsLaidOutUnit unit }
+{}
+
+/// The external declarations of a typed unit have the spans of those of its syntax, in order.
+pub fn external_declarations_keep_their_spans()
+    ensures { (shapes : List Shape) (tokens : List CToken) (externals : List External) (known : Known) (unit : TypedUnit) →
+        typed_unit shapes tokens externals ≡ given known unit → map (λ (one : TypedExternal). one.span) unit.externals ≡ map external_span externals }
 {}

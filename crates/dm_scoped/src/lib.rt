@@ -7,6 +7,7 @@ mod laws;
 
 pub use examples::a_local_is_in_scope_in_its_block;
 pub use laws::{
-    automatic_objects_are_in_blocks, expressions_are_laid_out, statements_are_laid_out,
-    units_are_laid_out, units_are_scoped,
+    automatic_objects_are_in_blocks, expressions_are_laid_out,
+    external_declarations_keep_their_spans, statements_are_laid_out, units_are_laid_out,
+    units_are_scoped,
 };
