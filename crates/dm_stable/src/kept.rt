@@ -9,7 +9,8 @@ ghost use Rattle.dm_effect.specs.Stable as stable;
 
 use crate::kinds::is_scalar;
 use crate::names::{Names, entry_of};
-use dm_effect::{Path, is_addressed, is_written_around};
+use crate::objects::Objects;
+use dm_effect::{Path, is_written_around};
 use dm_tree::{Core, CoreUnit, Sort};
 use dm_type::Types;
 
@@ -18,10 +19,12 @@ use dm_type::Types;
 #[derive(Drop)]
 pub(crate) struct Kept<'a> {
     pub unit: &'a CoreUnit,
+    pub objects: &'a Objects<'a>,
     pub types: &'a Types,
     pub full: &'a Core,
     pub at: &'a Path,
     ghost known: { IsTrue (list_all (entry_has_known (length types.now.shapes)) unit.now.declared) },
+    ghost same: { objects.now ≡ unit.now },
 }
 
 impl<'a> Names for Kept<'a> {
@@ -31,7 +34,7 @@ impl<'a> Names for Kept<'a> {
         if !is_scalar_local(self.unit, self.types, object) {
             return false;
         }
-        !is_addressed(self.unit, object) && !is_written_around(self.full, self.at, object)
+        !self.objects.is_addressed(object) && !is_written_around(self.full, self.at, object)
     }
 }
 

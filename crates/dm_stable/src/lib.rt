@@ -5,7 +5,10 @@
 mod kept;
 mod kinds;
 mod laws;
+mod marking;
+mod marks;
 mod names;
+mod objects;
 mod safety;
 mod set;
 mod stability;
@@ -13,6 +16,7 @@ mod steady;
 
 pub use laws::typed_units_have_known_entries;
 pub use names::Names;
-pub use safety::{has_safe_form, safe};
+pub use objects::Objects;
+pub use safety::{has_safe_form, is_safe, safe};
 pub use stability::{is_stable, stable};
 pub use steady::has_steady_leaves;

@@ -6,12 +6,14 @@ ghost use Rattle.dm_type.specs.Tables.{IsId, type_of};
 ghost use Rattle.dm_tree.specs.TypeNumbers.{are_known, are_known_in_form, entry_has_known};
 ghost use Rattle.dm_tree.specs.Views.{opened_form, view, view_of_unit};
 ghost use Rattle.dm_effect.specs.Forms.{is_built};
-ghost use Rattle.dm_effect.specs.Safe.{is_safe, safe_rule};
+ghost use Rattle.dm_effect.specs.Safe as safe;
+ghost use Rattle.dm_effect.specs.Safe.{safe_rule};
 ghost use Rattle.dm_stable.specs.Built.{is_built_form};
 
 use crate::kinds::{is_integer, is_safe_operator, is_safe_sign};
 use crate::names::{Names, passes};
-use crate::set::Set;
+use crate::objects::Objects;
+use crate::set::{Known, Set};
 use dm_tree::{Core, CoreUnit, Form, constant};
 use dm_type::{TypeId, Types};
 
@@ -20,10 +22,26 @@ use dm_type::{TypeId, Types};
 pub fn safe(unit: &CoreUnit, types: &Types, argument: &Core) -> bool
     requires entries { IsTrue (list_all (entry_has_known (length types.now.shapes)) unit.now.declared) }
     requires argument { IsTrue (are_known (length types.now.shapes) argument.now) }
-    ensures { result ≡ is_safe types.now (view_of_unit types.now unit.now) (view types.now argument.now) }
+    ensures { result ≡ safe.is_safe types.now (view_of_unit types.now unit.now) (view types.now argument.now) }
 {
     let set = Set {
         unit,
+        types,
+        argument,
+    };
+    constant(argument, &unit.declared, types).is_some() || has_safe_form(argument, types, &set)
+}
+
+/// Whether it is, in the unit of which it is known what its trees do to its objects.
+pub fn is_safe(objects: &Objects, types: &Types, argument: &Core) -> bool
+    requires entries { IsTrue (list_all (entry_has_known (length types.now.shapes)) objects.now.declared) }
+    requires argument { IsTrue (are_known (length types.now.shapes) argument.now) }
+    ensures { result ≡ safe.is_safe types.now (view_of_unit types.now objects.now) (view types.now argument.now) }
+{
+    let unit = objects.unit();
+    let set = Known {
+        unit,
+        objects,
         types,
         argument,
     };

@@ -7,6 +7,7 @@ ghost use Rattle.dm_tree.specs.Views.{view, view_of_unit};
 ghost use Rattle.dm_effect.specs.Stable as stable;
 
 use crate::kept::Kept;
+use crate::objects::Objects;
 use crate::steady::has_steady_leaves;
 use dm_effect::{Path, QuietFunctions, is_pure};
 use dm_token::Memory;
@@ -29,18 +30,21 @@ pub fn stable(
     ensures { IfOk result (λ answer. answer ≡ stable.is_stable (view_of_unit types.now unit.now) (view types.now full.now) at.now (view types.now argument.now)) }
 {
     let quiet = QuietFunctions::of(alloc, unit)?;
-    Ok(is_stable(&quiet, types, full, at, argument))
+    let objects = Objects::of(alloc, unit)?;
+    Ok(is_stable(&quiet, &objects, types, full, at, argument))
 }
 
-/// Whether it is, in the unit whose quiet functions are known. Takes no memory. Looks through the unit once for each read of an object.
+/// Whether it is, in the unit of which it is known which functions are quiet and what its trees do to its objects. Takes no memory.
 pub fn is_stable(
     quiet: &QuietFunctions,
+    objects: &Objects,
     types: &Types,
     full: &Core,
     at: &Path,
     argument: &Core,
 ) -> bool
-    requires { IsTrue (list_all (entry_has_known (length types.now.shapes)) quiet.now.declared) }
+    requires entries { IsTrue (list_all (entry_has_known (length types.now.shapes)) quiet.now.declared) }
+    requires same { objects.now ≡ quiet.now }
     ensures { result ≡ stable.is_stable (view_of_unit types.now quiet.now) (view types.now full.now) at.now (view types.now argument.now) }
 {
     if !is_pure(argument) {
@@ -51,6 +55,7 @@ pub fn is_stable(
     }
     let kept = Kept {
         unit: quiet.unit(),
+        objects,
         types,
         full,
         at,

@@ -1,0 +1,168 @@
+//! What is noted of objects.
+
+ghost use Rattle.std.specs.Prelude.{◌≡◌, ◌||◌, ◌==◌, ℕ, Bool, map, not};
+ghost use Rattle.std.specs.List.{list_any};
+ghost use Rattle.dm_type.specs.Tables.{Table};
+ghost use Rattle.dm_tree.specs.Views.{view, view_of_local};
+ghost use Rattle.dm_meaning.specs.Wholes.{view_of_initial};
+ghost use Rattle.dm_effect.specs.Entities.{addresses_here, is_this, locals_here};
+ghost use Rattle.dm_effect.specs.Questions.{as_local};
+ghost use Rattle.dm_effect.specs.Safe.{holds};
+ghost use Rattle.dm_stable.specs.Marks as marks_of;
+ghost use Rattle.dm_stable.specs.Marks.{Adds, Follows, Tells, does, does_local, does_name, mark_at, receives};
+
+use crate::names::object_named;
+use dm_token::Span;
+use dm_tree::{Core, Form, Initial, Local};
+
+/// What a tree may do to an object.
+#[derive(Clone, Copy)]
+pub(crate) enum Deed {
+    /// It takes its address by its name.
+    Addresses,
+    /// It is a declaration that defines it.
+    Defines,
+    /// It is a declaration that initialises it, and an argument stands outside of the initialiser.
+    Initialises,
+    /// It is a function definition of which it is a parameter.
+    Receives,
+}
+
+/// Whether something does that, where an argument begins at a token.
+#[derive(Clone, Copy)]
+pub(crate) enum Mark {
+    No,
+    /// Yes, unless the token is one of these.
+    Outside(Span),
+    Yes,
+    /// It has to be looked for.
+    Open,
+}
+
+/// What two marks of one object say together.
+fn joined(first: Mark, second: Mark) -> Mark
+    ensures { result ≡ marks_of.joined first second }
+{
+    match first {
+        Mark::No => second,
+        Mark::Outside(_) => match second {
+            Mark::No => first,
+            Mark::Yes => Mark::Yes,
+            Mark::Outside(_) | Mark::Open => Mark::Open,
+        },
+        Mark::Yes => Mark::Yes,
+        Mark::Open => match second {
+            Mark::Yes => Mark::Yes,
+            Mark::No | Mark::Outside(_) | Mark::Open => Mark::Open,
+        },
+    }
+}
+
+/// One more mark for an object.
+fn note(marks: &mut Vec<Mark>, object: u32, mark: Mark)
+    ensures { (d token : ℕ) (old added : Bool) → Tells (mark_at marks.old.items d) token old → Adds object mark d token added → Tells (mark_at marks.new.items d) token (old || added) }
+{
+    let number = object as usize;
+    if number < marks.len() {
+        marks[number] = joined(marks[number], mark);
+    }
+}
+
+/// What a node does.
+pub(crate) fn note_node(node: &Core, deed: Deed, marks: &mut Vec<Mark>)
+    ensures { (types : Table) → Follows (λ d token. does deed d token (view types node.now)) marks.old.items marks.new.items }
+{
+    note_address(node, deed, marks);
+    note_locals(locals_of(node), deed, marks);
+}
+
+/// What a node does if it is `&` of an object's name.
+fn note_address(node: &Core, deed: Deed, marks: &mut Vec<Mark>)
+    ensures { (types : Table) → Follows (λ d token. does_name deed d (view types node.now)) marks.old.items marks.new.items }
+{
+    if let Deed::Addresses = deed {
+        if let Some(object) = object_addressed(node) {
+            note(marks, object, Mark::Yes);
+        }
+    }
+}
+
+/// The object whose address a node is by its name.
+fn object_addressed(node: &Core) -> Option<u32>
+    ensures { (types : Table) (d : ℕ) → addresses_here d (view types node.now) ≡ is_this d result }
+{
+    match &node.form {
+        Form::Address(operand) => object_named(operand.get()),
+        _ => None,
+    }
+}
+
+/// The declarators of a node.
+fn locals_of(node: &Core) -> &[Local]
+    ensures { (types : Table) → locals_here (view types node.now) ≡ map as_local (map (view_of_local types) result.now) }
+{
+    match &node.form {
+        Form::Declare(_, locals) => locals.items(),
+        _ => &[],
+    }
+}
+
+/// What a function definition does with these parameters.
+pub(crate) fn note_parameters(parameters: &[u32], deed: Deed, marks: &mut Vec<Mark>)
+    ensures { Follows (λ d token. receives deed d parameters.now) marks.old.items marks.new.items }
+{
+    if let Deed::Receives = deed {
+        note_all(parameters, marks);
+    }
+}
+
+/// What is done to each of some objects.
+fn note_all(objects: &[u32], marks: &mut Vec<Mark>)
+    ensures { Follows (λ d token. list_any (λ number. number == d) objects.now) marks.old.items marks.new.items }
+{
+    let mut left = objects;
+    while let Some((object, rest)) = left.split_first() {
+        note(marks, *object, Mark::Yes);
+        left = rest;
+    }
+}
+
+/// What some declarators do.
+pub(crate) fn note_locals(locals: &[Local], deed: Deed, marks: &mut Vec<Mark>)
+    ensures { (types : Table) → Follows (λ d token. list_any (does_local deed d token) (map as_local (map (view_of_local types) locals.now))) marks.old.items marks.new.items }
+{
+    let mut left = locals;
+    while let Some((local, rest)) = left.split_first() {
+        note_local(local, deed, marks);
+        left = rest;
+    }
+}
+
+/// What a declarator does.
+fn note_local(local: &Local, deed: Deed, marks: &mut Vec<Mark>)
+    ensures { (types : Table) → Follows (λ d token. does_local deed d token (as_local (view_of_local types local.now))) marks.old.items marks.new.items }
+{
+    match deed {
+        Deed::Addresses | Deed::Receives => {}
+        Deed::Defines => {
+            if local.defines {
+                note(marks, local.declared, Mark::Yes);
+            }
+        }
+        Deed::Initialises => {
+            if let Some(initial) = &local.initial {
+                note(marks, local.declared, outside(initial));
+            }
+        }
+    }
+}
+
+/// Where a token stands outside of an initialiser.
+fn outside(initial: &Initial) -> Mark
+    ensures { (types : Table) (token : ℕ) → Tells result token (not (list_any (holds token) (view_of_initial types initial.now).expressions)) }
+{
+    match initial {
+        Initial::Value(tree) => Mark::Outside(tree.get().outer),
+        Initial::Parts(_) => Mark::Open,
+    }
+}
