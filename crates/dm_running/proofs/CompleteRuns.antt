@@ -1,5 +1,5 @@
 -- Where nothing fails and a unit has a typing with a `main`, its run is put.
-use Rattle.std.proofs.Common.{◌≡◌, ◌∙◌, ℕ, ◌<◌, ◌⊎◌, inl, inr, false, List, [], ◌∷◌, if◌then◌else◌, length, Option, Some, None, is_some, Ok, Err, refl, sym, ap, subst, arith}
+use Rattle.std.proofs.Common.{◌≡◌, ◌∙◌, ℕ, ◌<◌, ◌⊎◌, inl, inr, false, List, [], ◌∷◌, if◌then◌else◌, length, Option, Some, None, is_some, Result, Ok, Err, refl, sym, ap, subst, arith}
 use Rattle.std.proofs.lemmas.Bool.{true≢false, false≢true}
 use Rattle.std.specs.Option.{IsSomeAnd}
 use Rattle.dm_token.specs.Limits.{source_length_limit}
