@@ -1,9 +1,8 @@
 pub mod SelfLemmas
 pub mod NumberLemmas
-pub mod TypeLemmas
 pub mod StepLemmas
-pub mod InitialLemmas
-pub mod PartLemmas
-pub mod HeadLemmas
-pub mod AgreeLemmas
-pub mod StandingLemmas
+pub mod EntryLemmas
+pub mod ParameterLemmas
+pub mod InsertionLemmas
+pub mod PlaceLemmas
+pub mod AlignmentLemmas

@@ -33,7 +33,7 @@ get-without (suc from) count (suc d) (x ∷ xs) =
     let e : suc from + count ≡ suc (from + count) = omega arith in
     get-without from count d xs ∙ sym (ap (λ n. slice_get (take from xs ++ drop n (x ∷ xs)) d) e)
 
-get-map : {A B : Type 0} (f : A → B) (items : List A) (d : ℕ) → slice_get (map f items) d ≡ option_map f (slice_get items d)
+pub get-map : {A B : Type 0} (f : A → B) (items : List A) (d : ℕ) → slice_get (map f items) d ≡ option_map f (slice_get items d)
 get-map f [] d = refl
 get-map f (x ∷ xs) zero = refl
 get-map f (x ∷ xs) (suc d) = get-map f xs d

@@ -5,8 +5,8 @@ use Rattle.dm_runs.specs.declared.run.Run.{Run}
 use Rattle.dm_tree.specs.Trees.{Label, declare, Declarator, Spans, Tree, Trees, node, no_trees, more_trees}
 use Rattle.dm_tree.specs.Units.{External, ExternalForm, declares, defines_function}
 use Rattle.dm_meaning.specs.Replaced.{relabelled, renamed_declarator, Zipped}
-use Rattle.dm_align.specs.Standing.{runs_with, extents_of, extents_below}
-use Rattle.dm_align.specs.Agreement.{Rewriting, nothing, Agrees, AllAgree, AgreesWhole}
+use Rattle.dm_agree.specs.Standing.{runs_with, extents_of, extents_below}
+use Rattle.dm_agree.specs.Agreement.{Rewriting, nothing, Agrees, AllAgree, AgreesWhole}
 use Rattle.dm_align.specs.Units.{moved, ExternalsAgree, FormsAgree}
 
 -- the renaming of nothing

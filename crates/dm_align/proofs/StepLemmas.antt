@@ -1,118 +1,155 @@
--- Two lists compared in step.
-use Rattle.std.proofs.Common.{◌≡◌, ◌↔◌, Bool, true, false, IsTrue, List, [], ◌∷◌, length, map, Option, refl, sym, ap, ◌∙◌, subst}
-use Rattle.std.proofs.lemmas.Bool.{false≢true}
-use Rattle.dm_type.specs.Tables.{Table}
-use Rattle.dm_tree.specs.declared.tree.Initial.{Initial}
-use Rattle.dm_tree.specs.declared.tree.Local.{Local}
-use Rattle.dm_tree.specs.Trees.{Declarator, Initialiser, Initialisers, no_items, more_items}
-use Rattle.dm_tree.specs.Views.{declarators_of, items_of, view_of_local}
-use Rattle.dm_meaning.specs.Replaced.{renamed_declarator}
-use Rattle.dm_meaning.specs.Wholes.{view_of_initial}
-use Rattle.dm_align.specs.declared.moves.Block.{Block}
-use Rattle.dm_align.specs.Moves.{moved_past}
+-- Two lists compared one by one.
+use Rattle.std.proofs.Common.{◌≡◌, ◌↔◌, ◌≤◌, ◌<◌, ◌+◌, ℕ, zero, suc, Bool, true, false, ◌&&◌, IsTrue, List, [], ◌∷◌, ◌++◌, length, map, take, drop, Some, option_map, slice_get, refl, sym, ap, ◌∙◌, subst, arith}
+use borrow.Author.Count.{below_more}
+use Rattle.std.proofs.lemmas.Bool.{and_parts}
+use Rattle.std.specs.List.{list_all}
+use Rattle.std.proofs.lemmas.List.{length-append}
+use Rattle.dm_tree.specs.TypeNumbers.{all_pass}
+use Rattle.dm_meaning.specs.Replaced.{Zipped}
+use Rattle.dm_agree.proofs.StepLemmas.{never, denied}
+use Rattle.dm_align.specs.Units.{without}
 
--- a test that says no, where the fact would give what another one denies
-pub denied : {P Q : Type 0} (test : Bool) → (IsTrue test ↔ Q) → test ≡ false → (P → Q) → IsTrue false ↔ P
-denied test says refused gives = (λ e. absurd (false≢true e), λ p. absurd (false≢true (sym refused ∙ says.1 (gives p))))
+-- ---- lists whose items are related one by one
 
-pub never : {P : Type 0} → (P → ⊥) → IsTrue false ↔ P
-never none = (λ e. absurd (false≢true e), λ p. absurd (none p))
+module _ {A B : Type 0} (R : A → B → Type 0) where
+  -- those before a position are
+  abbrev pub AreSoFar : List A → List B → ℕ → Type 0
+  AreSoFar xs ys n = (k : ℕ) → k < n → (x : A) (y : B) → slice_get xs k ≡ Some x → slice_get ys k ≡ Some y → R x y
 
-pub through : {P Q R : Type 0} → P ↔ Q → Q ↔ R → P ↔ R
-through p q = (λ x. q.0 (p.0 x), λ z. p.1 (q.1 z))
+  pub zipped-length : (xs : List A) (ys : List B) → Zipped R xs ys → length xs ≡ length ys
+  zipped-length [] [] z = refl
+  zipped-length [] (y ∷ ys) z = absurd z
+  zipped-length (x ∷ xs) [] z = absurd z
+  zipped-length (x ∷ xs) (y ∷ ys) z = ap suc (zipped-length xs ys z.1)
 
-pub back : {P Q : Type 0} → P ↔ Q → Q ↔ P
-back p = (p.1, p.0)
+  pub zipped-at : (xs : List A) (ys : List B) → Zipped R xs ys → (k : ℕ) (x : A) (y : B) → slice_get xs k ≡ Some x → slice_get ys k ≡ Some y → R x y
+  zipped-at [] ys z k x y here there = absurd (cc)
+  zipped-at (a ∷ xs) [] z k x y here there = absurd z
+  zipped-at (a ∷ xs) (b ∷ ys) z zero x y here there =
+      let left : a ≡ x = cc in let right : b ≡ y = cc in
+      subst (λ c. R c y) left (subst (λ d. R a d) right z.0)
+  zipped-at (a ∷ xs) (b ∷ ys) z (suc k) x y here there = zipped-at xs ys z.1 k x y here there
 
-pub itself : {P : Type 0} → P ↔ P
-itself = (λ x. x, λ x. x)
+  pub zipped-by : (xs : List A) (ys : List B) → length xs ≡ length ys → ((k : ℕ) (x : A) (y : B) → slice_get xs k ≡ Some x → slice_get ys k ≡ Some y → R x y) → Zipped R xs ys
+  zipped-by [] [] same each = tt
+  zipped-by [] (y ∷ ys) same each = absurd (cc)
+  zipped-by (x ∷ xs) [] same each = absurd (cc)
+  zipped-by (x ∷ xs) (y ∷ ys) same each = (each 0 x y refl refl, zipped-by xs ys (cc) (λ k a b here there. each (suc k) a b here there))
 
-module _ {A B : Type 0} (Same : List A → List B → Type 0) (One : A → B → Type 0) (empty : Same [] [])
-    (more : (x : A) (y : B) (xs : List A) (ys : List B) → Same (x ∷ xs) (y ∷ ys) ↔ (One x y × Same xs ys))
-    (short : (y : B) (ys : List B) → Same [] (y ∷ ys) → ⊥) (long : (x : A) (xs : List A) → Same (x ∷ xs) [] → ⊥)
-    (all left : List A) (others rest : List B) (so_far : Same left rest ↔ Same all others) where
-  none : {X : Type 0} (xs : List X) → length xs ≡ 0 → xs ≡ []
-  none [] h = refl
-  none (x ∷ xs) h = absurd (cc)
+  within : {C : Type 0} (cs : List C) (k : ℕ) (c : C) → slice_get cs k ≡ Some c → k < length cs
+  within [] k c here = absurd (cc)
+  within (x ∷ cs) zero c here = omega arith
+  within (x ∷ cs) (suc k) c here = let less = within cs k c here in omega arith
 
-  here : (x : A) (xs : List A) (y : B) (ys : List B) → left ≡ x ∷ xs → rest ≡ y ∷ ys → (One x y × Same xs ys) ↔ Same all others
-  here x xs y ys first second = through (back (more x y xs ys)) (subst (λ l. Same l (y ∷ ys) ↔ Same all others) first (subst (λ r. Same left r ↔ Same all others) second so_far))
+  pub none-yet : (xs : List A) (ys : List B) → AreSoFar xs ys 0
+  none-yet xs ys k less x y here there = absurd (omega arith)
 
-  pub too-long : (x : A) (xs : List A) → left ≡ x ∷ xs → length rest ≡ 0 → IsTrue false ↔ Same all others
-  too-long x xs first gone =
-      never (λ same. long x xs (subst (λ l. Same l []) first (subst (λ r. Same left r) (none rest gone) (so_far.1 same))))
+  pub other-lengths : (xs : List A) (ys : List B) → (length xs ≡ length ys → ⊥) → IsTrue false ↔ Zipped R xs ys
+  other-lengths xs ys other = never (λ z. other (zipped-length xs ys z))
 
-  pub differs : (x : A) (xs : List A) (y : B) (ys : List B) → left ≡ x ∷ xs → rest ≡ y ∷ ys → (test : Bool) → (IsTrue test ↔ One x y) → test ≡ false
-      → IsTrue false ↔ Same all others
-  differs x xs y ys first second test says refused = denied test says refused (λ same. ((here x xs y ys first second).1 same).0)
+  pub differ : (xs : List A) (ys : List B) (n : ℕ) (x : A) (y : B) → slice_get xs n ≡ Some x → slice_get ys n ≡ Some y
+      → (test : Bool) → (IsTrue test ↔ R x y) → test ≡ false → IsTrue false ↔ Zipped R xs ys
+  differ xs ys n x y here there test says refused = denied test says refused (λ z. zipped-at xs ys z n x y here there)
 
-  pub goes-on : (x : A) (xs : List A) (y : B) (ys : List B) → left ≡ x ∷ xs → rest ≡ y ∷ ys → (test : Bool) → (IsTrue test ↔ One x y) → test ≡ true
-      → Same xs ys ↔ Same all others
-  goes-on x xs y ys first second test says passed =
-      through (λ same. (says.0 passed, same), λ both. both.1) (here x xs y ys first second)
+  pub one-more : (xs : List A) (ys : List B) (n : ℕ) (x : A) (y : B) → slice_get xs n ≡ Some x → slice_get ys n ≡ Some y
+      → (test : Bool) → (IsTrue test ↔ R x y) → test ≡ true → AreSoFar xs ys n → AreSoFar xs ys (n + 1)
+  one-more xs ys n x y here there test says passed before =
+      below_more (λ k. (a : A) (b : B) → slice_get xs k ≡ Some a → slice_get ys k ≡ Some b → R a b) n before
+      (λ a b at_n other. let left : x ≡ a = cc in let right : y ≡ b = cc in subst (λ c. R c b) left (subst (λ d. R x d) right (says.0 passed)))
 
-  ends : (r : List B) → (test : Bool) → (IsTrue test ↔ (length r ≡ 0)) → IsTrue test ↔ Same [] r
-  ends [] test says = (λ e. empty, λ e. says.1 refl)
-  ends (y ∷ ys) test says = (λ e. absurd (no-length (says.0 e)), λ same. absurd (short y ys same))
-    where
-      no-length : length (y ∷ ys) ≡ 0 → ⊥
-      no-length h = cc
+  pub all-are : (xs : List A) (ys : List B) (n : ℕ) → length xs ≡ length ys → length xs ≤ n → AreSoFar xs ys n → IsTrue true ↔ Zipped R xs ys
+  all-are xs ys n same whole before =
+      (λ e. zipped-by xs ys same (λ k x y here there. before k (let less = within xs k x here in omega arith) x y here there), λ z. refl)
 
-  pub at-end : length left ≡ 0 → (test : Bool) → (IsTrue test ↔ (length rest ≡ 0)) → IsTrue test ↔ Same all others
-  at-end gone test says = through (subst (λ l. IsTrue test ↔ Same l rest) (sym (none left gone)) (ends rest test says)) so_far
+-- ---- by what the items stand for
 
--- ---- initialisers
+pub zipped-map : {A B C D : Type 0} (R : C → D → Type 0) (f : A → C) (g : B → D) (xs : List A) (ys : List B) → Zipped (λ x y. R (f x) (g y)) xs ys ↔ Zipped R (map f xs) (map g ys)
+zipped-map R f g [] [] = (λ z. z, λ z. z)
+zipped-map R f g [] (y ∷ ys) = (λ z. z, λ z. z)
+zipped-map R f g (x ∷ xs) [] = (λ z. z, λ z. z)
+zipped-map R f g (x ∷ xs) (y ∷ ys) = let rest = zipped-map R f g xs ys in (λ z. (z.0, rest.0 z.1), λ z. (z.0, rest.1 z.1))
 
-abbrev pub SameItems : Table → Table → List Initial → List Initial → Type 0
-SameItems a b new old = items_of (map (view_of_initial a) new) ≡ items_of (map (view_of_initial b) old)
+pub zipped-same : {A B C : Type 0} (f : A → C) (g : B → C) (xs : List A) (ys : List B) → Zipped (λ x y. f x ≡ g y) xs ys ↔ (map f xs ≡ map g ys)
+zipped-same f g [] [] = (λ z. refl, λ e. tt)
+zipped-same f g [] (y ∷ ys) = (λ z. absurd z, λ e. absurd (cc))
+zipped-same f g (x ∷ xs) [] = (λ z. absurd z, λ e. absurd (cc))
+zipped-same f g (x ∷ xs) (y ∷ ys) =
+    let rest = zipped-same f g xs ys in
+    (λ z. let first = z.0 in let others = rest.0 z.1 in cc, λ e. let first : f x ≡ g y = cc in let others : map f xs ≡ map g ys = cc in (first, rest.1 others))
 
-abbrev pub SameInitial : Table → Table → Initial → Initial → Type 0
-SameInitial a b new old = (view_of_initial a new).initialiser ≡ (view_of_initial b old).initialiser
+-- ---- what is shown of items
 
-pub items-more : (a b : Table) (x y : Initial) (xs ys : List Initial) → SameItems a b (x ∷ xs) (y ∷ ys) ↔ (SameInitial a b x y × SameItems a b xs ys)
-items-more a b x y xs ys =
-    (λ e. (ap first e, ap behind e), λ both. ap (λ one. more_items one (items_of (map (view_of_initial a) xs))) both.0 ∙ ap (more_items (view_of_initial b y).initialiser) both.1)
-  where
-    first : Initialisers → Initialiser
-    first no_items = (view_of_initial a x).initialiser
-    first (more_items one others) = one
+pub there : {A : Type 0} (xs : List A) (n : ℕ) → n < length xs → (x : A) × (slice_get xs n ≡ Some x)
+there [] n less = absurd (omega arith)
+there (x ∷ xs) zero less = (x, refl)
+there (x ∷ xs) (suc n) less = there xs n (omega arith)
 
-    behind : Initialisers → Initialisers
-    behind no_items = no_items
-    behind (more_items one others) = others
-
-pub items-short : (a b : Table) (y : Initial) (ys : List Initial) → SameItems a b [] (y ∷ ys) → ⊥
-items-short a b y ys e = cc
-
-pub items-long : (a b : Table) (x : Initial) (xs : List Initial) → SameItems a b (x ∷ xs) [] → ⊥
-items-long a b x xs e = cc
-
--- ---- declarators
-
-abbrev pub SameDeclarators : Table → Table → Option Block → List Local → List Local → Type 0
-SameDeclarators a b block new old = declarators_of (map (view_of_local a) new) ≡ map (renamed_declarator (moved_past block)) (declarators_of (map (view_of_local b) old))
-
-abbrev pub SameDeclarator : Table → Table → Option Block → Local → Local → Type 0
-SameDeclarator a b block new old = (view_of_local a new).declarator ≡ renamed_declarator (moved_past block) (view_of_local b old).declarator
-
-pub declarators-more : (a b : Table) (block : Option Block) (x y : Local) (xs ys : List Local)
-    → SameDeclarators a b block (x ∷ xs) (y ∷ ys) ↔ (SameDeclarator a b block x y × SameDeclarators a b block xs ys)
-declarators-more a b block x y xs ys = (
-  λ e. (ap first e, ap behind e),
-  λ both. ap (λ one. one ∷ declarators_of (map (view_of_local a) xs)) both.0
-      ∙ ap (λ (others : List Declarator). renamed_declarator (moved_past block) (view_of_local b y).declarator ∷ others) both.1,
+pub shown-at : {A B C : Type 0} (f : A → C) (g : B → C) (xs : List A) (ys : List B) (n : ℕ) (x : A) (y : B) → slice_get xs n ≡ Some x → slice_get ys n ≡ Some y
+    → (option_map f (slice_get xs n) ≡ option_map g (slice_get ys n)) ↔ (f x ≡ g y)
+shown-at f g xs ys n x y here other = (
+  λ e. let both : Some (f x) ≡ Some (g y) = sym (ap (option_map f) here) ∙ (e ∙ ap (option_map g) other) in cc,
+  λ e. ap (option_map f) here ∙ (ap Some e ∙ sym (ap (option_map g) other)),
 )
-  where
-    first : List Declarator → Declarator
-    first [] = (view_of_local a x).declarator
-    first (one ∷ others) = one
 
-    behind : List Declarator → List Declarator
-    behind [] = []
-    behind (one ∷ others) = others
+pub zipped-as : {A B : Type 0} (g : B → A) (xs : List A) (ys : List B) → Zipped (λ x y. x ≡ g y) xs ys ↔ (xs ≡ map g ys)
+zipped-as g [] [] = (λ z. refl, λ e. tt)
+zipped-as g [] (y ∷ ys) = (λ z. absurd z, λ e. absurd (cc))
+zipped-as g (x ∷ xs) [] = (λ z. absurd z, λ e. absurd (cc))
+zipped-as g (x ∷ xs) (y ∷ ys) =
+    let rest = zipped-as g xs ys in
+    (λ z. let first = z.0 in let others = rest.0 z.1 in cc, λ e. let first : x ≡ g y = cc in let others : xs ≡ map g ys = cc in (first, rest.1 others))
 
-pub declarators-short : (a b : Table) (block : Option Block) (y : Local) (ys : List Local) → SameDeclarators a b block [] (y ∷ ys) → ⊥
-declarators-short a b block y ys e = cc
+-- ---- a list in two parts
 
-pub declarators-long : (a b : Table) (block : Option Block) (x : Local) (xs : List Local) → SameDeclarators a b block (x ∷ xs) [] → ⊥
-declarators-long a b block x xs e = cc
+module _ {A B : Type 0} (R : A → B → Type 0) where
+  pub zipped-parts : (front back : List A) (ys : List B) → length front ≤ length ys
+      → (Zipped R front (take (length front) ys) × Zipped R back (drop (length front) ys)) ↔ Zipped R (front ++ back) ys
+  zipped-parts [] back ys enough = (λ z. z.1, λ z. (tt, z))
+  zipped-parts (x ∷ front) back [] enough = absurd (omega arith)
+  zipped-parts (x ∷ front) back (y ∷ ys) enough =
+      let rest = zipped-parts front back ys (omega arith) in
+      (λ z. (z.0.0, rest.0 (z.0.1, z.1)), λ z. let more = rest.1 z.1 in ((z.0, more.0), more.1))
+
+  pub too-short : (front back : List A) (ys : List B) → length ys < length front → IsTrue false ↔ Zipped R (front ++ back) ys
+  too-short front back ys less = never (λ z. let same = zipped-length R (front ++ back) ys z in let more = length-append front back in absurd (omega (arith, same, more, less)))
+
+-- ---- a list without a part of it
+
+module _ {A B : Type 0} (R : A → B → Type 0) (xs : List A) (ys : List B) (from count : ℕ) (front back : List A)
+    (front_is : front ≡ take from xs) (back_is : back ≡ drop (from + count) xs) where
+  whole : front ++ back ≡ without from count xs
+  whole = ap (λ one. one ++ back) front_is ∙ ap (λ one. take from xs ++ one) back_is
+
+  pub around-parts : (before behind : List B) → before ≡ take (length front) ys → behind ≡ drop (length front) ys → length front ≤ length ys
+      → (Zipped R front before × Zipped R back behind) ↔ Zipped R (without from count xs) ys
+  around-parts before behind before_is behind_is enough =
+      subst (λ one. (Zipped R front one × Zipped R back behind) ↔ Zipped R (without from count xs) ys) (sym before_is)
+      (subst (λ one. (Zipped R front (take (length front) ys) × Zipped R back one) ↔ Zipped R (without from count xs) ys) (sym behind_is)
+      (subst (λ one. (Zipped R front (take (length front) ys) × Zipped R back (drop (length front) ys)) ↔ Zipped R one ys) whole (zipped-parts R front back ys enough)))
+
+  pub around-short : length ys < length front → IsTrue false ↔ Zipped R (without from count xs) ys
+  around-short less = subst (λ one. IsTrue false ↔ Zipped R one ys) whole (too-short R front back ys less)
+
+-- both tests, where one decides the first part and the other the rest
+pub both-parts : {P Q : Type 0} (test : Bool) → (IsTrue test ↔ Q) → P → IsTrue test ↔ (P × Q)
+both-parts test says p = (λ e. (p, says.0 e), λ both. says.1 both.1)
+
+pub first-fails : {P Q : Type 0} (test : Bool) → (IsTrue test ↔ P) → test ≡ false → IsTrue false ↔ (P × Q)
+first-fails test says refused = denied test says refused (λ both. both.0)
+
+-- ---- a test that all items pass
+
+pub list-take : {A : Type 0} (p : A → Bool) (n : ℕ) (xs : List A) → IsTrue (list_all p xs) → IsTrue (list_all p (take n xs))
+list-take p zero xs h = refl
+list-take p (suc n) [] h = h
+list-take p (suc n) (x ∷ xs) h =
+    let both = and_parts (p x) (list_all p xs) h in let rest : list_all p (take n xs) ≡ true = list-take p n xs both.1 in ap (λ one. one && list_all p (take n xs)) both.0 ∙ rest
+
+pub list-drop : {A : Type 0} (p : A → Bool) (n : ℕ) (xs : List A) → IsTrue (list_all p xs) → IsTrue (list_all p (drop n xs))
+list-drop p zero xs h = h
+list-drop p (suc n) [] h = h
+list-drop p (suc n) (x ∷ xs) h = list-drop p n xs (and_parts (p x) (list_all p xs) h).1
+
+pub pass-each : {A : Type 0} (p : A → Bool) (xs : List A) → list_all p xs ≡ all_pass (map p xs)
+pass-each p [] = refl
+pass-each p (x ∷ xs) = ap (λ rest. p x && rest) (pass-each p xs)

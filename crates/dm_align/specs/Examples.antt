@@ -12,7 +12,7 @@ use Rattle.dm_tree.specs.declared.unit.Linkage.TheVariants.{External, Internal, 
 use Rattle.dm_tree.specs.declared.unit.Sort.TheVariants.{Object, Function, Enumerator}
 use Rattle.dm_tree.specs.Trees.{Label, number, enumerator, object, function, read, convert, binary, choose, call, sizeof_tree, block, full, return, one_expression, Tree, node, trees}
 use Rattle.dm_tree.specs.Units.{Declaration, External as Outer, declares, defines_function, TypedUnit}
-use Rattle.dm_align.specs.Agreement.{added_function, added_enumerator, added_constant, Rewriting}
+use Rattle.dm_agree.specs.Agreement.{added_function, added_enumerator, added_constant, Rewriting}
 use Rattle.dm_align.specs.Units.{Insertion, rewriting_of}
 
 -- ---- trees

@@ -1,10 +1,4 @@
-pub mod Standing
-pub mod SameTypes
-pub mod Moves
-pub mod Heads
-pub mod Parts
-pub mod Runs
-pub mod Comparing
-pub mod Agreement
 pub mod Units
 pub mod Examples
+pub mod Insertions
+pub mod Places

@@ -1,20 +1,17 @@
 -- Two typed units agree, but for a declaration that is added and for what stands where runs of a macro stood (6.9).
---     AreSameStructs old_types new_types      the structs correspond by their numbers
 --     Insertion      where the added declaration stands, and what it declares
 --     moved put d      the new number of an old declaration
 --     IsPutIn types new put      the added declaration stands there
 --     AreAligned old_types new_types old new runs put      the units agree
-use Rattle.std.specs.Prelude.{◌≡◌, ℕ, ◌+◌, ◌<◌, ◌≤◌, nat_lt, Bool, false, true, ◌&&◌, not, ◌==◌, IsTrue, List, [], ◌∷◌, ◌++◌, map, length, take, drop, Option, Some, None, option_map, slice_get, ℤ, if◌then◌else◌}
+use Rattle.std.specs.Prelude.{◌≡◌, ℕ, ◌+◌, ◌<◌, ◌≤◌, nat_lt, Bool, false, true, ◌&&◌, not, ◌==◌, IsTrue, List, [], ◌∷◌, ◌++◌, map, take, drop, Option, Some, None, slice_get, ℤ, if◌then◌else◌}
 use Rattle.std.specs.List.{list_any, AllByRecursion}
 use Rattle.std.specs.Option.{IsSomeAnd}
 use Rattle.dm_token.specs.declared.place.Span.{Span}
 use Rattle.dm_runs.specs.declared.run.Occurrence.{Occurrence}
 use Rattle.dm_runs.specs.declared.run.Run.{Run}
-use Rattle.dm_type.specs.declared.shape.Member.{Member}
-use Rattle.dm_type.specs.declared.shape.Content.{Content}
-use Rattle.dm_type.specs.declared.layout.Layout.{Layout}
 use Rattle.dm_type.specs.CTypes.{CType, function as function_type, is_const, bare}
-use Rattle.dm_type.specs.Tables.{Table, type_of, tag_of, content_of}
+use Rattle.dm_type.specs.Structs.{AreSameStructs}
+use Rattle.dm_type.specs.Tables.{Table}
 use Rattle.dm_tree.specs.declared.unit.Sort.{Sort}
 use Rattle.dm_tree.specs.declared.unit.Sort.TheVariants.{Object, Function, Enumerator}
 use Rattle.dm_tree.specs.declared.unit.Linkage.{Linkage}
@@ -26,22 +23,8 @@ use Rattle.dm_tree.specs.Trees.{Label, sizeof_tree, sizeof_kind, full, return, D
 use Rattle.dm_tree.specs.Units.{Declaration, External, ExternalForm, declares, defines_function, TypedUnit}
 use Rattle.dm_meaning.specs.Replaced.{renamed_declarator, Zipped}
 use Rattle.dm_effect.specs.Entities.{nodes_of_unit}
-use Rattle.dm_align.specs.Standing.{stands}
-use Rattle.dm_align.specs.Agreement.{Added, nothing, added_function, added_enumerator, added_constant, Rewriting, AgreesWhole, AllAgreeWhole}
-
--- ---- structs
-
--- what a struct is, its members' types written out (6.7.2.1)
-abbrev pub shown_content : Table → Content → List (List ℕ × CType) × Option Layout
-shown_content table content = (map (λ (one : Member). (one.name, type_of table one.kind)) content.members, content.layout)
-
-abbrev pub shown_struct : Table → ℕ → Option (List ℕ) × Option (List (List ℕ × CType) × Option Layout)
-shown_struct table number = (tag_of table number, option_map (shown_content table) (content_of table number))
-
--- the structs correspond in the order in which they first appear, which is that of their numbers
-pub record AreSameStructs (old new : Table) : Type 0 where
-  pub count : length new.structs ≡ length old.structs
-  pub same : (number : ℕ) → shown_struct new number ≡ shown_struct old number
+use Rattle.dm_agree.specs.Standing.{stands}
+use Rattle.dm_agree.specs.Agreement.{Added, nothing, added_function, added_enumerator, added_constant, Rewriting, AgreesWhole, AllAgreeWhole}
 
 -- ---- what is put in
 
@@ -182,6 +165,7 @@ IsPlaced one run = (is_expression one run.span ≡ true) × AllByRecursion (IsOc
 -- Without what is put in, the declarations have the same names, sorts, types and linkage, and the external declarations agree one by one,
 -- where runs of the macro stood at these places.
 pub record AreAligned (old_types new_types : Table) (old new : TypedUnit) (runs : List Run) (put : Option Insertion) : Type 0 where
+  -- the structs correspond in the order in which they first appear, which is that of their numbers
   pub structs : AreSameStructs old_types new_types
   pub added : IsPutIn new_types new put
   pub declared : map entry_of (other_entries put new.declared) ≡ map entry_of old.declared

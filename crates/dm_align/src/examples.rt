@@ -4,7 +4,7 @@ ghost use Rattle.std.specs.Prelude.{◌≡◌, ◌+◌, [], ◌∷◌, Some, tru
 ghost use Rattle.dm_int.specs.declared.Kind.TheVariants.{Long};
 ghost use Rattle.dm_type.specs.CTypes.{integer};
 ghost use Rattle.dm_type.specs.Tables.{no_type};
-ghost use Rattle.dm_align.specs.Agreement.{AgreesWhole};
+ghost use Rattle.dm_agree.specs.Agreement.{AgreesWhole};
 ghost use Rattle.dm_align.specs.Examples as examples;
 ghost use Rattle.dm_align.specs.Units.{AreAligned, is_expression, is_unevaluated, IsPlaced};
 

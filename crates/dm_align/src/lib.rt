@@ -2,22 +2,20 @@
 //! the edit adds, and for what stands where runs of the macro stood.
 #![tactic(auto)]
 
-mod agree;
-mod comparison;
+mod entries;
 mod examples;
-mod head;
-mod initial;
+mod externals;
+mod insertion;
 mod laws;
-mod moves;
-mod parts;
-mod standing;
-mod types;
+mod places;
+mod slices;
+mod structs;
+mod units;
 
-pub use agree::agrees_whole;
-pub use comparison::{Added, Comparison};
 pub use examples::{
     added_declarations_are_aligned, calls_in_calls_agree, converted_calls_agree,
     other_trees_differ, runs_in_sizeof_are_not_placed,
 };
+pub use insertion::Inserted;
 pub use laws::{old_declarations_have_new_numbers, units_are_aligned_with_themselves};
-pub use moves::Block;
+pub use units::{Units, are_aligned, are_aligned_for};

@@ -28,7 +28,7 @@ pub changes_more : (stage : Stage) (fewer more : List Effect) (world later : Wor
 changes_more stage fewer more world later h k = record { same_objects = k.same_objects; same = λ at n e free. k.same at n e (λ effect l. free effect (h effect l)) }
 
 -- what an untouched tree reads is kept
-reads_kept : (stage : Stage) (beside : List Effect) (world later : World) → (k : ChangesOnly stage beside world later) → (tree : Run) → ReadsApart stage beside tree → (found : Computed) → computed stage.scene world tree ≡ Some found
+pub reads_kept : (stage : Stage) (beside : List Effect) (world later : World) → (k : ChangesOnly stage beside world later) → (tree : Run) → ReadsApart stage beside tree → (found : Computed) → computed stage.scene world tree ≡ Some found
     → KeepsPlaces world.memory later.memory found.reads
 reads_kept stage beside world later k tree apart found e at among absent = by_its_name at.name refl
   where
@@ -74,6 +74,7 @@ module _ (change : Called) (stage : Stage) (mode : Mode) (world later : World) w
     followed =
         all_followed_kept stage (effects_in stage inner ++ beside) world later
         (changes_more stage beside (effects_in stage inner ++ beside) world later (λ effect l. among_right effect (effects_in stage inner) beside l) k) h.ways inner h.followed;
+    calm = h.calm;
     late = h.late;
     closed = h.closed;
   }
@@ -149,6 +150,7 @@ module _ (change : Called) (stage : Stage) (safe : Tree → Bool) (world : World
     each = h.each;
     once = h.once;
     followed = all_followed_first stage world (effects_in stage (all_begun arguments) ++ beside) h.ways arguments h.untouched_ones;
+    calm = h.calm;
     late = h.late;
     closed = h.closed;
   }
@@ -244,12 +246,13 @@ module _ (change : Called) (stage : Stage) (safe : Tree → Bool) where
     each = h.each;
     once = h.once;
     untouched_ones = untouched_beside_less stage (effects_in stage (all_begun arguments) ++ beside) (effects_in stage (all_begun arguments) ++ beside') (no_more_both stage (effects_in stage (all_begun arguments)) beside (effects_in stage (all_begun arguments)) beside' (λ n free. free) c) h.ways arguments h.untouched_ones;
+    calm = h.calm;
     late = h.late;
     closed = h.closed;
   }
 
   mutual
-    begun_beside_less : (beside beside' : List Effect) → IsNoMore stage beside beside' → (tree other : Tree) → BegunOutside change stage safe beside tree other → BegunOutside change stage safe beside' tree other
+    pub begun_beside_less : (beside beside' : List Effect) → IsNoMore stage beside beside' → (tree other : Tree) → BegunOutside change stage safe beside tree other → BegunOutside change stage safe beside' tree other
     begun_beside_less beside beside' c (node label kind spans parts) other (inl h) = inl (h.0, h.1, all_begun_beside_less [] [] beside beside' (λ n free. free) c (open_of (label_of other)) parts (trees_of other) h.2)
     begun_beside_less beside beside' c (node label kind spans parts) other (inr h) = inr (h.0, call_beside_less beside beside' c label kind other h.0 h.1, begun_passes_beside_less beside beside' c h.1.kinds parts h.0 h.2)
 
@@ -286,6 +289,7 @@ module _ (change : Called) (stage : Stage) where
       each = h.each;
       once = h.once;
       followed = followed_beside_less stage world (effects_in stage inner ++ beside) (effects_in stage inner ++ beside') (no_more_both stage (effects_in stage inner) beside (effects_in stage inner) beside' (λ n free. free) c) h.ways inner h.followed;
+      calm = h.calm;
       late = h.late;
       closed = h.closed;
     }

@@ -22,16 +22,17 @@ use Rattle.dm_rewrite.specs.Computed.{Computed, computed, IsPure, ArePure, is_pu
 use Rattle.dm_rewrite.specs.PureSteps.{Meets}
 use Rattle.dm_rewrite.specs.Aside.{Claims, Follows, IsForeseen}
 use Rattle.dm_rewrite.specs.Closed.{Avoids, MemoryAvoids, May, only_closed, may_name, unseen, names_first, IsPlace, FirstIs, IsClosedIn, IsClosedInAll}
-use Rattle.dm_rewrite.specs.Effects.{Effect, on_others, Stage, target_effects, own_effects, effects_of, effects_in, lock_effects, call_effects, IsFree, ChangesOnly, IsNoMore}
+use Rattle.dm_rewrite.specs.Effects.{Effect, on_others, Stage, target_effects, own_effects, effects_of, effects_in, lock_effects, call_effects, IsFree, ChangesOnly, IsNoMore, LeavesNoMore}
 use Rattle.dm_rewrite.proofs.SettleLemmas.{FailsBeside, hopeless, locked_out, undefined_meets}
 use Rattle.dm_rewrite.proofs.AsideLemmas.{filled_pure, part_pure, fails_inside, part_foreseen}
 use Rattle.dm_rewrite.proofs.EffectLemmas.{writes_keep, moves_write}
-use Rattle.dm_rewrite.proofs.ShrinkEffectLemmas.{MovesCalm, runs_calm}
+use Rattle.dm_rewrite.proofs.ShrinkEffectLemmas.{AllFirst, run_calm, MovesCalm, runs_calm}
 use Rattle.dm_rewrite.proofs.ClosedRunLemmas.{runs_clear}
 use Rattle.dm_central.specs.Arguments.{Way, at_once, untouched, IsFollowed, AllFollowed, runs_at, trees_at, StandsWhole, ReadsFirst}
 use Rattle.dm_central.specs.Agreement.{Mode, is_inside, AreClosedIn, IsPassed, RunAgrees, RunsAgree}
 use Rattle.dm_central.specs.ArgumentSteps.{IsAtOnce, StepsAtOnce, StepsAside, FailsNow, ArgumentStep}
 use Rattle.dm_central.specs.Outcomes.{AvoidsClosed, Entered, GivesOne, AgreesBehind, AllAgreeBehind, StepAgrees, StepsAgree, Met, AreSafe}
+use Rattle.dm_central.proofs.PartLemmas.{part_first_in, no_place_closed}
 use Rattle.dm_central.proofs.AgreementLemmas.{Included, changes_more, all_followed_kept, no_more_both, followed_beside_less}
 use Rattle.dm_central.proofs.ArgumentStepLemmas.{argument_step}
 use Rattle.dm_central.proofs.ArgumentPlaceLemmas.{at_once_there, first_there}
@@ -147,7 +148,7 @@ module _ (n : ℕ) (objects : Objects) (run : Run) (kind : CType) (value : Value
   first_filled unseen hole below h = tt
 
   mutual
-    filled_closed : (hole : Hole) → IsClosedIn n objects (filled_in hole run) → IsClosedIn n objects (filled_in hole (done kind (of_value value) locks))
+    pub filled_closed : (hole : Hole) → IsClosedIn n objects (filled_in hole run) → IsClosedIn n objects (filled_in hole (done kind (of_value value) locks))
     filled_closed here h = avoids
     filled_closed (within doing own place holes) h = (h.0, all_filled_closed (names_first doing) holes h.1)
 
@@ -166,7 +167,7 @@ module _ (scene : Scene) (world : World) (locks : List At) where
       by_found (Some found) e m = locked_out scene world locks run pure found e m.0 m.1 m.2
 
   -- so does a tree with such a part that may be evaluated
-  meets_inside : (hole : Hole) → IsOpen hole → (run : Run) → IsPure (filled_in hole run) → Meets locks (computed scene world run) → Meets locks (computed scene world (filled_in hole run))
+  pub meets_inside : (hole : Hole) → IsOpen hole → (run : Run) → IsPure (filled_in hole run) → Meets locks (computed scene world run) → Meets locks (computed scene world (filled_in hole run))
   meets_inside hole o run pure meets = by_found (computed scene world (filled_in hole run)) refl
     where
       by_found : (found : Option Computed) → computed scene world (filled_in hole run) ≡ found → Meets locks found
@@ -183,7 +184,7 @@ module _ (scene : Scene) (world : World) (locks : List At) where
 module _ (change : Called) (stage : Stage) (mode : Mode) (world : World) (locks : List At) (beside : List Effect) (distinct : AreDistinct change.added.parameters)
     (own : (p : ℕ) → IsAmong p change.added.parameters → (c : ℕ) → change.rename c ≡ p → ⊥)
     (kind : CType) (place : Place) (other : Run) (inner : Runs) (passed : IsPassed change stage mode world beside (evaluates call) kind other inner) (named : Run) (is_named : IsNamedRun change named)
-    (avoid : (n : ℕ) → IsAmong n stage.closed → MemoryAvoids n world.memory) (safe : AreSafe stage mode world locks) where
+    (avoid : (n : ℕ) → IsAmong n stage.closed → MemoryAvoids n world.memory) (safe : AreSafe stage mode world locks) (shut : AllFirst stage world locks other) where
   -- ---- what steps of the old arguments change
 
   lifts : (holes : Holes) (run : Run) (m : Move Run Hole) → AreOpen every holes → inner ≡ all_filled_in holes run → IsAmong m (moves stage.scene world locks run)
@@ -242,8 +243,8 @@ module _ (change : Called) (stage : Stage) (mode : Mode) (world : World) (locks 
   -- the call stands for another expression, with other arguments
   abbrev passed_later : (at : World) (later : Runs) (now : Run) → StandsWhole change (given change.added.parameters passed.kinds) (given change.added.parameters (trees_at passed.ways)) (given change.added.parameters (runs_at passed.ways later)) change.body now
       → length (run_list later) ≡ length (run_list inner) → AllFollowed stage at (effects_in stage later ++ beside) passed.ways later → AreClosedIn stage later
-      → IsPassed change stage mode at beside (evaluates call) kind now later
-  passed_later at later now stands same_length followed closed = record {
+      → IsNoMore stage (effects_of stage other) (effects_of stage now) → IsPassed change stage mode at beside (evaluates call) kind now later
+  passed_later at later now stands same_length followed closed less = record {
     safe = passed.safe;
     elsewhere = passed.elsewhere;
     is = refl;
@@ -254,6 +255,7 @@ module _ (change : Called) (stage : Stage) (mode : Mode) (world : World) (locks 
     each = same_length ∙ passed.each;
     once = passed.once;
     followed = followed;
+    calm = λ tree k before found e place l n f. less n (passed.calm tree k before found e place l n f);
     late = passed.late;
     closed = closed;
   }
@@ -280,7 +282,7 @@ module _ (change : Called) (stage : Stage) (mode : Mode) (world : World) (locks 
           let here = subst (λ m. IsAmong m (moves_in stage.scene world locks every inner)) aside.is among in
           let p =
           passed_later world aside.later other
-          (subst (λ rs. StandsWhole change (given change.added.parameters passed.kinds) (given change.added.parameters (trees_at passed.ways)) (given change.added.parameters rs) change.body other) (sym aside.same) passed.stands) aside.count (still_followed aside.later here aside.followed) (still_closed aside.later world here) in
+          (subst (λ rs. StandsWhole change (given change.added.parameters passed.kinds) (given change.added.parameters (trees_at passed.ways)) (given change.added.parameters rs) change.body other) (sym aside.same) passed.stands) aside.count (still_followed aside.later here aside.followed) (still_closed aside.later world here) (λ n free. free) in
           inr (inl (record {
             run = calling_run parts;
             is = ap (λ w. goes w (calling_run parts)) k.0;
@@ -327,15 +329,17 @@ module _ (change : Called) (stage : Stage) (mode : Mode) (world : World) (locks 
       inl (record {
         step = lifted (filled_in part.hole) (hole_in part.hole) s.step;
         among = subst (λ r. IsAmong (lifted (filled_in part.hole) (hole_in part.hole) s.step) (moves stage.scene world locks r)) (sym part.is) (move_lifts stage.scene world locks part.hole s.run s.step opened s.among);
-        agrees = by_step part.hole part.again s.step s.among x y (subst (StepsAgree change stage mode world [] beside every x) s.same agrees);
+        agrees = by_step part.hole part.again s.step s.among
+            (run_calm stage world locks avoid other shut (lifted (filled_in part.hole) (hole_in part.hole) s.step)
+            (subst (λ r. IsAmong (lifted (filled_in part.hole) (hole_in part.hole) s.step) (moves stage.scene world locks r)) (sym part.is) (move_lifts stage.scene world locks part.hole s.run s.step opened s.among))) x y (subst (StepsAgree change stage mode world [] beside every x) s.same agrees);
       })
     where
       by_step : (hole : Hole)
           → ((after : Run) → StandsWhole change (given change.added.parameters passed.kinds) (given change.added.parameters (trees_at passed.ways)) (given change.added.parameters (runs_at passed.ways (all_filled_in s.holes after))) change.body (filled_in hole after))
-          → (step : Move Run Hole) → IsAmong step (moves stage.scene world locks s.run) → (z : Move Runs Holes) → MoveYieldsAll passed.kinds z → StepsAgree change stage mode world [] beside every z (lifted (all_filled_in s.holes) (holes_in s.holes) step)
+          → (step : Move Run Hole) → IsAmong step (moves stage.scene world locks s.run) → LeavesNoMore stage (effects_of stage other) (lifted (filled_in hole) (hole_in hole) step) → (z : Move Runs Holes) → MoveYieldsAll passed.kinds z → StepsAgree change stage mode world [] beside every z (lifted (all_filled_in s.holes) (holes_in s.holes) step)
           → StepAgrees change stage mode world beside (lifted calling_run calling_hole z) (lifted (filled_in hole) (hole_in hole) step)
-      by_step hole again (fails cause at) k z yields c = tt
-      by_step hole again (goes after later) k (goes new_after parts) yields c =
+      by_step hole again (fails cause at) k shrunk z yields c = tt
+      by_step hole again (goes after later) k shrunk (goes new_after parts) yields c =
           let changed = argument_changes s.holes s.run later after s.opened s.is k in
           let followed_here = subst (AllFollowed stage world (effects_in stage inner ++ beside) passed.ways) s.is passed.followed in
           let around = effects_in stage inner ++ beside in
@@ -345,23 +349,24 @@ module _ (change : Called) (stage : Stage) (mode : Mode) (world : World) (locks 
           passed_later after (all_filled_in s.holes later) (filled_in hole later) (again later) (filled_count s.holes s.run later ∙ sym (ap (λ rs. length (run_list rs)) s.is))
           (followed_beside_less stage after around (effects_in stage (all_filled_in s.holes later) ++ beside)
           (no_more_both stage (effects_in stage inner) beside (effects_in stage (all_filled_in s.holes later)) beside changed.1 (λ m free. free)) passed.ways (all_filled_in s.holes later) moved)
-          (still_closed (all_filled_in s.holes later) after (lifts s.holes s.run (goes after later) s.opened s.is k)) in
+          (still_closed (all_filled_in s.holes later) after (lifts s.holes s.run (goes after later) s.opened s.is k)) shrunk in
           (c.0, subst (λ w. RunAgrees change stage mode w beside (calling_run parts) (filled_in hole later)) (sym c.0) (agrees_later after parts (all_filled_in s.holes later) (filled_in hole later) p yields (subst (λ w. RunsAgree change stage mode w [] beside every parts (all_filled_in s.holes later)) c.0 c.1) p refl))
-      by_step hole again (goes after later) k (calls f arguments called_kind holes) yields c = absurd c
-      by_step hole again (goes after later) k (fails cause at) yields c = absurd c
-      by_step hole again (goes after later) k (exits status) yields c = absurd c
-      by_step hole again (exits status) k (exits other_status) yields c = c
-      by_step hole again (exits status) k (goes new_after parts) yields c = absurd c
-      by_step hole again (exits status) k (calls f arguments called_kind holes) yields c = absurd c
-      by_step hole again (exits status) k (fails cause at) yields c = absurd c
-      by_step hole again (calls g values type inner_hole) k (calls f arguments called_kind holes) yields c =
+      by_step hole again (goes after later) k shrunk (calls f arguments called_kind holes) yields c = absurd c
+      by_step hole again (goes after later) k shrunk (fails cause at) yields c = absurd c
+      by_step hole again (goes after later) k shrunk (exits status) yields c = absurd c
+      by_step hole again (exits status) k shrunk (exits other_status) yields c = c
+      by_step hole again (exits status) k shrunk (goes new_after parts) yields c = absurd c
+      by_step hole again (exits status) k shrunk (calls f arguments called_kind holes) yields c = absurd c
+      by_step hole again (exits status) k shrunk (fails cause at) yields c = absurd c
+      by_step hole again (calls g values type inner_hole) k shrunk (calls f arguments called_kind holes) yields c =
           let changed = argument_calls s.holes s.run g values type inner_hole s.opened s.is k in
-          (c.0, c.1, c.2, λ later kept value own lacks avoids covered. closure changed later kept value own lacks avoids covered)
+          (c.0, c.1, c.2, λ later kept value own lacks avoids covered. closure changed shrunk later kept value own lacks avoids covered)
         where
           closure : ((effect : Effect) → IsAmong effect (call_effects stage.quiet (Some g)) → IsAmong effect (effects_in stage inner))
               × ((value : Value) (own : List At) → IsNoMore stage (call_effects stage.quiet (Some g)) (lock_effects own) → IsNoMore stage (effects_in stage inner) (effects_in stage (all_filled_in s.holes (filled_in inner_hole (done type (of_value value) own)))))
+              → LeavesNoMore stage (effects_of stage other) (calls g values type (hole_in hole inner_hole))
               → AgreesBehind change stage mode world beside (call_effects stage.quiet (Some g)) called_kind (calling_hole holes) (hole_in hole inner_hole)
-          closure changed later kept value own lacks avoids covered =
+          closure changed shrunk later kept value own lacks avoids covered =
               let filler = done called_kind (of_value value) own in
               let typed : done type (of_value value) own ≡ filler = ap (λ t. done t (of_value value) own) (sym c.2) in
               let inner_run = filled_in inner_hole filler in
@@ -375,15 +380,16 @@ module _ (change : Called) (stage : Stage) (mode : Mode) (world : World) (locks 
               (followed_beside_less stage later around (effects_in stage (all_filled_in s.holes inner_run) ++ beside)
               (no_more_both stage (effects_in stage inner) beside (effects_in stage (all_filled_in s.holes inner_run)) beside no_more (λ m free. free)) passed.ways (all_filled_in s.holes inner_run) moved)
               (subst (AreClosedIn stage) (all_filled_twice s.holes inner_hole (done type (of_value value) own) ∙ ap (λ r. all_filled_in s.holes (filled_in inner_hole r)) typed)
-              (closed_behind g values type (holes_in s.holes inner_hole) (lifts s.holes s.run (calls g values type inner_hole) s.opened s.is k) value own avoids)) in
+              (closed_behind g values type (holes_in s.holes inner_hole) (lifts s.holes s.run (calls g values type inner_hole) s.opened s.is k) value own avoids))
+              (subst (λ r. IsNoMore stage (effects_of stage other) (effects_of stage r)) (filled_twice hole inner_hole (done type (of_value value) own) ∙ ap (λ r. filled_in hole (filled_in inner_hole r)) typed) (shrunk.1 value own covered)) in
               let runs =
               subst (λ rs. RunsAgree change stage mode later [] beside every (all_filled_in holes (done called_kind (of_value value) [])) rs) (all_filled_twice s.holes inner_hole filler) (c.3 later kept value own lacks avoids covered) in
               subst (λ r. RunAgrees change stage mode later beside (filled_in (calling_hole holes) (done called_kind (of_value value) [])) r) (sym (filled_twice hole inner_hole filler))
               (agrees_later later (all_filled_in holes (done called_kind (of_value value) [])) (all_filled_in s.holes inner_run) (filled_in hole inner_run) p
               (all_filled_yield passed.kinds called_kind holes (done called_kind (of_value value) []) yields (refl, value, refl, lacks)) runs p refl)
-      by_step hole again (calls g values type inner_hole) k (goes new_after parts) yields c = absurd c
-      by_step hole again (calls g values type inner_hole) k (fails cause at) yields c = absurd c
-      by_step hole again (calls g values type inner_hole) k (exits status) yields c = absurd c
+      by_step hole again (calls g values type inner_hole) k shrunk (goes new_after parts) yields c = absurd c
+      by_step hole again (calls g values type inner_hole) k shrunk (fails cause at) yields c = absurd c
+      by_step hole again (calls g values type inner_hole) k shrunk (exits status) yields c = absurd c
 
   -- A step of the old arguments meets that of the new ones.
   pub arguments_stepped : (x n : Move Runs Holes) → MoveYieldsAll passed.kinds x → IsAmong n (moves_in stage.scene world locks every inner) → StepsAgree change stage mode world [] beside every x n
@@ -527,13 +533,14 @@ module _ (change : Called) (stage : Stage) (mode : Mode) (world : World) (locks 
               passed_later later (all_filled_in other_holes filler) (filled_in part.hole filler) (part.again filler) (same_count filler)
               (followed_beside_less stage later around (effects_in stage (all_filled_in other_holes filler) ++ beside)
               (no_more_both stage (effects_in stage inner) beside (effects_in stage (all_filled_in other_holes filler)) beside fewer (λ m free. free)) passed.ways (all_filled_in other_holes filler) moved)
-              (value_closed value own_locks avoids) in
+              (value_closed value own_locks avoids)
+              (subst (λ r. IsNoMore stage (effects_of stage r) (effects_of stage (filled_in part.hole filler))) (sym part.is) (filled_no_more stage run called_kind value own_locks no_name less part.hole (part.opened open_there))) in
               agrees_later later (all_filled_in holes (done called_kind (of_value value) [])) (all_filled_in other_holes filler) (filled_in part.hole filler) p
               (all_filled_yield passed.kinds called_kind holes (done called_kind (of_value value) []) yields (refl, value, refl, lacks)) (behind later kept value own_locks lacks avoids less) p refl;
         })))))
 
     -- it is untouched in the old program: what the call comes to is known
-    module _ (pure : IsPure run) (gives_one : GivesOne stage world called_kind run) (typed : kind_of_run run ≡ called_kind) where
+    module _ (pure : IsPure run) (gives_one : GivesOne stage world called_kind run) (typed : kind_of_run run ≡ called_kind) (entered : Entered change stage world values called_kind run) where
       entered_within : (a : IsAside passed.ways world (effects_in stage inner ++ beside) other_holes run) → IsForeseen stage.scene world (begun a.tree) a.hole run
           → Met change stage mode world locks beside other (lifted calling_run calling_hole (calls change.added.function values called_kind holes))
       entered_within a h =
@@ -562,6 +569,10 @@ module _ (change : Called) (stage : Stage) (mode : Mode) (world : World) (locks 
             value = value;
             comes = there.1;
             lacks = there.2;
+            entered = entered;
+            closed = λ n c.
+                no_place_closed stage run no_name n
+                (part_first_in stage world locks avoid only_closed every (λ e. absurd (cc)) other_holes run open_there (subst (λ rs. (m : ℕ) → IsAmong m stage.closed → IsClosedInAll m stage.scene.objects only_closed rs) is_inner passed.closed) n c);
             agrees = λ later kept.
                 let more = changes_more stage [] around world later (λ effect l. absurd l) kept in
                 let p =
@@ -569,7 +580,7 @@ module _ (change : Called) (stage : Stage) (mode : Mode) (world : World) (locks 
                 (subst (λ rs. StandsWhole change (given change.added.parameters passed.kinds) (given change.added.parameters (trees_at passed.ways)) (given change.added.parameters rs) change.body other) (sym (a.same filler ∙ sym (ap (runs_at passed.ways) is_inner))) passed.stands)
                 (same_count filler)
                 (subst (λ es. AllFollowed stage later (es ++ beside) passed.ways (all_filled_in other_holes filler)) same_effects (all_followed_kept stage around world later more passed.ways (all_filled_in other_holes filler) now))
-                (value_closed value [] there.3) in
+                (value_closed value [] there.3) (λ n free. free) in
                 agrees_later later (all_filled_in holes filler) (all_filled_in other_holes filler) other p
                 (all_filled_yield passed.kinds called_kind holes filler yields (refl, value, refl, there.2))
                 (behind later (changes_more stage [] (effects_of stage run) world later (λ effect l. absurd l) kept) value [] there.2 there.3 (λ n free effect l. absurd l)) p refl;
@@ -590,14 +601,15 @@ module _ (change : Called) (stage : Stage) (mode : Mode) (world : World) (locks 
         by_position : IsAtOnce passed.ways other_holes ⊎ IsAside passed.ways world (effects_in stage inner ++ beside) other_holes run
             → Met change stage mode world locks beside other (lifted calling_run calling_hole (calls change.added.function values called_kind holes))
         by_position (inl i) = entered_at_once gives typed entered i
-        by_position (inr a) = entered_aside (part_pure a.hole run a.followed.pure_aside) gives typed a
+        by_position (inr a) = entered_aside (part_pure a.hole run a.followed.pure_aside) gives typed entered a
 
   -- it is called in a part that stands nowhere, within such an argument or in another one
   pub arguments_entered_aside : (elsewhere : is_inside mode ≡ false) (values : List Value) (called_kind : CType) (holes : Holes) (run : Run) → IsPure run → (found : Computed) → computed stage.scene world run ≡ Some found
-      → (value : Value) → found.result ≡ of_value value → lacks_value called_kind value ≡ false → MoveYieldsAll passed.kinds (calls change.added.function values called_kind holes)
+      → (value : Value) → found.result ≡ of_value value → lacks_value called_kind value ≡ false → Entered change stage world values called_kind run
+      → ((n : ℕ) → IsAmong n stage.closed → IsClosedIn n stage.scene.objects run) → MoveYieldsAll passed.kinds (calls change.added.function values called_kind holes)
       → ((later : World) → ChangesOnly stage [] world later → RunsAgree change stage mode later [] beside every (all_filled_in holes (done called_kind (of_value value) [])) inner)
       → Met change stage mode world locks beside other (lifted calling_run calling_hole (calls change.added.function values called_kind holes))
-  arguments_entered_aside elsewhere values called_kind holes run pure found is value comes lacks yields behind =
+  arguments_entered_aside elsewhere values called_kind holes run pure found is value comes lacks entered closed yields behind =
       inr (inr (inr (inr (inr (record {
         elsewhere = elsewhere;
         values = values;
@@ -611,10 +623,12 @@ module _ (change : Called) (stage : Stage) (mode : Mode) (world : World) (locks 
         value = value;
         comes = comes;
         lacks = lacks;
+        entered = entered;
+        closed = closed;
         agrees = λ later kept.
             let around = effects_in stage inner ++ beside in
             let more = changes_more stage [] around world later (λ effect l. absurd l) kept in
-            let p = passed_later later inner other passed.stands refl (all_followed_kept stage around world later more passed.ways inner passed.followed) passed.closed in
+            let p = passed_later later inner other passed.stands refl (all_followed_kept stage around world later more passed.ways inner passed.followed) passed.closed (λ n free. free) in
             agrees_later later (all_filled_in holes (done called_kind (of_value value) [])) inner other p
             (all_filled_yield passed.kinds called_kind holes (done called_kind (of_value value) []) yields (refl, value, refl, lacks)) (behind later kept) p refl;
       })))))

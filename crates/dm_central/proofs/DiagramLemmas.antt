@@ -249,19 +249,19 @@ module _ (change : Called) (added : IsAdded change) (objects others : Objects) (
     -- a step of an argument
     argument_met : (x : Move Runs Holes) → MoveYieldsAll passed.kinds x → MetThere [] beside every inner x → MetHere beside other (lifted calling_run calling_hole x)
     argument_met x y (inl s) =
-        arguments_stepped change stage mode world locks beside added.distinct added.own kind place other inner passed named is_named avoid safe x s.step y s.among s.agrees
+        arguments_stepped change stage mode world locks beside added.distinct added.own kind place other inner passed named is_named avoid safe shut x s.step y s.among s.agrees
     argument_met x y (inr (inl s)) =
-        arguments_stood change stage mode world locks beside added.distinct added.own kind place other inner passed named is_named avoid safe x y s.runs s.is s.agrees
+        arguments_stood change stage mode world locks beside added.distinct added.own kind place other inner passed named is_named avoid safe shut x y s.runs s.is s.agrees
     argument_met x y (inr (inr (inl e))) = absurd (true≢false (sym e.inner ∙ ap is_inside passed.elsewhere))
     argument_met x y (inr (inr (inr (inl f)))) =
-        arguments_failed change stage mode world locks beside added.distinct added.own kind place other inner passed named is_named avoid safe (lifted calling_run calling_hole x) f.holes f.opened f.tree f.pure f.is f.meets
+        arguments_failed change stage mode world locks beside added.distinct added.own kind place other inner passed named is_named avoid safe shut (lifted calling_run calling_hole x) f.holes f.opened f.tree f.pure f.is f.meets
     argument_met x y (inr (inr (inr (inr (inl e))))) =
         subst (λ z. MetHere beside other (lifted calling_run calling_hole z)) (sym e.called)
-        (arguments_entered change stage mode world locks beside added.distinct added.own kind place other inner passed named is_named avoid safe e.elsewhere e.values e.kind e.holes e.other_holes e.opened e.run e.is e.no_name e.agrees
+        (arguments_entered change stage mode world locks beside added.distinct added.own kind place other inner passed named is_named avoid safe shut e.elsewhere e.values e.kind e.holes e.other_holes e.opened e.run e.is e.no_name e.agrees
         (subst (MoveYieldsAll passed.kinds) e.called y) e.gives e.typed e.entered)
     argument_met x y (inr (inr (inr (inr (inr e))))) =
         subst (λ z. MetHere beside other (lifted calling_run calling_hole z)) (sym e.called)
-        (arguments_entered_aside change stage mode world locks beside added.distinct added.own kind place other inner passed named is_named avoid safe e.elsewhere e.values e.kind e.holes e.run e.pure e.found e.is e.value e.comes e.lacks
+        (arguments_entered_aside change stage mode world locks beside added.distinct added.own kind place other inner passed named is_named avoid safe shut e.elsewhere e.values e.kind e.holes e.run e.pure e.found e.is e.value e.comes e.lacks e.entered e.closed
         (subst (MoveYieldsAll passed.kinds) e.called y) e.agrees)
 
     -- a step of a call

@@ -22,14 +22,15 @@ use Rattle.dm_meaning.proofs.YieldLemmas.{may_give, given_may, given_set, Yields
 use Rattle.dm_meaning.proofs.StandLemmas.{label_in}
 use Rattle.dm_meaning.proofs.PassRunLemmas.{AllYield, HaveCome, IsCome}
 use Rattle.dm_rewrite.specs.Computed.{Computed}
-use Rattle.dm_rewrite.specs.Closed.{Avoids, ResultAvoids, MemoryAvoids, IsPlace, IsClosedIn}
-use Rattle.dm_rewrite.specs.Effects.{Effect, on_object, on_others, Stage, by_number, target_effects, effects_in}
+use Rattle.dm_rewrite.specs.Closed.{Avoids, ResultAvoids, MemoryAvoids, IsClosedIn}
+use Rattle.dm_rewrite.specs.Effects.{Effect, on_others, Stage, target_effects, effects_in}
 use Rattle.dm_rewrite.proofs.ClosedRunLemmas.{run_clear}
 use Rattle.dm_rewrite.proofs.SettleLemmas.{went, Beside, FailsBeside, ComesTo, settles, undefined_meets}
 use Rattle.dm_rewrite.proofs.ShrinkEffectLemmas.{AllFirst}
 use Rattle.dm_central.specs.Arguments.{Way, at_once, untouched, runs_at, trees_at, IsSameBut, AreSameBut, IsUntouched, IsStanding, Stands, StandBelow, StandsWhole}
 use Rattle.dm_central.specs.Agreement.{Mode, is_inside, beside_first, before_rest, IsPassed, RunsAgree}
 use Rattle.dm_central.specs.Outcomes.{GivesOne, Enters}
+use Rattle.dm_central.proofs.PartLemmas.{no_place_closed}
 use Rattle.dm_central.proofs.FactLemmas.{PartAgrees, same_but_kind, reading_to_do, first_operand}
 
 -- ---- names
@@ -251,19 +252,6 @@ module _ (stage : Stage) (world : World) (avoid : (n : ℕ) → IsAmong n stage.
           let met = undefined_meets stage.scene world [] run pure f found e in
           absurd (true≢false (sym met.2))
 
--- a tree that names no object is closed, and no place
-no_place_closed : (stage : Stage) (run : Run) → target_effects stage.scene.objects run ≡ on_others ∷ [] → (n : ℕ) → IsClosedIn n stage.scene.objects run ⊎ IsPlace n stage.scene.objects run → IsClosedIn n stage.scene.objects run
-no_place_closed stage run e n (inl h) = h
-no_place_closed stage run e n (inr (inl h)) =
-    absurd (not_named (sym (ap by_number h.4) ∙ sym (ap (target_effects stage.scene.objects) h.3) ∙ e))
-  where
-    not_named : on_object n ∷ [] ≡ on_others ∷ [] → ⊥
-    not_named f = cc
-no_place_closed stage run e n (inr (inr h)) = absurd (not_named (sym (ap (target_effects stage.scene.objects) h.2) ∙ e))
-  where
-    not_named : on_object n ∷ [] ≡ on_others ∷ [] → ⊥
-    not_named f = cc
-
 -- ---- all arguments have come
 
 module _ (change : Called) (stage : Stage) (mode : Mode) (world : World) where
@@ -337,6 +325,7 @@ module _ (change : Called) (stage : Stage) (mode : Mode) (world : World) where
           come = come.come;
           each = come.count ∙ passed.each;
           followed = passed.followed;
+          calm = passed.calm;
         };
         agrees = λ later kept value own_locks lacks avoids less. (refl, refl, λ lock l. absurd l);
       }

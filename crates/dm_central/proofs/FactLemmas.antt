@@ -334,7 +334,7 @@ module _ (change : Called) (stage : Stage) (mode : Mode) (world : World) where
 
 -- ---- locks
 
-reading_locks : (change : Called) (mode : Mode) (run other : Run) → IsReading change mode run other → AreAmong (locks_in run) (locks_in other)
+pub reading_locks : (change : Called) (mode : Mode) (run other : Run) → IsReading change mode run other → AreAmong (locks_in run) (locks_in other)
 reading_locks change mode run other h = among_nothing (locks_in run) (locks_in other) (ap locks_in h.is ∙ none h.named)
   where
     none : (b : Bool) → locks_in (to_do (evaluates read) h.kind h.place (more_runs (named_object h.entry b h.named_kind h.named_place) no_runs)) ≡ []
@@ -376,6 +376,7 @@ module _ (change : Called) (added : IsAdded change) (stage : Stage) (mode : Mode
     each = h.each;
     once = h.once;
     followed = h.followed;
+    calm = h.calm;
     late = h.late;
     closed = h.closed;
   }

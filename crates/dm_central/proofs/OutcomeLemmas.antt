@@ -16,7 +16,7 @@ use Rattle.dm_meaning.proofs.RunLemmas.{redone}
 use Rattle.dm_meaning.proofs.MatchLemmas.{may_stand, moving_holds}
 use Rattle.dm_rewrite.specs.Computed.{Computed, computed, IsPure}
 use Rattle.dm_rewrite.specs.PureSteps.{Meets}
-use Rattle.dm_rewrite.specs.Closed.{MemoryAvoids, only_closed}
+use Rattle.dm_rewrite.specs.Closed.{MemoryAvoids, only_closed, IsClosedIn}
 use Rattle.dm_rewrite.specs.Effects.{Effect, on_others, Stage, target_effects, effects_of, call_effects, lock_effects, ChangesOnly, IsNoMore}
 use Rattle.dm_rewrite.proofs.EffectLemmas.{writes_keep, move_writes}
 use Rattle.dm_rewrite.proofs.ShrinkEffectLemmas.{AllFirst, AllRuns, run_calm}
@@ -28,7 +28,7 @@ use Rattle.dm_central.proofs.CallLemmas.{effect_inside, filled_no_more}
 use Rattle.dm_central.proofs.OpenEffectLemmas.{open_moves, open_inside, filled_open}
 use Rattle.dm_central.proofs.FactLemmas.{PartAgrees}
 
-changes_none : (stage : Stage) (effects : List Effect) (world : World) → ChangesOnly stage effects world world
+pub changes_none : (stage : Stage) (effects : List Effect) (world : World) → ChangesOnly stage effects world world
 changes_none stage effects world = record { same_objects = λ name there. refl; same = λ at n e free there. refl }
 
 module _ (change : Called) (stage : Stage) (mode : Mode) (world : World) (locks : List At) where
@@ -95,6 +95,8 @@ module _ (change : Called) (stage : Stage) (mode : Mode) (world : World) (locks 
     pub value : Value
     pub comes : found.result ≡ of_value value
     pub lacks : lacks_value kind value ≡ false
+    pub entered : Entered change stage world values kind run
+    pub closed : (n : ℕ) → IsAmong n stage.closed → IsClosedIn n stage.scene.objects run
     pub agrees : (later : World) → ChangesOnly stage [] world later → RunsAgree change stage mode later before beside opens (all_filled_in holes (done kind (of_value value) [])) others
 
   abbrev pub MetIn : List Effect → List Effect → Open → Runs → Move Runs Holes → Type 0
@@ -194,6 +196,8 @@ module _ (change : Called) (stage : Stage) (mode : Mode) (world : World) (locks 
       value = e.value;
       comes = e.comes;
       lacks = e.lacks;
+      entered = e.entered;
+      closed = e.closed;
       agrees = λ later kept. inl (refl, refl, stands, e.agrees later kept);
     })))))
 
@@ -313,6 +317,8 @@ module _ (change : Called) (stage : Stage) (mode : Mode) (world : World) (locks 
         value = e.value;
         comes = e.comes;
         lacks = e.lacks;
+        entered = e.entered;
+        closed = e.closed;
         agrees = λ later kept.
             moved later (filled_in e.hole (done e.kind (of_value e.value) [])) other (changes_more stage [] (effects_of stage other) world later (λ effect l. absurd l) kept) same (inl (e.agrees later kept));
       })))))
@@ -437,6 +443,8 @@ module _ (change : Called) (stage : Stage) (mode : Mode) (world : World) (locks 
         value = e.value;
         comes = e.comes;
         lacks = e.lacks;
+        entered = e.entered;
+        closed = e.closed;
         agrees = λ later kept.
             moved_rest later (all_filled_in e.holes (done e.kind (of_value e.value) [])) others (changes_more stage [] old_effects world later (λ effect l. absurd l) kept) same_rest (e.agrees later kept);
       })))))

@@ -25,7 +25,7 @@ use Rattle.dm_meaning.proofs.PassRunLemmas.{AllYield}
 use Rattle.dm_rewrite.specs.Computed.{IsPure}
 use Rattle.dm_rewrite.specs.Closed.{only_closed, IsClosedInAll}
 use Rattle.dm_rewrite.specs.Effects.{Effect, Stage, effects_of, effects_in}
-use Rattle.dm_central.specs.Arguments.{ReadsApart, Way, at_once, untouched, AllFollowed, runs_at, trees_at, IsSameBut, StandsWhole, ReadsFirst}
+use Rattle.dm_central.specs.Arguments.{ReadsApart, Way, at_once, untouched, AreCalm, AllFollowed, runs_at, trees_at, IsSameBut, StandsWhole, ReadsFirst}
 
 -- ---- parameters in the added function
 
@@ -121,6 +121,7 @@ pub record IsCall (change : Called) (stage : Stage) (safe : Tree → Bool) (besi
   pub each : length (run_list (all_begun arguments)) ≡ length change.added.parameters
   pub once : (d : ℕ) → given change.added.parameters ways d ≡ Some at_once → times_named d change.body ≡ 1
   pub untouched_ones : AllUntouched stage (effects_in stage (all_begun arguments) ++ beside) ways arguments
+  pub calm : AreCalm stage (begun other) ways
   pub late : AreLate safe change.added.parameters change.body ways
   pub closed : AreClosedIn stage (all_begun arguments)
 
@@ -183,6 +184,7 @@ pub record IsPassed (change : Called) (stage : Stage) (mode : Mode) (world : Wor
   pub each : length (run_list inner) ≡ length change.added.parameters
   pub once : (d : ℕ) → given change.added.parameters ways d ≡ Some at_once → times_named d change.body ≡ 1
   pub followed : AllFollowed stage world (effects_in stage inner ++ beside) ways inner
+  pub calm : AreCalm stage other ways
   pub late : AreLate safe change.added.parameters change.body ways
   pub closed : AreClosedIn stage inner
 

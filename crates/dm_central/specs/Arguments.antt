@@ -1,6 +1,7 @@
 -- The arguments of a call of an added function, and its expression with the arguments in it, which the old program has in place of the call.
 --     Way      how an argument is passed
 --     ReadsApart stage effects tree      the tree reads nothing that trees with these effects write
+--     AreCalm stage other ways      no untouched argument reads what the expression writes
 --     IsFollowed stage world effects tree aside      the evaluation of an untouched argument, which the old program hasn't begun
 --     StandsWhole change kind_at tree_at run_at tree other      the expression, with arguments where the added function reads its parameters
 --     ReadsFirst p tree      the parameter is read in a part that may be evaluated as soon as the expression is
@@ -22,7 +23,7 @@ use Rattle.dm_meaning.proofs.RunLemmas.{redone}
 use Rattle.dm_meaning.proofs.MatchLemmas.{may_stand}
 use Rattle.dm_rewrite.specs.Computed.{Computed, computed, IsPure}
 use Rattle.dm_rewrite.specs.Aside.{Follows}
-use Rattle.dm_rewrite.specs.Effects.{Effect, Stage, IsFree}
+use Rattle.dm_rewrite.specs.Effects.{Effect, Stage, effects_of, IsFree}
 
 -- wherever the tree is evaluated
 abbrev pub ReadsApart : Stage → List Effect → Run → Type 0
@@ -37,6 +38,10 @@ ReadsApart stage effects tree =
 pub data Way : Type 0 where
   at_once : Way
   untouched : Tree → Way
+
+-- The untouched arguments read nothing that this tree writes, in which they stand.
+abbrev pub AreCalm : Stage → Run → List Way → Type 0
+AreCalm stage other ways = (tree : Tree) → IsAmong (untouched tree) ways → ReadsApart stage (effects_of stage other) (begun tree)
 
 -- the evaluation of an untouched argument, followed aside while trees with these effects are evaluated
 pub record IsFollowed (stage : Stage) (world : World) (effects : List Effect) (tree : Tree) (aside : Run) : Type 0 where

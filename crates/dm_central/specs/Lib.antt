@@ -6,4 +6,8 @@ pub mod Added
 pub mod NodeSteps
 pub mod Entries
 pub mod Apart
+pub mod Bodies
+pub mod StateAgreement
+pub mod Waiting
 pub mod Examples
+pub mod ClosedFrames

@@ -22,11 +22,11 @@ use Rattle.dm_meaning.proofs.MatchLemmas.{IsNamedRun, parameter_block}
 use Rattle.dm_meaning.specs.CalledWithAll.{given}
 use Rattle.dm_meaning.proofs.PassRunLemmas.{MoveYieldsAll, HaveCome}
 use Rattle.dm_rewrite.specs.Computed.{Computed, computed, IsPure}
-use Rattle.dm_rewrite.specs.Closed.{Avoids, MemoryAvoids}
+use Rattle.dm_rewrite.specs.Closed.{Avoids, MemoryAvoids, IsPlace, IsClosedIn}
 use Rattle.dm_rewrite.specs.PureSteps.{Meets}
 use Rattle.dm_rewrite.specs.Effects.{Effect, on_others, Stage, target_effects, effects_of, lock_effects, call_effects, ChangesOnly, IsNoMore}
 use Rattle.dm_central.specs.Added.{IsAdded}
-use Rattle.dm_central.specs.Arguments.{Way, AllFollowed, runs_at, trees_at, StandsWhole}
+use Rattle.dm_central.specs.Arguments.{Way, AreCalm, AllFollowed, runs_at, trees_at, StandsWhole}
 use Rattle.dm_central.specs.Agreement.{Stood, a_value, a_tree, Entry, Mode, outside, is_inside, entries_of, IsPassed, RunAgrees, RunsAgree}
 
 -- ---- steps that agree
@@ -119,6 +119,7 @@ pub record Entered (change : Called) (stage : Stage) (world : World) (values : L
   pub come : HaveCome kinds values inner
   pub each : length values ≡ length change.added.parameters
   pub followed : AllFollowed stage world effects ways inner
+  pub calm : AreCalm stage run ways
 
 -- where the tree neither stores nor calls and comes to something, it is a value of this type, in which no pointer leads to a closed object
 abbrev pub GivesOne : Stage → World → CType → Run → Type 0
@@ -157,6 +158,8 @@ pub record EntersAside (change : Called) (stage : Stage) (mode : Mode) (world : 
   pub value : Value
   pub comes : found.result ≡ of_value value
   pub lacks : lacks_value kind value ≡ false
+  pub entered : Entered change stage world values kind run
+  pub closed : (n : ℕ) → IsAmong n stage.closed → IsClosedIn n stage.scene.objects run
   pub agrees : (later : World) → ChangesOnly stage [] world later → RunAgrees change stage mode later beside (filled_in hole (done kind (of_value value) [])) other
 
 abbrev pub Met : Called → Stage → Mode → World → List At → List Effect → Run → Move Run Hole → Type 0
@@ -184,6 +187,7 @@ pub record IsAtCall (change : Called) (stage : Stage) (mode : Mode) (world : Wor
   pub added : IsAdded change
   pub avoid : (n : ℕ) → IsAmong n stage.closed → MemoryAvoids n world.memory
   pub safe : AreSafe stage mode world locks
+  pub closed : (n : ℕ) → IsAmong n stage.closed → IsClosedIn n stage.scene.objects other ⊎ IsPlace n stage.scene.objects other
 
 -- the call with its arguments
 abbrev pub calling : CType → Place → Run → Runs → Run

@@ -3,22 +3,37 @@ ghost use Rattle.dm_token.specs.declared.place.Place.{Place};
 ghost use Rattle.dm_type.specs.CTypes.{CType};
 ghost use Rattle.dm_tree.specs.Trees.{call, Tree};
 ghost use Rattle.dm_meaning.specs.Among.{IsAmong};
-ghost use Rattle.dm_meaning.specs.Called.{Called};
+ghost use Rattle.dm_meaning.specs.Called.{Called, new_of};
 ghost use Rattle.dm_meaning.specs.CalledWithAll.{given, AreDistinct};
 ghost use Rattle.dm_meaning.specs.Expressions.{Move, goes, calls, lifted, moves_in, kind_of_run, function_named, node_step, moves};
 ghost use Rattle.dm_meaning.specs.Extending.{AreAmong};
+ghost use Rattle.dm_meaning.specs.Memory.{Memory};
+ghost use Rattle.dm_meaning.specs.MoreObjects.{IsMade, ObjectsMade, TasksSettled};
 ghost use Rattle.dm_meaning.specs.Operations.{of_value, Operand, World, Objects};
+ghost use Rattle.dm_meaning.specs.Programs.{Program};
+ghost use Rattle.dm_meaning.specs.Refinement.{Refines};
 ghost use Rattle.dm_meaning.specs.Running.{Doing, evaluates, Run, done, Runs, more_runs, begun, Open, every, first_open, others_open, open_parts, Hole, Holes, all_filled_in, AreOpen, locks_in, operands_in};
-ghost use Rattle.dm_meaning.specs.Steps.{lacks_value};
+ghost use Rattle.dm_meaning.specs.States.{State};
+ghost use Rattle.dm_meaning.specs.Statements.{unfolded};
+ghost use Rattle.dm_meaning.specs.Steps.{lacks_value, Step};
+ghost use Rattle.dm_meaning.proofs.EntryLemmas.{AllSpare};
+ghost use Rattle.dm_meaning.proofs.PassStateLemmas.{Spare, flat};
+ghost use Rattle.dm_meaning.specs.Units.{Begins, machine_of};
 ghost use Rattle.dm_meaning.specs.Values.{At, Value};
 ghost use Rattle.dm_meaning.proofs.MatchLemmas.{may_stand};
 ghost use Rattle.dm_meaning.proofs.PassRunLemmas.{AllYield, MoveYieldsAll};
 ghost use Rattle.dm_meaning.proofs.RunLemmas.{redone};
 ghost use Rattle.dm_rewrite.specs.Closed.{MemoryAvoids, IsClosedIn};
+ghost use Rattle.dm_rewrite.specs.ClosedStates.{ProgramNamesOnly};
 ghost use Rattle.dm_rewrite.specs.Computed.{Computed, computed, IsPure};
 ghost use Rattle.dm_rewrite.specs.Effects.{Effect, Stage, effects_of, ChangesOnly, IsNoMore};
 ghost use Rattle.dm_rewrite.specs.PureSteps.{Meets};
+ghost use Rattle.dm_meaning.proofs.LikenessLemmas.{Likeness};
 ghost use Rattle.dm_central.specs.Added.{IsAdded};
+ghost use Rattle.dm_central.specs.Bodies.{Known, nothing_known, IsWholeProgram, CallsInPlace};
+ghost use Rattle.dm_central.specs.ClosedFrames.{AreAllClosed};
+ghost use Rattle.dm_central.specs.Waiting.{AreOwn};
+ghost use Rattle.dm_central.specs.StateAgreement.{TreeFits, RunFits, Related, Met as StateMet, IsSteady};
 ghost use Rattle.dm_central.specs.Agreement.{Entry, Mode, outside, inside, is_inside, IsReading, AreUnbegun, open_effects, beside_first, before_rest, BegunOutside, IsPassed, RunAgrees, RunsAgree};
 ghost use Rattle.dm_central.specs.Arguments.{ReadsApart, Way, untouched, AllFollowed, ReadsFirst, StandsOpen};
 ghost use Rattle.dm_central.specs.Apart.{ReadsFreeNames};
@@ -121,7 +136,8 @@ pub fn call_steps()
         (place : Place) (other : Run) (inner : Runs) (named : Run) (at : IsAtCall change stage mode world locks beside kind other inner named)
         → is_inside mode ≡ false → (values : List Value) (called_kind : CType) (holes : Holes) (run : Run) → IsPure run → (found : Computed)
         → computed stage.scene world run ≡ Some found → (value : Value) → found.result ≡ of_value value → lacks_value called_kind value ≡ false
-        → MoveYieldsAll at.passed.kinds (calls change.added.function values called_kind holes)
+        → Entered change stage world values called_kind run
+        → ((n : ℕ) → IsAmong n stage.closed → IsClosedIn n stage.scene.objects run) → MoveYieldsAll at.passed.kinds (calls change.added.function values called_kind holes)
         → ((later : World) → ChangesOnly stage [] world later
         → RunsAgree change stage mode later [] beside every (all_filled_in holes (done called_kind (of_value value) [])) inner)
         → Met change stage mode world locks beside other (calls change.added.function values called_kind (calling_hole kind place named holes)) }
@@ -198,4 +214,40 @@ pub fn entered_expressions()
 /// object to which no pointer leads may be read late.
 pub fn named_reads_are_apart()
     ensures { (stage : Stage) (effects : List Effect) (tree : Tree) → ReadsFreeNames stage effects tree → ReadsApart stage effects (begun tree) }
+{}
+
+/// Statements that agree begin, decide and end alike.
+pub fn bodies_alike()
+    ensures { (change : Called) (known : Known) → CallsInPlace change known
+        → Likeness change (TreeFits change known) (RunFits change known) }
+{}
+
+/// Each step of the new program from a state that is related to one of the old program is met in the old one: the old one goes on to a state that is
+/// related to the state after the step, by one step or by all steps of an untouched argument; or it stays, where the new one has fewer steps left before
+/// the old one has to move, and where the added function is entered or left; or the old one can go wrong. The old program's memory has the objects of
+/// the parameters too, in which it differs from `memory`.
+pub fn state_steps()
+    ensures { (change : Called) (known : Known) → CallsInPlace change known → (w : ℕ) (spare : Spare) (starts : List World) (state later other : State)
+        → Related change known w spare starts state other → (memory : Memory) → AllSpare change other.world.memory memory (flat spare)
+        → TasksSettled memory (unfolded other.frame.tasks) → IsSteady change known starts other → Step (new_of change) state later
+        → StateMet change known w spare starts other later }
+{}
+
+/// Where all trees of a program name what certain declarations declare only where it is read or written, a step leaves the objects closed that they
+/// name, in the frame that is running and in all that wait: those that were closed, and those that it makes. When a run begins they are closed.
+pub fn closed_objects_stay()
+    ensures begins { (program : Program) (test : ℕ → Bool) → ((d : ℕ) → test d ≡ true → ProgramNamesOnly d program) → (input : List ℕ) (state : State)
+        → Begins program input state → AreAllClosed test state }
+    ensures steps { (program : Program) (test : ℕ → Bool) → ((d : ℕ) → test d ≡ true → ProgramNamesOnly d program) → (starts : List World) (state other : State)
+        → Step program state other → ((n : ℕ) → IsMade state.world.memory n → IsMade other.world.memory n)
+        → AreOwn other.statics starts other.frame.objects → ObjectsMade other.world.memory other.frame.objects
+        → AreAllClosed test state → AreAllClosed test other }
+{}
+
+/// A program that calls an added function in place of its expression refines the program with the expression, with the arguments in it. An argument is
+/// evaluated in both at once; or its parameter is read first, and it may be read again or not at all, where it neither stores nor calls, and reads
+/// nothing that the expression writes, nor what is evaluated beside it, by the names in them.
+pub fn calls_refine()
+    ensures { (change : Called) → CallsInPlace change nothing_known → IsWholeProgram change.old
+        → Refines (machine_of (new_of change)) (machine_of change.old) }
 {}

@@ -4,9 +4,9 @@
 mod examples;
 mod laws;
 
-pub use examples::an_argument_is_read_twice;
+pub use examples::{a_call_that_reads_its_argument_twice_refines, an_argument_is_read_twice};
 pub use laws::{
     agreement_beside_less, agreement_kept, argument_places, argument_steps, begun_agreement,
-    call_steps, common_facts, entered_expressions, moved_operands, named_reads_are_apart,
-    node_steps, tree_steps,
+    bodies_alike, call_steps, calls_refine, common_facts, entered_expressions, moved_operands,
+    named_reads_are_apart, node_steps, state_steps, tree_steps,
 };

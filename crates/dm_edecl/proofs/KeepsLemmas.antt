@@ -124,6 +124,7 @@ sound-without known constants sound e =
       entries = sound.entries;
       complete = sound.complete;
       layered = sound.layered;
+      sizes = sound.sizes;
       begun = sound.begun;
       constants = subst (λ list. AreConstants other list) (sym e) (All-nil (IsConstant (scene_of other)), tt);
     }
@@ -215,6 +216,7 @@ module _ (scopes : Scopes) (s : Standing) where
       entries = sound.known.entries;
       complete = sound.known.complete;
       layered = sound.known.layered;
+      sizes = sound.known.sizes;
       begun = sound.known.begun;
       constants = sound.known.constants;
     };
@@ -279,6 +281,7 @@ module _ (s t : Standing) (sound : IsSoundStanding s) (kept : Keeps s t) (inside
           (λ high. inside.known.entries at entry (sym (back at high) ∙ h)) (split at (length s.known.declared));
       complete = inside.known.complete;
       layered = inside.known.layered;
+      sizes = inside.known.sizes;
       begun = inside.known.begun;
       constants = subst (λ list. AreConstants (known_behind s.known t.known) list) (sym inside.constants) (All-nil (IsConstant (scene_of (known_behind s.known t.known))), tt);
     };

@@ -100,6 +100,7 @@ changed-known s number kind scopes sound is =
       entries = changed-entries s number kind sound is;
       complete = sound.known.complete;
       layered = sound.known.layered;
+      sizes = sound.known.sizes;
       begun = sound.known.begun;
       constants = subst (λ list. AreConstants other list) (sym sound.constants) (All-nil (IsConstant (scene_of other)), tt);
     }

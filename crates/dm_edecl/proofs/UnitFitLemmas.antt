@@ -17,7 +17,7 @@ use Rattle.dm_tree.specs.Typing.{IsEntry, has_linkage, file_scene, ExternalFits,
 use Rattle.dm_tree.specs.Units.{Declaration, TypedUnit}
 use Rattle.dm_tree.specs.Units as unit
 use Rattle.dm_typing.specs.Known.{Known, Setting, Outcome, given, broken}
-use Rattle.dm_typing.specs.Sound.{AreSoundTokens}
+use Rattle.dm_typing.specs.Sound.{AreSoundTokens, IsSoundKnown}
 use Rattle.dm_typing.proofs.CoverLemmas.{covers-itself}
 use Rattle.dm_typing.proofs.WholeLemmas.{sound-start}
 use Rattle.dm_edecl.specs.Standing.{Linked, Standing, Progress, goes_on, stops, further}
@@ -164,6 +164,20 @@ unit-typed (goes_on behind externals) start known one h e =
     subst (λ (it : TypedUnit). All IsEntry it.declared × All (ExternalFits (file_scene known.types it.declared)) it.externals) one-is
     (subst (λ (it : Known). All IsEntry made.declared × All (ExternalFits (file_scene it.types made.declared)) made.externals) known-is (entries-are, externals-are))
 unit-typed (stops rule at) start known one h e = absurd (cc)
+
+unit-known : (progress : Progress (List unit.External)) (start : Standing) (known : Known) (one : TypedUnit) → Settles AllFit start progress → unit_of progress ≡ given known one
+    → IsSoundKnown known
+unfolding known_in
+unit-known (goes_on behind externals) start known one h e = subst IsSoundKnown (ap (λ outcome. known_in outcome known) e) h.0.known
+unit-known (stops rule at) start known one h e = absurd (cc)
+
+-- what is known at the end of a unit is sound
+pub units-known : (shapes : List Shape) (tokens : List CToken) (externals : List External) (known : Known) (one : TypedUnit) → AreSoundTokens tokens
+    → AreExternals (unit_setting tokens externals).source [] 0 externals → typed_unit shapes tokens externals ≡ given known one → IsSoundKnown known
+units-known shapes tokens externals known one sound are e =
+    let setting = unit_setting tokens externals in
+    unit-known (typed_externals setting (beginning shapes) externals) (beginning shapes) known one
+    (externals-settle setting sound (beginning shapes) [] 0 externals are (beginning-sound shapes)) e
 
 pub units-typed : (shapes : List Shape) (tokens : List CToken) (externals : List External) (known : Known) (one : TypedUnit) → AreSoundTokens tokens
     → AreExternals (unit_setting tokens externals).source [] 0 externals → typed_unit shapes tokens externals ≡ given known one → IsWellTypedUnit known.types one

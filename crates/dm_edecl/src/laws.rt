@@ -111,6 +111,13 @@ pub fn units_are_well_typed()
         AreExternals (unit_setting tokens externals).source [] 0 externals → typed_unit shapes tokens externals ≡ given known unit → IsWellTypedUnit known.types unit }
 {}
 
+/// What is known at the end of a typed unit is sound: the members of its structs are complete, its structs are within one another in
+/// layers, and no larger than types may be.
+pub fn units_are_soundly_known()
+    ensures { (shapes : List Shape) (tokens : List CToken) (externals : List External) (known : Known) (unit : TypedUnit) → AreSoundTokens tokens →
+        AreExternals (unit_setting tokens externals).source [] 0 externals → typed_unit shapes tokens externals ≡ given known unit → IsSoundKnown known }
+{}
+
 /// Nothing is known at the beginning of a unit, which is sound.
 pub fn a_unit_begins_soundly()
     ensures { (shapes : List Shape) → IsSoundStanding (beginning shapes) }

@@ -10,5 +10,5 @@ pub use laws::{
     a_unit_begins_soundly, an_example_meets_the_premise, broken_rules_are_in_units,
     declarations_are_well_typed, declarators_declare_entries, expressions_fit_statements,
     external_declarations_are_well_typed, functions_are_defined_once, initialisers_are_well_typed,
-    statements_are_well_typed, units_are_well_typed,
+    statements_are_well_typed, units_are_soundly_known, units_are_well_typed,
 };

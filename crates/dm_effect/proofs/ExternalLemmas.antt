@@ -1,5 +1,5 @@
 -- What is asked of external declarations, part by part.
-use Rattle.std.proofs.Common.{◌≡◌, ℕ, Bool, ◌||◌, List, [], ◌∷◌, ◌++◌, map, append-nil, refl, ap, sym, ◌∙◌}
+use Rattle.std.proofs.Common.{◌≡◌, ℕ, Bool, ◌||◌, List, [], ◌∷◌, ◌++◌, map, append-nil, refl, ap, ◌∙◌}
 use Rattle.std.specs.List.{list_any}
 use Rattle.std.specs.Prelude.{flat_map}
 use Rattle.std.proofs.lemmas.List.Folds.{list_any-append}
@@ -7,18 +7,16 @@ use mathlib.Core.Path.{fun_ext}
 use Rattle.dm_type.specs.Tables.{Table}
 use Rattle.dm_tree.specs.declared.tree.Core.{Core}
 use Rattle.dm_tree.specs.declared.tree.Local.{Local as CoreLocal}
-use Rattle.dm_tree.specs.declared.unit.CoreExternal.{CoreExternal}
-use Rattle.dm_tree.specs.declared.unit.CoreExternalForm.{CoreExternalForm}
 use Rattle.dm_tree.specs.declared.unit.CoreExternalForm.TheVariants as code
 use Rattle.dm_tree.specs.Paths.{all_in, all_in_trees}
 use Rattle.dm_tree.specs.Trees.{Tree, trees}
 use Rattle.dm_tree.specs.Units.{External, TypedUnit}
-use Rattle.dm_tree.specs.Views.{view, view_of_external, view_of_form, view_of_local, expressions_of_locals}
+use Rattle.dm_tree.specs.Views.{view, view_of_form, view_of_local}
 use Rattle.dm_meaning.specs.Statements.{Local}
 use Rattle.dm_effect.specs.declared.question.Question.{Question}
 use Rattle.dm_effect.specs.declared.question.Question.TheVariants as question
 use Rattle.dm_effect.specs.Entities.{addresses_here, is_addressed, locals_here, locals_of_external, locals_of_form, nodes_of_external, trees_in_form}
-use Rattle.dm_effect.specs.Externals.{at_declarators, is_found}
+use Rattle.dm_effect.specs.Externals.{is_found}
 use Rattle.dm_effect.specs.Questions.{answer, as_local, is_asked}
 use Rattle.dm_effect.specs.Safe.{defines_here, initialises_apart, is_defined}
 use Rattle.dm_effect.proofs.DeclaratorLemmas.{locals-with}

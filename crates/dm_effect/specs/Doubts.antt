@@ -1,7 +1,7 @@
 -- What is asked of the trees at a place and beside it.
 --     is_doubted types doubt tree      the answer for one
 --     is_doubted_beside types doubt whole ways      the answer for some tree to which one of these ways leads
-use Rattle.std.specs.Prelude.{ℕ, Bool, not, List, length, map}
+use Rattle.std.specs.Prelude.{Bool, not, List, length, map}
 use Rattle.std.specs.List.{filter_map, list_any}
 use Rattle.dm_type.specs.Tables.{Table}
 use Rattle.dm_tree.specs.Paths.{Path, tree_at}

@@ -9,3 +9,4 @@ pub mod UnitLemmas
 pub mod RunLemmas
 pub mod LivingLemmas
 pub mod ExampleLemmas
+pub mod FirstValueLemmas

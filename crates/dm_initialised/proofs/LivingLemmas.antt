@@ -17,8 +17,8 @@ use Rattle.dm_meaning.specs.Operations.{Result, Objects, object_named, Truth, ho
 use Rattle.dm_meaning.specs.Running.{Run, done, to_do, locks_in, Hole}
 use Rattle.dm_meaning.specs.Expressions.{Move, goes, calls, fails, exits, value_of, moves}
 use Rattle.dm_meaning.specs.States.{Loop, Use, drops, chooses, selects, repeats, continues, returns, initialises, Task, begins, declares, initials, evaluates, again, tests, ends, ends_switch, leaves, skips, hands_back, Caller, State}
-use Rattle.dm_meaning.specs.Statements.{Turned, onward, refused, evaluation, is_automatic, declared_in, type_declared, named_from, made_from, named_since, Local, with_expressions, declarator_tasks, item_tasks, items_tasks, unlabelled, entered, memory_entered, start_tasks, as_list, loop_with, returning, begin_for, begin_form, begin_tree, begin_statement, initial_of, begin_declarator, part_tasks, begin_initialiser, selected_by, by_test, begins_one, concluded, tested, continued, unfolded, ended, after_break, after_continue}
-use Rattle.dm_meaning.specs.Steps.{given_from, opened, opened_frame, opened_memory, lacks_value, gone_back, handed_back, is_main, gives_nothing, body_place, no_place, closed, turned, moved, scene_of, expression_steps, task_steps, Step}
+use Rattle.dm_meaning.specs.Statements.{Turned, onward, refused, evaluation, is_automatic, declared_in, type_declared, named_from, made_from, named_since, Local, with_expressions, item_tasks, items_tasks, unlabelled, entered, memory_entered, start_tasks, as_list, loop_with, returning, begin_for, begin_form, begin_tree, begin_statement, initial_of, begin_declarator, part_tasks, begin_initialiser, selected_by, by_test, begins_one, concluded, tested, continued, unfolded, ended, after_break, after_continue}
+use Rattle.dm_meaning.specs.Steps.{given_from, opened, lacks_value, gone_back, handed_back, is_main, gives_nothing, body_place, no_place, closed, turned, moved, scene_of, expression_steps, task_steps, Step}
 use Rattle.dm_meaning.specs.Units.{static_numbers, static_value, zeroed_from, initialised, all_initialised, statics_memory, argv_kind, arguments_for, start, Begins, machine_of}
 use Rattle.dm_meaning.proofs.AmongLemmas.{among-map_from, among_left, among_right}
 use Rattle.dm_meaning.proofs.ExtendLemmas.{look_changed}

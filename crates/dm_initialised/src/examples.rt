@@ -1,6 +1,6 @@
 //! A small program that meets the premises of the laws.
 
-ghost use Rattle.std.specs.Prelude.{◌≡◌, [], ◌++◌, Some};
+ghost use Rattle.std.specs.Prelude.{◌≡◌, true, [], ◌++◌, Some};
 ghost use Rattle.dm_tree.specs.Views.{view_of_unit};
 ghost use Rattle.dm_meaning.specs.Machines.{RunsTo};
 ghost use Rattle.dm_meaning.specs.Operations.{object_named};
@@ -14,7 +14,7 @@ ghost use Rattle.dm_initialised.specs.Examples as examples;
 ghost use Rattle.dm_initialised.specs.Living.{IsLivingState};
 ghost use Rattle.dm_initialised.specs.SetStates.{IsSetState};
 ghost use Rattle.dm_initialised.specs.Settled.{IsSettledProgram};
-ghost use Rattle.dm_initialised.specs.Units.{IsInitialisedUnit};
+ghost use Rattle.dm_initialised.specs.Units.{has_first_value, IsInitialisedUnit};
 
 /// `int main(void) { int x = 1; return x; }`, of which `x` needs to be set, meets each premise of `runs_begin_set`, `objects_stay_set` and
 /// `initialised_objects_are_set`.
@@ -32,10 +32,11 @@ pub fn set_step()
     ensures step { Step examples.program examples.beginning examples.behind }
 {}
 
-/// Its unit meets each premise of `units_give_settled_programs`.
+/// Its unit meets each premise of `units_give_settled_programs`, and its object has a first value.
 pub fn set_unit()
     ensures scoped { IsScopedUnit examples.unit }
     ensures initialised { IsInitialisedUnit examples.needs examples.unit }
+    ensures given { has_first_value examples.unit 1 ≡ true }
 {}
 
 /// `int main(void) {}`, as the code has it, meets those premises of `units_name_what_is_set` that it doesn't share with

@@ -18,7 +18,7 @@ ghost use Rattle.dm_sound.specs.TypedStates.{IsTypedState};
 ghost use Rattle.dm_initialised.specs.Living.{IsLivingState};
 ghost use Rattle.dm_initialised.specs.SetStates.{IsSetState, NamesAreSet};
 ghost use Rattle.dm_initialised.specs.Settled.{IsSettledProgram};
-ghost use Rattle.dm_initialised.specs.Units.{IsInitialisedUnit};
+ghost use Rattle.dm_initialised.specs.Units.{has_first_value, IsInitialisedUnit};
 
 /// A run of a typed program begins where objects are set: the parameters of `main`, and each scalar object of static storage duration.
 pub fn runs_begin_set()
@@ -51,6 +51,12 @@ pub fn initialised_objects_are_set()
 pub fn units_give_settled_programs()
     ensures { (types : Table) (one : TypedUnit) (needs : ℕ → Bool) → IsInitialisedUnit needs one → IsScopedUnit one
         → IsSettledProgram needs (program_of types one) }
+{}
+
+/// The automatic objects of a unit that have first values are such: parameters, and objects that are declared once in their function, by a
+/// declarator with an initialiser that isn't an item of a `switch`.
+pub fn first_values_are_given()
+    ensures { (one : TypedUnit) → IsInitialisedUnit (has_first_value one) one }
 {}
 
 /// So, in each run of the program of a well-typed and scoped unit on bytes, these objects are set wherever a full expression names them that

@@ -1,10 +1,11 @@
 -- Where the tokens and the directives of a unit mention a name, after translation phase 4.
 --     identifier_place pp name      the first token of the list that is this identifier
 --     use_place pp name      the first use of the name by a directive
+--     defines pp name      whether it reads a definition of the name
 --     events pp      the definitions and the `#undef`s in the order of reading (6.10.3, 6.10.3.5)
 --     again pp file hash name      the first event of the name that isn't the first reading of the definition at this byte of a file
 use Rattle.std.specs.Prelude.{◌≡◌, ℕ, Bool, List, [], ◌∷◌, ◌++◌, ◌+◌, map, find, filter, drop, length, slice_get, Option, Some, None, option_map, option_and_then, bytes_eq, nat_le, if◌then◌else◌, false}
-use Rattle.std.specs.List.{prefix_len, range_with_len, position_from}
+use Rattle.std.specs.List.{list_any, prefix_len, range_with_len, position_from}
 use Rattle.std.specs.Option.{option_map_or}
 use Rattle.std.specs.FinMap as finite
 use Rattle.dm_token.specs.declared.place.Place.{Place}
@@ -34,6 +35,12 @@ is_use name one = bytes_eq name one.name
 
 abbrev pub use_place : UnitTokens → List ℕ → Option Place
 use_place pp name = option_map (λ (one : Use). one.place) (find (is_use name) pp.directive_uses)
+
+abbrev pub is_definition : List ℕ → Read → Bool
+is_definition name read = bytes_eq name read.definition.name
+
+abbrev pub defines : UnitTokens → List ℕ → Bool
+defines pp name = list_any (is_definition name) pp.read
 
 -- ---- events
 

@@ -3,15 +3,15 @@
 ghost use Rattle.std.specs.Prelude.{◌≡◌, ℕ, List as Sequence, IfOk};
 ghost use Rattle.std.specs.List.{position_from};
 ghost use Rattle.std.specs.FinMap as finite;
-ghost use Rattle.dm_runs.specs.Runs as runs;
 ghost use Rattle.dm_mentions.specs.Mentions as mentions;
-ghost use Rattle.dm_mentions.specs.Mentions.{is_mention, is_use, AreChains};
+ghost use Rattle.dm_mentions.specs.Mentions.{is_definition, is_mention, is_use, AreChains};
 
 use crate::chains::{Chains, chained};
 use crate::events::{Event, events};
-use crate::places::{first_uses, identifiers};
+use crate::places::{first_definitions, first_uses, identifiers};
 use dm_name_map::NameMap;
-use dm_token::{Definition, Memory, Origin, Place, Text, UnitTokens};
+use dm_runs::is_at;
+use dm_token::{Memory, Place, Text, UnitTokens};
 use std::alloc::Global;
 
 /// A unit after translation phase 4, with what looks its names up.
@@ -20,25 +20,14 @@ pub struct Mentions<'a> {
     pub pp: &'a UnitTokens,
     identifiers: NameMap,
     uses: NameMap,
+    definitions: NameMap,
     events: Vec<Event>,
     chains: Chains,
     ghost finds_identifiers: { (name : Sequence ℕ) → finite.get identifiers name ≡ position_from (is_mention name) 0 pp.now.tokens },
     ghost finds_uses: { (name : Sequence ℕ) → finite.get uses name ≡ position_from (is_use name) 0 pp.now.directive_uses },
+    ghost finds_definitions: { (name : Sequence ℕ) → finite.get definitions name ≡ position_from (is_definition name) 0 pp.now.read },
     ghost has_events: { events.items ≡ mentions.events pp.now },
     ghost has_chains: { AreChains pp.now 0 events.items chains.first chains.next.items },
-}
-
-fn is_file(origin: Origin) -> bool
-    ensures { result ≡ runs.is_file origin }
-{
-    matches!(origin, Origin::File)
-}
-
-/// Whether it is the definition at a byte of a file.
-fn is_at(definition: &Definition, file: u32, hash: u32) -> bool
-    ensures { result ≡ runs.is_at file hash definition.now }
-{
-    is_file(definition.origin) && definition.place.file == file && definition.hash == hash
 }
 
 impl<'a> Mentions<'a> {
@@ -49,12 +38,14 @@ impl<'a> Mentions<'a> {
     {
         let identifiers = identifiers(alloc, pp.tokens.items())?;
         let uses = first_uses(alloc, pp.directive_uses.items())?;
+        let definitions = first_definitions(alloc, pp.read.items())?;
         let events = events(alloc, pp)?;
         let chains = chained(alloc, pp, &events)?;
         Ok(Mentions {
             pp,
             identifiers,
             uses,
+            definitions,
             events,
             chains,
         })
@@ -74,6 +65,13 @@ impl<'a> Mentions<'a> {
     {
         let at = self.uses.get(name)?;
         Some(self.pp.directive_uses.items()[at as usize].place)
+    }
+
+    /// Whether the unit reads a definition of the name.
+    pub fn defines(&self, name: &Text) -> bool
+        ensures { result ≡ mentions.defines self.now.pp.now name.now }
+    {
+        self.definitions.get(name).is_some()
     }
 
     /// The first event of the name that isn't the first reading of the definition whose `#` is this byte of a file.

@@ -11,6 +11,7 @@ use Rattle.dm_type.specs.declared.shape.Content.{Content}
 use Rattle.dm_type.specs.declared.shape.Member.{Member}
 use Rattle.dm_type.specs.declared.shape.Shape.{Shape}
 use Rattle.dm_type.specs.declared.shape.Struct.{Struct}
+use Rattle.dm_type.specs.Structs.{shown_member, shown_content, shown_struct}
 use Rattle.dm_type.specs.Tables.{Table, at, types_of, type_of}
 use Rattle.dm_syn.specs.Trees.{External}
 use Rattle.dm_tree.specs.declared.unit.CoreUnit.{CoreUnit}
@@ -21,7 +22,7 @@ use Rattle.dm_typing.specs.Known.{Outcome, given, broken}
 use Rattle.dm_typing.specs.Views.{table_over, refusal_at}
 use Rattle.dm_edecl.specs.Units.{unit_setting, typed_unit}
 use Rattle.dm_reading.specs.Elaborated.{Elaborates}
-use Rattle.dm_outcome.specs.Outcomes.{shown_member, shown_content, shown_struct, IsSameUnit, AreOneOutcome}
+use Rattle.dm_outcome.specs.Outcomes.{IsSameUnit, AreOneOutcome}
 use Rattle.dm_outcome.proofs.Renumbered.{Renumbers, moved_member, moved_content, moved}
 use Rattle.dm_outcome.proofs.ExpressionLemmas.{Both, gives, breaks}
 use Rattle.dm_outcome.proofs.UnitLemmas.{unit-both}

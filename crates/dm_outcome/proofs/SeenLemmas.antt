@@ -8,6 +8,7 @@ use Rattle.dm_token.specs.declared.place.Span.{Span}
 use Rattle.dm_type.specs.declared.shape.Content.{Content}
 use Rattle.dm_type.specs.declared.shape.Member.{Member}
 use Rattle.dm_type.specs.declared.shape.Struct.{Struct}
+use Rattle.dm_type.specs.Structs.{shown_member, shown_content, shown_struct}
 use Rattle.dm_type.specs.Tables.{Table, type_of}
 use Rattle.dm_tree.specs.declared.tree.Core.{Core}
 use Rattle.dm_tree.specs.declared.tree.Core as q
@@ -25,7 +26,6 @@ use Rattle.dm_tree.specs.Units.{Declaration, External, ExternalForm, declares, d
 use Rattle.dm_tree.specs.ViewLaws.{stays}
 use Rattle.dm_tree.specs.Views.{view, view_of_local, declarators_of, expressions_of_locals, opened, node_of, view_of_declared, view_of_form, view_of_external, view_of_unit}
 use Rattle.dm_tree.proofs.ListLemmas.{listed-trees}
-use Rattle.dm_outcome.specs.Outcomes.{shown_member, shown_content, shown_struct}
 use Rattle.dm_outcome.proofs.BoundLemmas.{Bounded, number-bounded, both-bounded, list-bounded, core-bounded}
 
 -- ---- the trees of an external declaration as parts of trees

@@ -1,34 +1,16 @@
 -- What the typing of a unit comes to, whatever numbers its types have.
---     shown_struct table entry      a struct: its tag, its members with their types written out, and its layout
---     AreSameStructs one other      two tables have the same structs by number
 --     IsSameUnit one other      two typed units with their tables are one, each with numbers of its own
 --     AreOneOutcome one other      two answers are one: the same unit, or the same refusal. Want of memory has no cause
 --     AreOneLayers one other      so are the answers of all layers behind the preprocessor
-use Rattle.std.specs.Prelude.{◌≡◌, ℕ, List, map, Option, option_map, Result, Ok, Err}
+use Rattle.std.specs.Prelude.{◌≡◌, map, Result, Ok, Err}
 use Rattle.dm_token.specs.declared.stop.Stop.{Stop}
 use Rattle.dm_token.specs.declared.stop.Stop.TheVariants as stop
-use Rattle.dm_type.specs.declared.layout.Layout.{Layout}
-use Rattle.dm_type.specs.declared.shape.Content.{Content}
-use Rattle.dm_type.specs.declared.shape.Member.{Member}
-use Rattle.dm_type.specs.declared.shape.Struct.{Struct}
-use Rattle.dm_type.specs.CTypes.{CType}
-use Rattle.dm_type.specs.Tables.{Table, type_of}
+use Rattle.dm_type.specs.Structs.{AreSameStructs}
+use Rattle.dm_type.specs.Tables.{Table}
 use Rattle.dm_syn.specs.Views as syntax
 use Rattle.dm_tree.specs.declared.unit.CoreUnit.{CoreUnit}
 use Rattle.dm_tree.specs.Views.{view_of_unit}
 use Rattle.dm_reading.specs.declared.reading.Layers.{Layers}
-
-abbrev pub shown_member : Table → Member → List ℕ × CType
-shown_member table member = (member.name, type_of table member.kind)
-
-abbrev pub shown_content : Table → Content → List (List ℕ × CType) × Option Layout
-shown_content table content = (map (shown_member table) content.members, content.layout)
-
-abbrev pub shown_struct : Table → Struct → Option (List ℕ) × Option (List (List ℕ × CType) × Option Layout)
-shown_struct table entry = (entry.tag, option_map (shown_content table) entry.content)
-
-abbrev pub AreSameStructs : Table → Table → Type 0
-AreSameStructs one other = map (shown_struct other) other.structs ≡ map (shown_struct one) one.structs
 
 -- two typed units are one, with their types and structs written out
 pub record IsSameUnit (one other : CoreUnit × Table) : Type 0 where

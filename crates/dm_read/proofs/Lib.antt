@@ -1,5 +1,5 @@
 mod DeclaredLemmas
-mod SourceLemmas
+pub mod SourceLemmas
 mod SyntaxLemmas
 mod OneLemmas
 pub mod TokenLemmas

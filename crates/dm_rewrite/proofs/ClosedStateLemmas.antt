@@ -20,7 +20,7 @@ use Rattle.dm_meaning.specs.Statements.{Turned, onward, refused, evaluation, typ
 use Rattle.dm_meaning.specs.Steps.{given_from, opened, status_of, lacks_value, gone_back, handed_back, is_main, gives_nothing, body_place, no_place, closed, turned, moved, scene_of, expression_steps, task_steps, Step}
 use Rattle.dm_meaning.specs.Values.{Name, numbered, literal_of, elsewhere, At, Value, integer_value, pointer_value, parts as compound, unset, parts_in, with_part}
 use Rattle.dm_rewrite.specs.Closed.{Avoids, ListAvoids, ResultAvoids, MemoryAvoids, May, only_closed, may_name, unseen, names_first, IsPlace, IsNotNamed, FirstIs, IsClosedIn, IsClosedInAll}
-use Rattle.dm_rewrite.specs.ClosedStates.{IsOther, IsName, NamesOnly, AllNameOnly, ListNamesOnly, OptionNamesOnly, ProgramNamesOnly, OnlyNames, LoopNamesOnly, UseNamesOnly, WaitsClosed, AllWaitClosed, RunsClosed, AreTasksClosed, AreCallersClosed, IsClosedState}
+use Rattle.dm_rewrite.specs.ClosedStates.{IsOther, IsName, NamesOnly, AllNameOnly, ListNamesOnly, OptionNamesOnly, ProgramNamesOnly, OnlyNames, LoopNamesOnly, UseNamesOnly, WaitsClosed, AllWaitClosed, RunsClosed, AreTasksClosed, AreCallersClosed, IsUnreached, IsClosedState}
 use Rattle.dm_rewrite.specs.Effects.{Stage, Writes, effects_of}
 use Rattle.dm_meaning.proofs.AmongLemmas.{among-map_from}
 use Rattle.dm_meaning.proofs.ExtendLemmas.{look_changed}
@@ -38,7 +38,7 @@ module _ (n : ℕ) where
   replicated_avoid zero value h = tt
   replicated_avoid (suc count) value h = (h, replicated_avoid count value h)
 
-  joined_avoid : (xs ys : List Value) → ListAvoids n xs → ListAvoids n ys → ListAvoids n (xs ++ ys)
+  pub joined_avoid : (xs ys : List Value) → ListAvoids n xs → ListAvoids n ys → ListAvoids n (xs ++ ys)
   joined_avoid [] ys h k = k
   joined_avoid (x ∷ xs) ys h k = (h.0, joined_avoid xs ys h.1 k)
 
@@ -47,7 +47,7 @@ module _ (n : ℕ) where
   taken_avoid (suc count) [] h = tt
   taken_avoid (suc count) (x ∷ xs) h = (h.0, taken_avoid count xs h.1)
 
-  dropped_avoid : (count : ℕ) (xs : List Value) → ListAvoids n xs → ListAvoids n (drop count xs)
+  pub dropped_avoid : (count : ℕ) (xs : List Value) → ListAvoids n xs → ListAvoids n (drop count xs)
   dropped_avoid zero xs h = h
   dropped_avoid (suc count) [] h = tt
   dropped_avoid (suc count) (x ∷ xs) h = dropped_avoid count xs h.1
@@ -87,7 +87,7 @@ module _ (n : ℕ) where
   zero_avoids (pointer target) = tt
   zero_avoids type = tt
 
-  zeros_avoid : (layout : Layout) (type : CType) → Avoids n (all_zero layout type)
+  pub zeros_avoid : (layout : Layout) (type : CType) → Avoids n (all_zero layout type)
   zeros_avoid layout type =
       filled_avoids zero_of (filled_struct layout zero_of layout.structs) zero_avoids (struct_avoids layout zero_of zero_avoids layout.structs) type
 
@@ -114,7 +114,7 @@ module _ (n : ℕ) where
   elements_avoid kind [] h = tt
   elements_avoid kind (x ∷ xs) h = (element_avoids kind x h.0, elements_avoid kind xs h.1)
 
-  array_avoids : (kind : CType) (characters : List Value) → ListAvoids n characters → Avoids n (array_of kind characters)
+  pub array_avoids : (kind : CType) (characters : List Value) → ListAvoids n characters → Avoids n (array_of kind characters)
   array_avoids (array element (Some count)) characters h =
       values_avoid n (take count (map (as_element (bare element)) characters ++ replicate count (zero_of (bare element))))
       (taken_avoid count (map (as_element (bare element)) characters ++ replicate count (zero_of (bare element)))
@@ -179,7 +179,7 @@ module _ (n : ℕ) where
   writes_made world after stage run h (inr w) = subst (λ memory. IsMade memory n) (sym w.is) (written_made world.memory w.at w.value h)
 
   -- objects are made
-  made_avoid : (program : Program) (names : ℕ → ℕ) (i : ℕ) (ds : List ℕ) (memory : Memory) → MemoryAvoids n memory → MemoryAvoids n (made_from program names i ds memory)
+  pub made_avoid : (program : Program) (names : ℕ → ℕ) (i : ℕ) (ds : List ℕ) (memory : Memory) → MemoryAvoids n memory → MemoryAvoids n (made_from program names i ds memory)
   made_avoid program names i [] memory h = h
   made_avoid program names i (e ∷ ds) memory h =
       made_avoid program names (suc i) ds ((names i, new_block (layout program) (type_declared program e)) ∷ memory)
@@ -191,7 +191,7 @@ module _ (n : ℕ) where
       made_made program names (suc i) ds ((names i, new_block (layout program) (type_declared program e)) ∷ memory)
       (made_added (names i) (new_block (layout program) (type_declared program e)) memory n h)
 
-  given_avoid : (program : Program) (names : ℕ → ℕ) (i : ℕ) (ds : List ℕ) (arguments : List Value) (memory : Memory) → ListAvoids n arguments → MemoryAvoids n memory
+  pub given_avoid : (program : Program) (names : ℕ → ℕ) (i : ℕ) (ds : List ℕ) (arguments : List Value) (memory : Memory) → ListAvoids n arguments → MemoryAvoids n memory
       → MemoryAvoids n (given_from program names i ds arguments memory)
   given_avoid program names i [] arguments memory k h = h
   given_avoid program names i (e ∷ ds) [] memory k h =
@@ -214,7 +214,7 @@ module _ (n : ℕ) where
 -- ---- names
 
 module _ (n d : ℕ) where
-  only_join : (xs ys : Objects) → OnlyNames n d xs → OnlyNames n d ys → OnlyNames n d (xs ++ ys)
+  pub only_join : (xs ys : Objects) → OnlyNames n d xs → OnlyNames n d ys → OnlyNames n d (xs ++ ys)
   only_join [] ys h k = k
   only_join (x ∷ xs) ys h k = (h.0, only_join xs ys h.1 k)
 
@@ -231,6 +231,12 @@ module _ (n d : ℕ) where
       → OnlyNames n d (named_from names i ds objects)
   named_only names new i [] objects h = h
   named_only names new i (e ∷ ds) objects h = named_only names new (suc i) ds ((e, names i) ∷ objects) ((λ f. absurd (new i f)), h)
+
+  -- the object was there, or it is known what names it now
+  still_only : (Was : Type 0) (names : ℕ → ℕ) → (Was → (i : ℕ) → names i ≡ n → ⊥) → (i : ℕ) (ds : List ℕ) (objects : Objects) → OnlyNames n d objects
+      → Was ⊎ OnlyNames n d (named_from names i ds objects) → OnlyNames n d (named_from names i ds objects)
+  still_only Was names new i ds objects h (inl was) = named_only names (new was) i ds objects h
+  still_only Was names new i ds objects h (inr k) = k
 
   new_names : (names : ℕ → ℕ) (memory : Memory) → IsFresh names memory → IsMade memory n → (i : ℕ) → names i ≡ n → ⊥
   new_names names memory fresh made i e = none_is_some made.0 (sym (fresh.1 i) ∙ ap (look_up memory) e ∙ made.1)
@@ -288,7 +294,7 @@ module _ (n d : ℕ) where
     waited skips h = tt
     waited (hands_back value) h = h
 
-    all_waited : (tasks : List Task) → AllWaitClosed n d tasks → AreTasksClosed n d objects tasks
+    pub all_waited : (tasks : List Task) → AllWaitClosed n d tasks → AreTasksClosed n d objects tasks
     all_waited [] h = tt
     all_waited (task ∷ rest) h = (waited task h.0, h.1)
 
@@ -330,7 +336,7 @@ module _ (n d : ℕ) where
           declarators_wait declarators (drop lengths (listed parts)) (dropped_names lengths (listed parts) (listed_names parts k.1))
       by_label l k = (k, tt)
 
-  items_wait : (items : List Tree) → ListNamesOnly d items → AllWaitClosed n d (items_tasks items)
+  pub items_wait : (items : List Tree) → ListNamesOnly d items → AllWaitClosed n d (items_tasks items)
   items_wait [] h = tt
   items_wait (item ∷ items) h = wait_join (item_tasks item) (items_tasks items) (item_waits item h.0) (items_wait items h.1)
 
@@ -367,15 +373,18 @@ module _ (n d : ℕ) where
 
   -- ---- what a step leaves in a frame
 
-  module _ (statics : Objects) (only_statics : OnlyNames n d statics) where
+  -- The object was made before, or it is new, and known what names it now.
+  module _ (Was : Type 0) (statics : Objects) (only_statics : OnlyNames n d statics) where
+    abbrev GoesClosed : Objects → List Task → Memory → Type 0
+    GoesClosed objects tasks memory = OnlyNames n d objects × AreTasksClosed n d (statics ++ objects) tasks × MemoryAvoids n memory × (Was → IsMade memory n)
+
     abbrev TurnsClosed : Turned → Type 0
-    TurnsClosed (onward objects tasks memory) =
-        OnlyNames n d objects × AreTasksClosed n d (statics ++ objects) tasks × MemoryAvoids n memory × IsMade memory n
+    TurnsClosed (onward objects tasks memory) = Was ⊎ OnlyNames n d objects → GoesClosed objects tasks memory
     TurnsClosed (refused cause place) = Unit {0}
 
-    onward_closed : (objects : Objects) (tasks : List Task) (memory : Memory) → OnlyNames n d objects → AllWaitClosed n d tasks → MemoryAvoids n memory → IsMade memory n
+    onward_closed : (objects : Objects) (tasks : List Task) (memory : Memory) → OnlyNames n d objects → AllWaitClosed n d tasks → MemoryAvoids n memory → (Was → IsMade memory n)
         → TurnsClosed (onward objects tasks memory)
-    onward_closed objects tasks memory o w avoids made = (o, all_waited (statics ++ objects) (only_join statics objects only_statics o) tasks w, avoids, made)
+    onward_closed objects tasks memory o w avoids made known = (o, all_waited (statics ++ objects) (only_join statics objects only_statics o) tasks w, avoids, made)
 
     -- ---- trees of a statement
 
@@ -405,23 +414,23 @@ module _ (n d : ℕ) where
     if_tree true (x ∷ rest) following otherwise h k o = k (Some x) rest h.0 h.1
 
     module _ (program : Program) (objects : Objects) (only : OnlyNames n d objects) (rest : List Task) (waits : AllWaitClosed n d rest) (memory : Memory)
-        (avoids : MemoryAvoids n memory) (made : IsMade memory n) where
+        (avoids : MemoryAvoids n memory) (made : Was → IsMade memory n) where
       goes_on : (tasks : List Task) → AllWaitClosed n d tasks → TurnsClosed (onward objects tasks memory)
       goes_on tasks w = onward_closed objects tasks memory only w avoids made
 
       otherwise : TurnsClosed (onward objects (ends objects ∷ rest) memory)
       otherwise = goes_on (ends objects ∷ rest) (only, waits)
 
-      module _ (names : ℕ → ℕ) (new : (i : ℕ) → names i ≡ n → ⊥) where
+      module _ (names : ℕ → ℕ) (new : Was → (i : ℕ) → names i ≡ n → ⊥) where
         for_closed : (start : Option Tree) (loop : Loop) → OptionNamesOnly d start → LoopNamesOnly d loop
             → TurnsClosed (begin_for program names objects rest memory start loop)
-        for_closed start loop h k =
+        for_closed start loop h k known =
             let ds = declared_in program (as_list start) in
-            let inner = named_only names new 0 ds objects only in
+            let inner = still_only Was names new 0 ds objects only known in
             onward_closed (named_from names 0 ds objects)
             (start_tasks start ++ tests (named_from names 0 ds objects) loop ∷ ends objects ∷ rest) (made_from program names 0 ds memory) inner
             (wait_join (start_tasks start) (tests (named_from names 0 ds objects) loop ∷ ends objects ∷ rest) (start_waits start h) ((inner, k), (only, waits)))
-            (made_avoid n program names 0 ds memory avoids) (made_made n program names 0 ds memory made)
+            (made_avoid n program names 0 ds memory avoids) (λ was. made_made n program names 0 ds memory (made was)) known
 
         returning_closed : (value : Option Tree) → OptionNamesOnly d value → TurnsClosed (returning objects memory value)
         returning_closed None h = goes_on (hands_back unset ∷ []) (tt, tt)
@@ -432,9 +441,10 @@ module _ (n d : ℕ) where
         form_closed block_form parts h =
             let items = listed parts in
             let ds = declared_in program items in
+            λ known.
             onward_closed (named_from names 0 ds objects) (items_tasks items ++ ends objects ∷ rest) (made_from program names 0 ds memory)
-            (named_only names new 0 ds objects only) (wait_join (items_tasks items) (ends objects ∷ rest) (items_wait items (listed_names parts h)) (only, waits))
-            (made_avoid n program names 0 ds memory avoids) (made_made n program names 0 ds memory made)
+            (still_only Was names new 0 ds objects only known) (wait_join (items_tasks items) (ends objects ∷ rest) (items_wait items (listed_names parts h)) (only, waits))
+            (made_avoid n program names 0 ds memory avoids) (λ was. made_made n program names 0 ds memory (made was)) known
         form_closed full parts h =
             one_tree (listed parts) _ _ (listed_names parts h) (λ tree k. goes_on (evaluation tree drops ∷ ends objects ∷ rest) (((tree, refl, k), tt), (only, waits))) otherwise
         form_closed if_statement parts h =
@@ -501,7 +511,7 @@ module _ (n d : ℕ) where
 
       stored : (at : At) (value : Value) (tasks : List Task) → Avoids n value → AllWaitClosed n d tasks → TurnsClosed (onward objects tasks (written memory at value))
       stored at value tasks h w =
-          onward_closed objects tasks (written memory at value) only w (written_avoids n memory at value avoids h) (written_made n memory at value made)
+          onward_closed objects tasks (written memory at value) only w (written_avoids n memory at value avoids h) (λ was. written_made n memory at value (made was))
 
       initialiser_closed : (at : At) (kind : CType) (initialiser : Initialiser) (expressions : List Tree) → ListNamesOnly d expressions
           → TurnsClosed (begin_initialiser program objects rest memory at kind initialiser expressions)
@@ -547,7 +557,7 @@ module _ (n d : ℕ) where
       ended_closed : (saved : Objects) (tasks : List Task) → OnlyNames n d saved → AllWaitClosed n d tasks → TurnsClosed (ended saved objects tasks memory)
       ended_closed saved tasks o w =
           onward_closed saved tasks (killed (named_since saved objects) memory) o w (killed_avoids n (named_since saved objects) memory avoids)
-          (killed_made n (named_since saved objects) memory made)
+          (λ was. killed_made n (named_since saved objects) memory (made was))
 
       break_closed : (tasks : List Task) → AllWaitClosed n d tasks → TurnsClosed (after_break objects memory tasks)
       break_closed [] h = goes_on [] tt
@@ -617,114 +627,125 @@ module _ (n d : ℕ) where
       by_bool true g later = inl (sym (some_is_some first definition g))
       by_bool false g later = inr (later g)
 
-  one_closed : (x other : State) → IsClosedState n d x → IsAmong other (x ∷ []) → IsClosedState n d other
-  one_closed x other h (inl e) = subst (IsClosedState n d) (sym e) h
-  one_closed x other h (inr k) = absurd k
+  module _ (program : Program) (all : ProgramNamesOnly d program) (state : State) (s : IsUnreached n d state) where
+    abbrev Was : Type 0
+    Was = IsMade state.world.memory n
 
-  module _ (program : Program) (all : ProgramNamesOnly d program) (state : State) (s : IsClosedState n d state) where
+    -- behind a step, where the object was made before, or it is known what names it now
+    abbrev Follows : State → Type 0
+    Follows other = Was ⊎ OnlyNames n d other.frame.objects → IsUnreached n d other × (Was → IsMade other.world.memory n)
+
+    one_closed : (x other : State) → Follows x → IsAmong other (x ∷ []) → Follows other
+    one_closed x other h (inl e) = subst Follows (sym e) h
+    one_closed x other h (inr k) = absurd k
+
     -- however the run stands
-    stays : (standing : Standing) → IsClosedState n d (record state { standing = standing })
-    stays standing = record { made = s.made; memory = s.memory; statics = s.statics; frame = s.frame; callers = s.callers }
+    stays : (standing : Standing) → Follows (record state { standing = standing })
+    stays standing known = (record { memory = s.memory; statics = s.statics; frame = s.frame; callers = s.callers }, λ was. was)
 
-    turned_closed : (t : Turned) → TurnsClosed state.statics s.statics t → IsClosedState n d (turned state t)
-    turned_closed (onward objects tasks memory) h =
-        record { made = h.3; memory = h.2; statics = s.statics; frame = (h.0, h.1); callers = s.callers }
-    turned_closed (refused cause place) h = stays (undefined cause place)
+    turned_closed : (t : Turned) → TurnsClosed Was state.statics s.statics t → Follows (turned state t)
+    turned_closed (onward objects tasks memory) h known =
+        let there = h known in (record { memory = there.2; statics = s.statics; frame = (there.0, there.1); callers = s.callers }, there.3)
+    turned_closed (refused cause place) h known = stays (undefined cause place) known
 
     abbrev stage : Stage
     stage = record { scene = scene_of program state; closed = []; quiet = λ f. false }
 
     module _ (names : ℕ → ℕ) (fresh : IsFresh names state.world.memory) where
-      new : (i : ℕ) → names i ≡ n → ⊥
-      new = new_names names state.world.memory fresh s.made
+      new : Was → (i : ℕ) → names i ≡ n → ⊥
+      new was = new_names names state.world.memory fresh was
+
+      opened_only : (parameters : List ℕ) (count : ℕ) (ds : List ℕ) → Was ⊎ OnlyNames n d (named_from names count ds (named_from names 0 parameters []))
+          → OnlyNames n d (named_from names count ds (named_from names 0 parameters []))
+      opened_only parameters count ds (inl was) = named_only names (new was) count ds (named_from names 0 parameters []) (named_only names (new was) 0 parameters [] tt)
+      opened_only parameters count ds (inr k) = k
 
       opened_closed : (rest : List Task) (place : Place) (use_of : Use) (kind : CType) (hole : Hole) (arguments : List Value) → AllWaitClosed n d rest
           → UseNamesOnly d use_of
           → ListAvoids n arguments
           → ((value : Value) → Avoids n value → IsClosedIn n (state.statics ++ state.frame.objects) (filled_in hole (done kind (of_value value) [])))
           → (o : Option Definition) → ((definition : Definition) → o ≡ Some definition → IsAmong definition program.functions)
-          → IsClosedState n d (opened program names state rest place use_of kind hole arguments o)
-      opened_closed rest place use_of kind hole arguments waits u avoid resumes None found = stays (undefined External place)
-      opened_closed rest place use_of kind hole arguments waits u avoid resumes (Some definition) found =
+          → Follows (opened program names state rest place use_of kind hole arguments o)
+      opened_closed rest place use_of kind hole arguments waits u avoid resumes None found known = stays (undefined External place) known
+      opened_closed rest place use_of kind hole arguments waits u avoid resumes (Some definition) found known =
           let items = parts_of definition.body in
           let ds = declared_in program items in
           let count = length definition.parameters in
           let given = given_from program names 0 definition.parameters arguments state.world.memory in
-          let only = named_only names new count ds (named_from names 0 definition.parameters []) (named_only names new 0 definition.parameters [] tt) in
-          record {
-            made = made_made n program names count ds given (given_made n program names 0 definition.parameters arguments state.world.memory s.made);
-            memory = made_avoid n program names count ds given (given_avoid n program names 0 definition.parameters arguments state.world.memory avoid s.memory);
-            statics = s.statics;
-            frame = (
-              only,
-              all_waited (state.statics ++ named_from names count ds (named_from names 0 definition.parameters []))
-                  (only_join state.statics (named_from names count ds (named_from names 0 definition.parameters [])) s.statics only) (items_tasks items)
-                  (items_wait items (all definition (found definition refl))),
-            );
-            callers = (record { objects = s.frame.0; tasks = waits; use_of = u; resumes = resumes }, s.callers);
-          }
+          let only = opened_only definition.parameters count ds known in (
+            record {
+              memory = made_avoid n program names count ds given (given_avoid n program names 0 definition.parameters arguments state.world.memory avoid s.memory);
+              statics = s.statics;
+              frame = (
+                only,
+                all_waited (state.statics ++ named_from names count ds (named_from names 0 definition.parameters []))
+                    (only_join state.statics (named_from names count ds (named_from names 0 definition.parameters [])) s.statics only) (items_tasks items)
+                    (items_wait items (all definition (found definition refl))),
+              );
+              callers = (record { objects = s.frame.0; tasks = waits; use_of = u; resumes = resumes }, s.callers);
+            },
+            λ was. made_made n program names count ds given (given_made n program names 0 definition.parameters arguments state.world.memory was),
+          )
 
       moved_closed : (rest : List Task) (place : Place) (use_of : Use) (run : Run) → AllWaitClosed n d rest → UseNamesOnly d use_of
           → IsClosedIn n (state.statics ++ state.frame.objects) run → (m : Move Run Hole)
-          → IsAmong m (moves (scene_of program state) state.world (locks_in run) run) → IsClosedState n d (moved program names state rest place use_of m)
-      moved_closed rest place use_of run waits u h (goes world later) k =
-          let clear = run_clear n (scene_of program state) state.world s.memory (locks_in run) run h (goes world later) k in
-          record {
-            made = writes_made n state.world world stage run s.made (step_writes stage state.world (locks_in run) run later world k);
-            memory = clear.1;
-            statics = s.statics;
-            frame = (s.frame.0, ((clear.0, u), waits));
-            callers = s.callers;
-          }
-      moved_closed rest place use_of run waits u h (calls f arguments kind hole) k =
+          → IsAmong m (moves (scene_of program state) state.world (locks_in run) run) → Follows (moved program names state rest place use_of m)
+      moved_closed rest place use_of run waits u h (goes world later) k known =
+          let clear = run_clear n (scene_of program state) state.world s.memory (locks_in run) run h (goes world later) k in (
+            record { memory = clear.1; statics = s.statics; frame = (s.frame.0, ((clear.0, u), waits)); callers = s.callers },
+            λ was. writes_made n state.world world stage run was (step_writes stage state.world (locks_in run) run later world k),
+          )
+      moved_closed rest place use_of run waits u h (calls f arguments kind hole) k known =
           let clear = run_clear n (scene_of program state) state.world s.memory (locks_in run) run h (calls f arguments kind hole) k in
           opened_closed rest place use_of kind hole arguments waits u clear.0 (λ value v. clear.1 value [] v) (definition_of program f)
-          (λ definition e. definition_found program.functions f definition e)
-      moved_closed rest place use_of run waits u h (fails cause at) k = stays (undefined cause at)
-      moved_closed rest place use_of run waits u h (exits status) k = stays (exited status)
+          (λ definition e. definition_found program.functions f definition e) known
+      moved_closed rest place use_of run waits u h (fails cause at) k known = stays (undefined cause at) known
+      moved_closed rest place use_of run waits u h (exits status) k known = stays (exited status) known
 
       expression_closed : (rest : List Task) (place : Place) (use_of : Use) (run : Run) → AllWaitClosed n d rest → UseNamesOnly d use_of
           → IsClosedIn n (state.statics ++ state.frame.objects) run → (other : State)
-          → IsAmong other (expression_steps program names state rest place use_of run) → IsClosedState n d other
+          → IsAmong other (expression_steps program names state rest place use_of run) → Follows other
       expression_closed rest place use_of (done kind result locks) waits u h other k =
           one_closed _ other
           (turned_closed (concluded program state.frame.objects rest state.world.memory place use_of result)
-          (concluded_closed state.statics s.statics program state.frame.objects s.frame.0 rest waits state.world.memory s.memory s.made place use_of result u h)) k
+          (concluded_closed Was state.statics s.statics program state.frame.objects s.frame.0 rest waits state.world.memory s.memory (λ was. was) place use_of result u h)) k
       expression_closed rest place use_of (to_do doing kind at parts) waits u h other k =
           let from = among-map_from (moved program names state rest place use_of) other _ k in
-          subst (IsClosedState n d) (sym from.2) (moved_closed rest place use_of (to_do doing kind at parts) waits u h from.0 from.1)
+          subst Follows (sym from.2) (moved_closed rest place use_of (to_do doing kind at parts) waits u h from.0 from.1)
 
     -- ---- the end of a frame
 
     handed_closed : (value : Value) → Avoids n value → (callers : List Caller) → AreCallersClosed n d state.statics callers
-        → IsClosedState n d (handed_back state value callers)
+        → Follows (handed_back state value callers)
     handed_closed value h [] k = stays (exited (status_of value))
     handed_closed value h (caller ∷ callers) k = by_bool (lacks_value caller.kind value)
       where
-        by_bool : (b : Bool) → IsClosedState n d (if b then record state { standing = undefined NoValue caller.place } else gone_back state value caller callers)
+        by_bool : (b : Bool) → Follows (if b then record state { standing = undefined NoValue caller.place } else gone_back state value caller callers)
         by_bool true = stays (undefined NoValue caller.place)
-        by_bool false = record {
-          made = killed_made n (map (λ (entry : ℕ × ℕ). entry.1) state.frame.objects) state.world.memory s.made;
-          memory = killed_avoids n (map (λ (entry : ℕ × ℕ). entry.1) state.frame.objects) state.world.memory s.memory;
-          statics = s.statics;
-          frame = (k.0.objects, ((k.0.resumes value h, k.0.use_of), k.0.tasks));
-          callers = k.1;
-        }
+        by_bool false = λ known. (
+          record {
+            memory = killed_avoids n (map (λ (entry : ℕ × ℕ). entry.1) state.frame.objects) state.world.memory s.memory;
+            statics = s.statics;
+            frame = (k.0.objects, ((k.0.resumes value h, k.0.use_of), k.0.tasks));
+            callers = k.1;
+          },
+          λ was. killed_made n (map (λ (entry : ℕ × ℕ). entry.1) state.frame.objects) state.world.memory was,
+        )
 
-    gives_back : (value : Value) → Avoids n value → IsClosedState n d (record state { frame = record state.frame { tasks = hands_back value ∷ [] } })
-    gives_back value h = record { made = s.made; memory = s.memory; statics = s.statics; frame = (s.frame.0, (h, tt)); callers = s.callers }
+    gives_back : (value : Value) → Avoids n value → Follows (record state { frame = record state.frame { tasks = hands_back value ∷ [] } })
+    gives_back value h known = (record { memory = s.memory; statics = s.statics; frame = (s.frame.0, (h, tt)); callers = s.callers }, λ was. was)
 
-    brace_closed : IsClosedState n d (closed program state)
+    brace_closed : Follows (closed program state)
     brace_closed = by_main (is_main (declaration_of program state.frame.function))
       where
         by_nothing : (b : Bool)
-            → IsClosedState n d (if b then record state { frame = record state.frame { tasks = hands_back unset ∷ [] } }
+            → Follows (if b then record state { frame = record state.frame { tasks = hands_back unset ∷ [] } }
             else record state { standing = undefined NoValue (body_place (definition_of program state.frame.function) no_place) })
         by_nothing true = gives_back unset tt
         by_nothing false = stays (undefined NoValue (body_place (definition_of program state.frame.function) no_place))
 
         by_main : (b : Bool)
-            → IsClosedState n d (if b then record state { frame = record state.frame { tasks = hands_back (integer_value Int (pos 0)) ∷ [] } }
+            → Follows (if b then record state { frame = record state.frame { tasks = hands_back (integer_value Int (pos 0)) ∷ [] } }
             else (if gives_nothing (type_declared program state.frame.function) then record state { frame = record state.frame { tasks = hands_back unset ∷ [] } }
             else record state { standing = undefined NoValue (body_place (definition_of program state.frame.function) no_place) }))
         by_main true = gives_back (integer_value Int (pos 0)) tt
@@ -734,45 +755,51 @@ module _ (n d : ℕ) where
 
     task_closed : (names : ℕ → ℕ) → IsFresh names state.world.memory → (tasks : List Task) → AreTasksClosed n d (state.statics ++ state.frame.objects) tasks
         → (other : State)
-        → IsAmong other (task_steps program names state tasks) → IsClosedState n d other
+        → IsAmong other (task_steps program names state tasks) → Follows other
     task_closed names fresh [] h other k = one_closed _ other brace_closed k
     task_closed names fresh (begins tree ∷ rest) h other k =
         one_closed _ other
         (turned_closed (begin_statement program names state.frame.objects rest state.world.memory tree)
-        (tree_closed state.statics s.statics program state.frame.objects s.frame.0 rest h.1 state.world.memory s.memory s.made names (new names fresh) tree h.0)) k
+        (tree_closed Was state.statics s.statics program state.frame.objects s.frame.0 rest h.1 state.world.memory s.memory (λ was. was) names (λ was. new names fresh was) tree h.0)) k
     task_closed names fresh (declares declarator expressions ∷ rest) h other k =
         one_closed _ other
         (turned_closed (begin_declarator program state.frame.objects rest state.world.memory declarator expressions)
-        (declarator_closed state.statics s.statics program state.frame.objects s.frame.0 rest h.1 state.world.memory s.memory s.made declarator expressions h.0)) k
+        (declarator_closed Was state.statics s.statics program state.frame.objects s.frame.0 rest h.1 state.world.memory s.memory (λ was. was) declarator expressions h.0)) k
     task_closed names fresh (initials at kind initialiser expressions ∷ rest) h other k =
         one_closed _ other
         (turned_closed (begin_initialiser program state.frame.objects rest state.world.memory at kind initialiser expressions)
-        (initialiser_closed state.statics s.statics program state.frame.objects s.frame.0 rest h.1 state.world.memory s.memory s.made at kind initialiser expressions h.0)) k
+        (initialiser_closed Was state.statics s.statics program state.frame.objects s.frame.0 rest h.1 state.world.memory s.memory (λ was. was) at kind initialiser expressions h.0)) k
     task_closed names fresh (evaluates place run use_of ∷ rest) h other k = expression_closed names fresh rest place use_of run h.1 h.0.1 h.0.0 other k
     task_closed names fresh (again saved loop ∷ rest) h other k = absurd k
     task_closed names fresh (tests saved loop ∷ rest) h other k = absurd k
     task_closed names fresh (ends saved ∷ rest) h other k =
         one_closed _ other
         (turned_closed (ended saved state.frame.objects rest state.world.memory)
-        (ended_closed state.statics s.statics program state.frame.objects s.frame.0 rest h.1 state.world.memory s.memory s.made saved rest h.0 h.1)) k
+        (ended_closed Was state.statics s.statics program state.frame.objects s.frame.0 rest h.1 state.world.memory s.memory (λ was. was) saved rest h.0 h.1)) k
     task_closed names fresh (ends_switch saved ∷ rest) h other k =
         one_closed _ other
         (turned_closed (ended saved state.frame.objects rest state.world.memory)
-        (ended_closed state.statics s.statics program state.frame.objects s.frame.0 rest h.1 state.world.memory s.memory s.made saved rest h.0 h.1)) k
+        (ended_closed Was state.statics s.statics program state.frame.objects s.frame.0 rest h.1 state.world.memory s.memory (λ was. was) saved rest h.0 h.1)) k
     task_closed names fresh (leaves ∷ rest) h other k =
         one_closed _ other
         (turned_closed (after_break state.frame.objects state.world.memory rest)
-        (break_closed state.statics s.statics program state.frame.objects s.frame.0 rest h.1 state.world.memory s.memory s.made rest h.1)) k
+        (break_closed Was state.statics s.statics program state.frame.objects s.frame.0 rest h.1 state.world.memory s.memory (λ was. was) rest h.1)) k
     task_closed names fresh (skips ∷ rest) h other k =
         one_closed _ other
         (turned_closed (after_continue state.frame.objects state.world.memory rest)
-        (continue_closed state.statics s.statics program state.frame.objects s.frame.0 rest h.1 state.world.memory s.memory s.made rest h.1)) k
+        (continue_closed Was state.statics s.statics program state.frame.objects s.frame.0 rest h.1 state.world.memory s.memory (λ was. was) rest h.1)) k
     task_closed names fresh (hands_back value ∷ rest) h other k = one_closed _ other (handed_closed value h.0 state.callers s.callers) k
 
--- A step leaves such a state, where the object's address is nowhere taken.
-pub closed_step : (n d : ℕ) (program : Program) → ProgramNamesOnly d program → (state other : State) → IsClosedState n d state → Step program state other
-    → IsClosedState n d other
-closed_step n d program all state other s step =
+-- A step leaves such a state, where the object's address is nowhere taken; so it does where the object is new, or isn't made, if it is known what
+-- names it then.
+pub unreached_step : (n d : ℕ) (program : Program) → ProgramNamesOnly d program → (state other : State) → IsUnreached n d state → Step program state other
+    → IsMade state.world.memory n ⊎ OnlyNames n d other.frame.objects → IsUnreached n d other × (IsMade state.world.memory n → IsMade other.world.memory n)
+unreached_step n d program all state other s step =
     task_closed n d program all state s step.0 step.1 (unfolded state.frame.tasks)
     (unfolded_closed n d (state.statics ++ state.frame.objects) (only_join n d state.statics state.frame.objects s.statics s.frame.0) state.frame.tasks s.frame.1)
     other (from_steps state.standing (task_steps program step.0 state (unfolded state.frame.tasks)) other step.2).1
+
+pub closed_step : (n d : ℕ) (program : Program) → ProgramNamesOnly d program → (state other : State) → IsClosedState n d state → Step program state other
+    → IsClosedState n d other
+closed_step n d program all state other s step =
+    let next = unreached_step n d program all state other s.unreached step (inl s.made) in record { made = next.1 s.made; unreached = next.0 }

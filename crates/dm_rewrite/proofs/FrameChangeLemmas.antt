@@ -19,7 +19,7 @@ use Rattle.dm_rewrite.specs.KeptMemory.{emptied}
 use Rattle.dm_rewrite.proofs.KeptLemmas.{same_absence}
 
 -- an object that can be used has been made
-usable_made : (memory : Memory) (n : ℕ) → absence_causes memory (numbered n) ≡ [] → look_up memory n ≡ None → ⊥
+pub usable_made : (memory : Memory) (n : ℕ) → absence_causes memory (numbered n) ≡ [] → look_up memory n ≡ None → ⊥
 usable_made memory n e f = true≢false (ap (λ o. not (lives o)) (sym f) ∙ when_false Life (not (lives (look_up memory n))) e)
 
 -- one world after another

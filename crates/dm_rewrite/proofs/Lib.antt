@@ -2,13 +2,14 @@ mod PlainLemmas
 pub mod ComputedLemmas
 pub mod SettleLemmas
 pub mod KeptLemmas
-mod ComputedKeptLemmas
+pub mod ComputedKeptLemmas
 pub mod AsideLemmas
 pub mod EffectLemmas
 pub mod ClosedLemmas
 pub mod ClosedRunLemmas
 pub mod ShrinkEffectLemmas
-mod ClosedStateLemmas
+pub mod ClosedStateLemmas
+pub mod ClosedStartLemmas
 pub mod FrameChangeLemmas
 mod StepEffectLemmas
 mod NamedConstantLemmas
@@ -21,3 +22,4 @@ mod NamedStartLemmas
 mod NamedUnitLemmas
 mod NamedExample
 mod CountExample
+mod UnnamedLemmas

@@ -174,7 +174,7 @@ module _ (scene : Scene) (world : World) where
 -- ---- in a state of a program
 
 mutual
-  same_locks : (hole : Hole) (a b : Run) → locks_in a ≡ locks_in b → locks_in (filled_in hole a) ≡ locks_in (filled_in hole b)
+  pub same_locks : (hole : Hole) (a b : Run) → locks_in a ≡ locks_in b → locks_in (filled_in hole a) ≡ locks_in (filled_in hole b)
   same_locks here a b e = e
   same_locks (within doing kind place holes) a b e = all_same_locks holes a b e
 
@@ -187,7 +187,7 @@ module _ (program : Program) (names : ℕ → ℕ) (place : Place) (hole : Hole)
   abbrev pub with_run : State → Run → State
   with_run state run = record state { frame = record state.frame { tasks = evaluates place (filled_in hole run) use_of ∷ rest } }
 
-  step_in : (state : State) (run : Run) (m : Move Run Hole) → state.standing ≡ going → unfolded state.frame.tasks ≡ evaluates place (filled_in hole run) use_of ∷ rest
+  pub step_in : (state : State) (run : Run) (m : Move Run Hole) → state.standing ≡ going → unfolded state.frame.tasks ≡ evaluates place (filled_in hole run) use_of ∷ rest
       → IsAmong m (moves (scene_of program state) state.world (locks_in (filled_in hole run)) run)
       → IsAmong (moved program names state rest place use_of (lifted (filled_in hole) (hole_in hole) m)) (next names program state)
   step_in state run m stands e k =

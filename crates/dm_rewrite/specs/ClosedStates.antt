@@ -1,7 +1,8 @@
 -- States of a program in which an object is closed: its address is nowhere taken, so no pointer leads to it, and one declaration alone names it.
 --     NamesOnly d tree      the tree names what the declaration of this number declares only where it is read or written
 --     ProgramNamesOnly d program      so do all trees of its functions
---     IsClosedState n d state      no pointer to the object is in memory, results or frames, and only that declaration names it
+--     IsUnreached n d state      no pointer to the object is in memory, results or frames, and only that declaration names it
+--     IsClosedState n d state      so it is of an object that has been made
 use Rattle.std.specs.Prelude.{◌≡◌, ℕ, List, [], ◌∷◌, ◌++◌, Option, Some, None}
 use Rattle.dm_type.specs.CTypes.{CType}
 use Rattle.dm_tree.specs.Trees.{Label, object, Spans, Tree, Trees, node, no_trees, more_trees, parts_of}
@@ -105,9 +106,13 @@ AreCallersClosed n d statics (caller ∷ callers) = IsCallerClosed n d statics c
 
 -- ---- states
 
-pub record IsClosedState (n d : ℕ) (state : State) : Type 0 where
-  pub made : IsMade state.world.memory n
+-- no pointer to an object of this number is there, whether the object has been made or not
+pub record IsUnreached (n d : ℕ) (state : State) : Type 0 where
   pub memory : MemoryAvoids n state.world.memory
   pub statics : OnlyNames n d state.statics
   pub frame : IsFrameClosed n d state.statics state.frame
   pub callers : AreCallersClosed n d state.statics state.callers
+
+pub record IsClosedState (n d : ℕ) (state : State) : Type 0 where
+  pub made : IsMade state.world.memory n
+  pub unreached : IsUnreached n d state

@@ -1,9 +1,9 @@
-ghost use Rattle.std.specs.Prelude.{◌≡◌, ◌⊎◌, ℕ, Bool, true, false, List, [], Some, None, ℤ};
+ghost use Rattle.std.specs.Prelude.{◌≡◌, ◌⊎◌, ℕ, Bool, true, false, List, [], length, Some, None, ℤ};
 ghost use Rattle.dm_token.specs.declared.place.Place.{Place};
 ghost use Rattle.dm_int.specs.declared.Kind.{Kind};
 ghost use Rattle.dm_type.specs.CTypes.{CType};
 ghost use Rattle.dm_type.specs.Tables.{Table};
-ghost use Rattle.dm_tree.specs.Trees.{Label};
+ghost use Rattle.dm_tree.specs.Trees.{Label, Tree};
 ghost use Rattle.dm_tree.specs.Units.{TypedUnit};
 ghost use Rattle.dm_meaning.specs.Among.{IsAmong};
 ghost use Rattle.dm_meaning.specs.Memory.{Block, look_up, killed};
@@ -12,15 +12,15 @@ ghost use Rattle.dm_meaning.specs.Refinement.{Refines};
 ghost use Rattle.dm_meaning.specs.Simulation.{GoesWrong};
 ghost use Rattle.dm_meaning.specs.States.{Use, Task, State};
 ghost use Rattle.dm_meaning.specs.Steps.{opened_memory, scene_of, Step};
-ghost use Rattle.dm_meaning.specs.Units.{machine_of, program_of};
+ghost use Rattle.dm_meaning.specs.Units.{start, machine_of, program_of};
 ghost use Rattle.dm_meaning.specs.Values.{At, Value, numbered, overlaps_any};
-ghost use Rattle.dm_meaning.specs.Operations.{World, Scene, Operand, Objects, operate, whole};
-ghost use Rattle.dm_meaning.specs.Running.{Run, Hole, IsOpen, filled_in, locks_in};
+ghost use Rattle.dm_meaning.specs.Operations.{World, Scene, Operand, Objects, object_named, operate, whole};
+ghost use Rattle.dm_meaning.specs.Running.{Run, Hole, begun, IsOpen, filled_in, locks_in};
 ghost use Rattle.dm_meaning.specs.Expressions.{Move, goes, moves, kind_of_run};
 ghost use Rattle.dm_rewrite.specs.Computed.{Computed, computed, IsPure, is_pure_label};
 ghost use Rattle.dm_rewrite.specs.Aside.{Claims, Follows, AsideFits, IsForeseen};
 ghost use Rattle.dm_rewrite.specs.Closed.{MemoryAvoids, IsClosedIn, StaysClosed};
-ghost use Rattle.dm_rewrite.specs.ClosedStates.{ProgramNamesOnly, IsClosedState};
+ghost use Rattle.dm_rewrite.specs.ClosedStates.{ProgramNamesOnly, OnlyNames, IsUnreached, IsClosedState};
 ghost use Rattle.dm_rewrite.specs.Effects.{Effect, Stage, IsFree, effects_of, Writes, ChangesOnly, LeavesNoMore};
 ghost use Rattle.dm_rewrite.specs.KeptMemory.{HasSameObjects, KeepsPlaces};
 ghost use Rattle.dm_rewrite.specs.NamedConstants.{Named, new_of as named_of, IsNaming, NameAlike, HasHeld, RunAgrees, Matched, AddsObject};
@@ -103,11 +103,25 @@ pub fn effects_shrink()
         → (move : Move Run Hole) → IsAmong move (moves stage.scene world locks run) → LeavesNoMore stage (effects_of stage run) move }
 {}
 
+/// A full expression that begins has no effect on a closed object for which no name stands in its frame.
+pub fn unnamed_objects()
+    ensures { (stage : Stage) (n : ℕ) → IsAmong n stage.closed → ((d : ℕ) → object_named stage.scene.objects d ≡ Some n → ⊥)
+        → (tree : Tree) → IsFree stage.closed (effects_of stage (begun tree)) n }
+{}
+
 /// Where all trees of a program name what a declaration declares only where it is read or written, each step leaves an object of that declaration
 /// as closed as it was: no pointer to it is in memory, nor among results, arguments and values handed back, in any frame.
 pub fn closed_states()
     ensures { (n d : ℕ) (program : Program) → ProgramNamesOnly d program → (state other : State) → IsClosedState n d state → Step program state other
         → IsClosedState n d other }
+{}
+
+/// At the beginning of a run no pointer leads to an object that is neither of static storage duration nor argv's.
+pub fn closed_beginnings()
+    ensures { (n d : ℕ) (program : Program) → ProgramNamesOnly d program → (names : ℕ → ℕ) (main : Definition) → IsAmong main program.functions
+        → (input : List ℕ) → ((e : ℕ) → object_named (start names program main input).statics e ≡ Some n → ⊥)
+        → OnlyNames n d (start names program main input).statics → (names (length program.statics) ≡ n → ⊥)
+        → OnlyNames n d (start names program main input).frame.objects → IsUnreached n d (start names program main input) }
 {}
 
 /// What of a world stays so while functions that a frame has called run: changes come one after the other, and objects that are made meanwhile, and

@@ -113,7 +113,7 @@ cons-cond : (b : Bool) (n : ℕ) (xs ys : List ℕ) → n ∷ cond b xs ys ≡ c
 cons-cond true n xs ys = refl
 cons-cond false n xs ys = refl
 
-positions-push : {A : Type 0} (test : A → Bool) (n : ℕ) (xs : List A) (x : A) → positions test n (xs ++ x ∷ []) ≡ cond (test x) (positions test n xs ++ (n + length xs) ∷ []) (positions test n xs)
+pub positions-push : {A : Type 0} (test : A → Bool) (n : ℕ) (xs : List A) (x : A) → positions test n (xs ++ x ∷ []) ≡ cond (test x) (positions test n xs ++ (n + length xs) ∷ []) (positions test n xs)
 positions-push test n [] x = ap (λ m. cond (test x) (m ∷ []) []) (sym (add-zero n))
 positions-push test n (y ∷ xs) x =
     let more : positions test (suc n) (xs ++ x ∷ []) ≡ cond (test x) (positions test (suc n) xs ++ (n + suc (length xs)) ∷ []) (positions test (suc n) xs) =

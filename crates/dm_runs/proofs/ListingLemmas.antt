@@ -1,4 +1,4 @@
--- Lists of runs by directives.
+-- Lists by directives.
 use Rattle.std.proofs.Common.{◌≡◌, ℕ, zero, suc, ◌+◌, ◌<◌, ◌≤◌, Bool, true, false, not, cond, ◌&&◌, List, [], ◌∷◌, ◌++◌, length, Option, Some, None, slice_get, get_or, set, refl, sym, ap, ◌∙◌, subst, arith, add-zero, length-append}
 use Rattle.std.specs.Prelude.{find}
 use Rattle.std.specs.Bool.{◌==◌}
@@ -8,8 +8,7 @@ use Rattle.std.proofs.lemmas.List.{append-nil, get_or_append_left, get_or_past, 
 use Rattle.std.proofs.lemmas.List.Folds.{find_at, position_or_len_push}
 use Rattle.std.proofs.lemmas.List.Sums.{prefix_len-le-length}
 use Rattle.std.proofs.lemmas.Option.{slice_get-get_or}
-use Rattle.dm_runs.specs.declared.run.Run.{Run}
-use Rattle.dm_runs.specs.declared.runs.Directive.{Directive}
+use Rattle.dm_runs.specs.declared.by_directive.Directive.{Directive}
 use Rattle.dm_runs.specs.Listings.{same, listed}
 use Rattle.dm_runs.proofs.ItemLemmas.{some-same}
 
@@ -41,14 +40,14 @@ position-low test xs = prefix_len-le-length (λ x. not (test x)) xs
 apart : (a b : ℕ) → (a == b) ≡ false → (a ≡ b → ⊥)
 apart a b e same_number = false≢true (sym e ∙ eq-eqb a b same_number)
 
-behind-all : (lists : List (List Run)) (i : ℕ) → length lists ≤ i → get_or (lists ++ [] ∷ []) i [] ≡ []
+behind-all : {A : Type 0} (lists : List (List A)) (i : ℕ) → length lists ≤ i → get_or (lists ++ [] ∷ []) i [] ≡ []
 behind-all [] zero le = refl
 behind-all [] (suc i) le = get_or_past ([] ∷ []) (suc i) [] (omega arith)
 behind-all (x ∷ lists) zero le = absurd (omega (arith, le))
 behind-all (x ∷ lists) (suc i) le = behind-all lists i (omega (arith, le))
 
 -- an empty list for one more directive
-pub listed-push : (directives : List Directive) (lists : List (List Run)) (one q : Directive) → length lists ≡ length directives
+pub listed-push : {A : Type 0} (directives : List Directive) (lists : List (List A)) (one q : Directive) → length lists ≡ length directives
     → get_or (lists ++ [] ∷ []) (position_or_len (same q) (directives ++ one ∷ [])) [] ≡ get_or lists (position_or_len (same q) directives) []
 listed-push directives lists one q even =
     let place = position_or_len (same q) directives in
@@ -71,30 +70,30 @@ position-kept directives one =
       | false ↦ λ e. refl
     ] refl
 
--- the same runs, and a place for a directive
-pub record Placed (directives more : List Directive) (lists longer : List (List Run)) (one : Directive) : Type 0 where
+-- the same items, and a place for a directive
+pub record Placed {A : Type 0} (directives more : List Directive) (lists longer : List (List A)) (one : Directive) : Type 0 where
   pub even : length longer ≡ length more
   pub kept : (q : Directive) → get_or longer (position_or_len (same q) more) [] ≡ get_or lists (position_or_len (same q) directives) []
   pub first : position_or_len (same one) more ≡ position_or_len (same one) directives
 
-pub placed-new : (directives more : List Directive) (lists longer : List (List Run)) (one : Directive) → length lists ≡ length directives
+pub placed-new : {A : Type 0} (directives more : List Directive) (lists longer : List (List A)) (one : Directive) → length lists ≡ length directives
     → list_any (same one) directives ≡ false → more ≡ cond (list_any (same one) directives) directives (directives ++ one ∷ []) → longer ≡ lists ++ [] ∷ [] → Placed directives more lists longer one
 placed-new directives more lists longer one even absent is pushed =
     let ending : more ≡ directives ++ one ∷ [] = is ∙ cond-false (list_any (same one) directives) directives (directives ++ one ∷ []) absent in
     record {
       even = ap length pushed ∙ length-append lists ([] ∷ []) ∙ ap (λ n. n + 1) even ∙ sym (ap length ending ∙ length-append directives (one ∷ []));
       kept = λ q. ap (λ (ds : List Directive). get_or longer (position_or_len (same q) ds) []) ending
-          ∙ ap (λ (ls : List (List Run)). get_or ls (position_or_len (same q) (directives ++ one ∷ [])) []) pushed ∙ listed-push directives lists one q even;
+          ∙ ap (λ ls. get_or ls (position_or_len (same q) (directives ++ one ∷ [])) []) pushed ∙ listed-push directives lists one q even;
       first = ap (position_or_len (same one)) ending ∙ position-kept directives one;
     }
 
-pub placed-old : (directives more : List Directive) (lists longer : List (List Run)) (one : Directive) → length lists ≡ length directives
+pub placed-old : {A : Type 0} (directives more : List Directive) (lists longer : List (List A)) (one : Directive) → length lists ≡ length directives
     → list_any (same one) directives ≡ true → more ≡ cond (list_any (same one) directives) directives (directives ++ one ∷ []) → longer ≡ lists → Placed directives more lists longer one
 placed-old directives more lists longer one even present is equal =
     let ending : more ≡ directives = is ∙ cond-true (list_any (same one) directives) directives (directives ++ one ∷ []) present in
     record {
       even = ap length equal ∙ even ∙ sym (ap length ending);
-      kept = λ q. ap (λ (ds : List Directive). get_or longer (position_or_len (same q) ds) []) ending ∙ ap (λ (ls : List (List Run)). get_or ls (position_or_len (same q) directives) []) equal;
+      kept = λ q. ap (λ (ds : List Directive). get_or longer (position_or_len (same q) ds) []) ending ∙ ap (λ ls. get_or ls (position_or_len (same q) directives) []) equal;
       first = ap (position_or_len (same one)) ending;
     }
 
@@ -108,18 +107,18 @@ elsewhere directives one q differ inside here =
     let second : q ≡ x = same-directive q x (at-position (same q) directives x (ap (slice_get directives) here ∙ at)) in
     false≢true (sym differ ∙ ap (same q) (first ∙ sym second) ∙ directive-itself q)
 
--- one more run
-pub listed-set : (directives : List Directive) (lists : List (List Run)) (one q : Directive) (run : Run) → length lists ≡ length directives → position_or_len (same one) directives < length directives
-    → get_or (set lists (position_or_len (same one) directives) (get_or lists (position_or_len (same one) directives) [] ++ run ∷ [])) (position_or_len (same q) directives) []
-    ≡ get_or lists (position_or_len (same q) directives) [] ++ cond (same q one) (run ∷ []) []
-listed-set directives lists one q run even inside =
+-- one more item
+pub listed-set : {A : Type 0} (directives : List Directive) (lists : List (List A)) (one q : Directive) (item : A) → length lists ≡ length directives → position_or_len (same one) directives < length directives
+    → get_or (set lists (position_or_len (same one) directives) (get_or lists (position_or_len (same one) directives) [] ++ item ∷ [])) (position_or_len (same q) directives) []
+    ≡ get_or lists (position_or_len (same q) directives) [] ++ cond (same q one) (item ∷ []) []
+listed-set directives lists one q item even inside =
     let c = position_or_len (same one) directives in
     let place = position_or_len (same q) directives in
-    let v = get_or lists c [] ++ run ∷ [] in
-    elim (same q one) as (λ b. same q one ≡ b → get_or (set lists c v) place [] ≡ get_or lists place [] ++ cond b (run ∷ []) []) [
+    let v = get_or lists c [] ++ item ∷ [] in
+    elim (same q one) as (λ b. same q one ≡ b → get_or (set lists c v) place [] ≡ get_or lists place [] ++ cond b (item ∷ []) []) [
       | true ↦ λ e.
           let here : place ≡ c = ap (λ d. position_or_len (same d) directives) (same-directive q one e) in
-          ap (λ i. get_or (set lists c v) i []) here ∙ get_or-set_same lists c v [] (omega (arith, even, inside)) ∙ ap (λ i. get_or lists i [] ++ run ∷ []) (sym here)
+          ap (λ i. get_or (set lists c v) i []) here ∙ get_or-set_same lists c v [] (omega (arith, even, inside)) ∙ ap (λ i. get_or lists i [] ++ item ∷ []) (sym here)
       | false ↦ λ e.
           get_or-set_other lists c place v [] (λ here. elsewhere directives one q e inside here) ∙ sym (append-nil (get_or lists place []))
     ] refl

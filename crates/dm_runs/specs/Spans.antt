@@ -1,6 +1,7 @@
 -- The tokens of phase 7 that came a way, and the span of consecutive tokens.
 --     tokens_under prefix tokens      the positions of the tokens whose trails begin so
 --     span_of where_else positions      their span, or an empty one
+--     begun_before tokens n      how many tokens of phase 7 begin among the first n of phase 4
 --     part_among tokens n      the token of phase 7 that the n-th token of phase 4 is part of
 use Rattle.std.specs.Prelude.{ℕ, suc, ◌+◌, ◌-◌, Bool, true, false, ◌&&◌, ◌==◌, List, [], ◌∷◌, length, take, if◌then◌else◌}
 use Rattle.dm_token.specs.declared.place.Span.{Span}
@@ -47,6 +48,9 @@ begun_among behind [] = 0
 begun_among behind (token ∷ tokens) =
     (if behind && is_literal token.pp.kind then 0 else 1) + begun_among (is_literal token.pp.kind) tokens
 
+abbrev pub begun_before : List Token → ℕ → ℕ
+begun_before tokens n = begun_among false (take n tokens)
+
 -- the last that begins up to it
 abbrev pub part_among : List Token → ℕ → ℕ
-part_among tokens n = begun_among false (take (suc n) tokens) - 1
+part_among tokens n = begun_before tokens (suc n) - 1

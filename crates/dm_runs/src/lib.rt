@@ -2,6 +2,7 @@
 #![tactic(auto)]
 
 mod beginnings;
+mod by_directive;
 mod extents;
 mod named;
 mod parts;
@@ -10,5 +11,7 @@ mod runs;
 mod shape;
 mod stand;
 
+pub use by_directive::{ByDirective, is_at, is_file};
+pub use parts::begun_before;
 pub use run::{Occurrence, Run};
 pub use runs::Runs;

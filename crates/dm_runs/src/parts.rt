@@ -1,9 +1,11 @@
 //! The tokens of phase 7 that preprocessing tokens are parts of.
 
 ghost use Rattle.std.specs.Prelude.{◌≡◌, ◌<◌, ◌+◌, ◌^◌, ◌&&◌, cond, [], ◌∷◌, map, length, IfOk, OnOk};
+ghost use Rattle.std.specs.List.{range_with_len};
 ghost use Rattle.dm_token.specs.declared.token.Token.{Token as Seen};
 ghost use Rattle.dm_runs.specs.Beginnings.{met};
 ghost use Rattle.dm_runs.specs.Runs.{first_part};
+ghost use Rattle.dm_runs.specs.Spans as spans;
 ghost use Rattle.dm_runs.specs.Spans.{is_literal as stands_for_literal};
 ghost use Rattle.dm_runs.specs.Trees.{AreLinked};
 
@@ -54,4 +56,25 @@ pub(crate) fn first_parts(
         parts.resize(beginnings.trails.len(), begun - 1)?;
     }
     Ok(parts)
+}
+
+/// How many tokens of phase 7 begin among the first tokens of a unit, by their number from none to all. More than
+/// 4,294,967,294 tokens count as want of memory.
+pub fn begun_before(alloc: Global, tokens: &[Token]) -> Result<Vec<u32>, Memory>
+    ensures { IfOk result (λ counts. counts.items ≡ map (spans.begun_before tokens.now) (range_with_len 0 (length tokens.now + 1))) }
+{
+    if tokens.len() >= u32::MAX as usize {
+        return Err(Memory);
+    }
+    let mut counts = Vec::new(alloc);
+    counts.push(0)?;
+    let mut begun = 0;
+    let mut is_behind_literal = false;
+    for token in tokens {
+        let is_literal = is_literal(token.pp.kind);
+        begun = with_one_more(begun, is_behind_literal, is_literal);
+        is_behind_literal = is_literal;
+        counts.push(begun)?;
+    }
+    Ok(counts)
 }

@@ -80,10 +80,10 @@ statement-lead declared label parts = wholes-lead false false parts
 
 -- ---- the trees of places are a front of the parts
 
-abbrev IsFront : List Tree → List Tree → Type 0
+abbrev pub IsFront : List Tree → List Tree → Type 0
 IsFront front all = (rest : List Tree) × (front ++ rest ≡ all)
 
-with-front : (declarators : List Declarator) (trees : List Tree) → IsFront (flat_map (λ (one : Local). one.expressions) (with_expressions declarators trees)) trees
+pub with-front : (declarators : List Declarator) (trees : List Tree) → IsFront (flat_map (λ (one : Local). one.expressions) (with_expressions declarators trees)) trees
 with-front [] trees = (trees, refl)
 with-front (one ∷ declarators) trees =
     let n = expressions_of one.initialiser in
@@ -93,7 +93,7 @@ with-front (one ∷ declarators) trees =
           ∙ (ap (λ (them : List Tree). take n trees ++ them) behind.1 ∙ take-append-drop n trees),
     )
 
-all-front : (front all : List Tree) → front ≡ all → IsFront front all
+pub all-front : (front all : List Tree) → front ≡ all → IsFront front all
 all-front front all is = ([], append-nil front ∙ is)
 
 statement-front : (declared : List Declaration) (label : Label) (parts : List Tree) → IsFront (map tree_of (statement_parts declared label parts)) parts
@@ -119,7 +119,7 @@ module _ (declared : List Declaration) where
   parts-by site label spans parts true leads there = statement-lead declared label (listed parts)
   parts-by site label spans parts false leads there = operands-lead site label spans 0 parts leads there
 
-  front-by : (site : Site) (label : Label) (spans : Spans) (parts : Trees) (b : Bool)
+  pub front-by : (site : Site) (label : Label) (spans : Spans) (parts : Trees) (b : Bool)
       → IsFront (map tree_of (cond b (statement_parts declared label (listed parts)) (operand_sites site label spans 0 (listed parts)))) (listed parts)
   front-by site label spans parts true = statement-front declared label (listed parts)
   front-by site label spans parts false = all-front _ _ (operand-trees site label spans 0 (listed parts))

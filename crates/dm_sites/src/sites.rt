@@ -61,6 +61,13 @@ impl<'a> Sites<'a> {
         })
     }
 
+    /// The unit.
+    pub fn unit(&self) -> &'a CoreUnit
+        ensures { result.now ≡ self.now }
+    {
+        self.unit
+    }
+
     /// The place with this number.
     pub fn get(&self, number: usize) -> Option<&Site<'a>>
         ensures { (types : Table) → let all = sites_of_unit (view_of_unit types self.now) in option_map (seen types all) (option_copied result) ≡ slice_get all number }

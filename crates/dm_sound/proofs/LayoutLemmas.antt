@@ -1,11 +1,13 @@
 -- Tables that say the same of structs lay all types out alike, and give constant expressions the same values.
-use Rattle.std.specs.Prelude.{◌≡◌, refl, ℕ, List, [], ◌∷◌, map, Option, Some, None, option_map, option_and_then, ℤ, pos, if◌then◌else◌}
+use Rattle.std.specs.Prelude.{◌≡◌, refl, ℕ, zero, suc, List, [], ◌∷◌, map, length, slice_get, Option, Some, None, option_map, option_and_then, ℤ, pos, if◌then◌else◌}
 use Rattle.std.proofs.Common.{ap, sym, ◌∙◌}
 use Rattle.dm_type.specs.declared.layout.Layout.{Layout as Extent}
 use Rattle.dm_type.specs.declared.shape.Content.{Content}
 use Rattle.dm_type.specs.declared.shape.Member.{Member}
+use Rattle.dm_type.specs.declared.shape.Struct.{Struct}
 use Rattle.dm_type.specs.CTypes.{CType, void, integer, pointer, array, struct, function, const}
 use Rattle.dm_type.specs.Layouts.{layout_of, size_of, times, placed, offsets_from, offsets_of}
+use Rattle.dm_type.specs.Structs.{shown_member, shown_content, shown_struct, AreSameStructs}
 use Rattle.dm_type.specs.Tables.{Table, type_of, content_of, members_of}
 use Rattle.dm_tree.specs.Constants.{value_at, kinds_in, constant_value, constant_values, is_constant_form}
 use Rattle.dm_tree.specs.Trees.{Label, Tree, Trees, node, no_trees, more_trees}
@@ -13,7 +15,24 @@ use Rattle.dm_tree.specs.Trees as label
 use Rattle.dm_tree.specs.Units.{Declaration}
 use Rattle.dm_meaning.specs.Objects.{Field}
 use Rattle.dm_meaning.specs.Programs.{Program, layout, fields_in, fields_with, or_zero, constant_of}
-use Rattle.dm_sound.specs.SameTables.{shown_content, AreSameStructs, over}
+use Rattle.dm_sound.specs.SameTables.{over}
+
+-- ---- structs by number
+
+-- what is shown of a struct
+abbrev Shown : Type 0
+Shown = Option (List ℕ) × Option (List (List ℕ × CType) × Option Extent)
+
+shown_in : (table : Table) (entries : List Struct) (number : ℕ)
+    → option_map (shown_content table) (option_and_then (λ (entry : Struct). entry.content) (slice_get entries number))
+    ≡ option_and_then (λ (shown : Shown). shown.1) (slice_get (map (shown_struct table) entries) number)
+shown_in table [] number = refl
+shown_in table (entry ∷ entries) zero = refl
+shown_in table (entry ∷ entries) (suc number) = shown_in table entries number
+
+shown_count : (table : Table) (entries : List Struct) → length (map (shown_struct table) entries) ≡ length entries
+shown_count table [] = refl
+shown_count table (entry ∷ entries) = ap suc (shown_count table entries)
 
 -- ---- sizes
 
@@ -34,9 +53,6 @@ offsets_by lay end (one ∷ others) = placed end (λ behind. offsets_by lay behi
 abbrev fields_by : List (List ℕ × CType) → List ℕ → List Field
 fields_by (one ∷ others) (offset ∷ offsets) = record { kind = one.1; offset = offset } ∷ fields_by others offsets
 fields_by others offsets = []
-
-abbrev shown_member : Table → Member → List ℕ × CType
-shown_member table one = (one.name, type_of table one.kind)
 
 same_offsets : (table : Table) (members : List Member) (end : ℕ) → offsets_from table end members ≡ offsets_by (layout_of table) end (map (shown_member table) members)
 same_offsets table [] end = refl
@@ -59,6 +75,15 @@ fields_of_content table (Some content) =
     ∙ ap (λ (offsets : List ℕ). fields_by (map (shown_member table) content.members) offsets) (same_offsets table content.members 0)
 
 module _ (old new : Table) (same : AreSameStructs old new) where
+  same_count : length new.structs ≡ length old.structs
+  same_count = sym (shown_count new new.structs) ∙ ap (λ (list : List Shown). length list) same ∙ shown_count old old.structs
+
+  same_content : (number : ℕ) → option_map (shown_content new) (content_of new number) ≡ option_map (shown_content old) (content_of old number)
+  same_content number =
+      shown_in new new.structs number
+      ∙ ap (λ (list : List Shown). option_and_then (λ (shown : Shown). shown.1) (slice_get list number)) same
+      ∙ sym (shown_in old old.structs number)
+
   same_layout : (type : CType) → layout_of new type ≡ layout_of old type
   same_layout void = refl
   same_layout (integer kind) = refl
@@ -66,7 +91,7 @@ module _ (old new : Table) (same : AreSameStructs old new) where
   same_layout (array type length) = ap (λ (extent : Option Extent). times length extent) (same_layout type)
   same_layout (struct number) =
       kept_layout new (content_of new number)
-      ∙ ap (λ (shown : Option (List ℕ) × Option (List (List ℕ × CType) × Option Extent)). shown_layout shown.1) (same.same number)
+      ∙ ap (λ (shown : Option (List (List ℕ × CType) × Option Extent)). shown_layout shown) (same_content number)
       ∙ sym (kept_layout old (content_of old number))
   same_layout (function result parameters) = refl
   same_layout (const type) = same_layout type
@@ -77,12 +102,12 @@ module _ (old new : Table) (same : AreSameStructs old new) where
   same_fields : (number : ℕ) → fields_in new (members_of new number) ≡ fields_in old (members_of old number)
   same_fields number =
       fields_of_content new (content_of new number)
-      ∙ (λ i. fields_shown (λ type. same_layout type i) (same.same number i).1)
+      ∙ (λ i. fields_shown (λ type. same_layout type i) (same_content number i))
       ∙ sym (fields_of_content old (content_of old number))
 
   pub laid_out_alike : (program : Program) → layout (over program new) ≡ layout (over program old)
   laid_out_alike program = λ i. record {
-    structs = same.count i;
+    structs = same_count i;
     fields = λ number. same_fields number i;
     size = λ type. or_zero (same_size type i);
   }

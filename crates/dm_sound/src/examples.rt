@@ -3,6 +3,7 @@
 ghost use Rattle.std.specs.Prelude.{◌≡◌, IsTrue, [], ◌∷◌, Some, pos};
 ghost use Rattle.dm_int.specs.declared.Kind.TheVariants.{Char, Int};
 ghost use Rattle.dm_type.specs.CTypes.{integer, void};
+ghost use Rattle.dm_type.specs.Structs.{AreSameStructs};
 ghost use Rattle.dm_type.specs.Tables.{no_type};
 ghost use Rattle.dm_tree.specs.Constants.{integer_kind};
 ghost use Rattle.dm_tree.specs.TypeNumbers.{IsTypedUnit};
@@ -16,7 +17,6 @@ ghost use Rattle.dm_meaning.specs.Units.{Begins, machine_of, program_of};
 ghost use Rattle.dm_meaning.specs.Values.{integer_value};
 ghost use Rattle.dm_meaning.specs.Wholes.{is_expression};
 ghost use Rattle.dm_sound.specs.Examples as examples;
-ghost use Rattle.dm_sound.specs.SameTables.{AreSameStructs};
 ghost use Rattle.dm_sound.specs.TypedRuns.{ArgumentsFit, ComesFrom, HoleComesFrom, IsProperUnit, IsTypedProgram, IsTypedWorld};
 ghost use Rattle.dm_sound.specs.TypedStates.{IsTypedState};
 ghost use Rattle.dm_sound.specs.TypedSteps.{IsTypedScope, AreOperands, is_operated};

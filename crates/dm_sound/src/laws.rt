@@ -1,6 +1,7 @@
 ghost use Rattle.std.specs.Prelude.{◌≡◌, ℕ, IsTrue, List, [], Some};
 ghost use Rattle.dm_int.specs.declared.Kind.{Kind};
 ghost use Rattle.dm_type.specs.CTypes.{CType, array};
+ghost use Rattle.dm_type.specs.Structs.{AreSameStructs};
 ghost use Rattle.dm_type.specs.Tables.{Table};
 ghost use Rattle.dm_tree.specs.Constants.{integer_kind};
 ghost use Rattle.dm_tree.specs.Trees.{Label, Spans, Tree, Trees, node};
@@ -24,7 +25,7 @@ ghost use Rattle.dm_meaning.specs.Units.{Begins, machine_of, program_of};
 ghost use Rattle.dm_meaning.specs.Values.{At, Value, literal_of};
 ghost use Rattle.dm_meaning.specs.Wholes.{is_expression};
 ghost use Rattle.dm_sound.specs.Excuses.{HandsBackValues, IsExcusedMove, IsExcusedStep, results_in};
-ghost use Rattle.dm_sound.specs.SameTables.{AreSameStructs, over};
+ghost use Rattle.dm_sound.specs.SameTables.{over};
 ghost use Rattle.dm_sound.specs.TypedRuns.{ArgumentsFit, ComesFrom, HoleComesFrom, IsProperUnit, IsTypedProgram, IsTypedWorld, MoveFits};
 ghost use Rattle.dm_sound.specs.TypedStates.{IsTypedState};
 ghost use Rattle.dm_sound.specs.TypedSteps.{IsTypedScope, AreOperands, DidFits, is_operated};

@@ -151,15 +151,6 @@ longest_before rows text number next byte most first before this none k until in
       ]
     ]
 
--- the same at the start
-pub longest_first : (rows : List (List ℕ)) (text : List ℕ) (next byte most : ℕ) → get_or text 0 0 ≡ byte → NoneBegins rows byte 0 next →
-    (k : ℕ) → k < next → k < length rows → StandsAt (row_at rows k) text 0 → length (row_at rows k) ≤ most
-longest_first rows text next byte most first none k until inside stands =
-    elim (stands-first (row_at rows k) text stands) [
-      | inl empty ↦ omega arith
-      | inr begins ↦ absurd (none k (omega arith) until inside (begins ∙ first))
-    ]
-
 -- a row that equals a word begins as it does
 pub differs_first : (rows : List (List ℕ)) (word : List ℕ) (next byte : ℕ) → NoneBegins rows byte 0 next → get_or word 0 0 ≡ byte →
     (k : ℕ) → k < next → k < length rows → row_at rows k ≡ word → ⊥

@@ -1,3 +1,4 @@
 pub mod BuiltLemmas
 pub mod MarkLemmas
 pub mod ObjectLemmas
+pub mod StabilityLemmas

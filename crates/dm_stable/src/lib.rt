@@ -18,5 +18,5 @@ pub use laws::typed_units_have_known_entries;
 pub use names::Names;
 pub use objects::Objects;
 pub use safety::{has_safe_form, is_safe, safe};
-pub use stability::{is_stable, stable};
+pub use stability::{is_stable, is_stable_where, stable};
 pub use steady::has_steady_leaves;

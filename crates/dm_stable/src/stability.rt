@@ -4,6 +4,8 @@ ghost use Rattle.std.specs.Prelude.{◌≡◌, length, IfOk, IsTrue};
 ghost use Rattle.std.specs.List.{list_all};
 ghost use Rattle.dm_tree.specs.TypeNumbers.{entry_has_known};
 ghost use Rattle.dm_tree.specs.Views.{view, view_of_unit};
+ghost use Rattle.dm_effect.specs.Quiet.{is_quiet};
+ghost use Rattle.dm_effect.specs.Sequencing.{around};
 ghost use Rattle.dm_effect.specs.Stable as stable;
 
 use crate::kept::Kept;
@@ -55,6 +57,37 @@ pub fn is_stable(
     }
     let kept = Kept {
         unit: quiet.unit(),
+        objects,
+        types,
+        full,
+        at,
+    };
+    has_steady_leaves(argument, &kept)
+}
+
+/// Whether it is, where it is told besides whether what stands at the place and what is unsequenced to it are quiet, as for many
+/// arguments of one place. Takes no memory.
+pub fn is_stable_where(
+    calm: bool,
+    objects: &Objects,
+    types: &Types,
+    full: &Core,
+    at: &Path,
+    argument: &Core,
+) -> bool
+    requires entries { IsTrue (list_all (entry_has_known (length types.now.shapes)) objects.now.declared) }
+    requires calm { calm ≡ list_all (is_quiet (view_of_unit types.now objects.now)) (around at.now (view types.now full.now)) }
+    ensures { result ≡ stable.is_stable (view_of_unit types.now objects.now) (view types.now full.now) at.now (view types.now argument.now) }
+{
+    let pure = is_pure(argument);
+    if !pure {
+        return false;
+    }
+    if calm {
+        return true;
+    }
+    let kept = Kept {
+        unit: objects.unit(),
         objects,
         types,
         full,

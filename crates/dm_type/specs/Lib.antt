@@ -7,6 +7,7 @@ pub mod Layouts
 pub mod Naming
 pub mod Sound
 pub mod Spelling
+pub mod Structs
 pub mod TableLaws
 pub mod Tables
 pub mod Wraps

@@ -13,9 +13,9 @@ const GREATEST_SIZE: u64 = MOST_TYPE_BYTES as u64;
 /// The size and the alignment of a pointer.
 const POINTER_SIZE: u64 = 8;
 
-/// Where an object of a type may stand, and how much it takes.
+/// Where an object of a type may stand, and how much it takes (6.2.8).
 #[derive(Clone, Copy, Debug, PartialEq, Eq)]
-pub(crate) struct Layout {
+pub struct Layout {
     /// In bytes.
     pub size: u64,
     /// Its address is a multiple of this number.

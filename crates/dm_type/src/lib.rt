@@ -12,6 +12,7 @@ mod sizes;
 mod spell;
 mod types;
 
+pub use layout::Layout;
 pub use members::Members;
 pub use shape::{Member, Shape, TypeId};
 pub use types::Types;

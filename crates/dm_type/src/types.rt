@@ -9,6 +9,7 @@ ghost use Rattle.dm_type.specs.CTypes.{with_const};
 ghost use Rattle.dm_type.specs.Naming.{member_named};
 ghost use Rattle.dm_type.specs.Wraps.{arrayed, IsNoArray};
 
+use crate::layout::Layout;
 use crate::members::Members;
 use crate::shape::{Content, Member, Shape, Struct, TypeId};
 use dm_token::{Memory, Text};
@@ -274,6 +275,14 @@ impl Types {
     {
         let content = self.content(number)?;
         content.members.find(name)
+    }
+
+    /// What an object of a struct takes, in bytes, if its members are set and it isn't larger than a type may be.
+    pub fn layout_of_struct(&self, number: u32) -> Option<Layout>
+        requires { number < length self.now.structs }
+        ensures { result ≡ option_and_then (λ content. content.layout) (tables.content_of self.now number) }
+    {
+        self.content(number)?.layout
     }
 
     /// What stands between the braces of a struct, if that is known.

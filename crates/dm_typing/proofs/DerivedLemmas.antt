@@ -199,7 +199,7 @@ without-void-fits known all h = go (is_no_parameters all)
 
 -- a scope within is no more knowledge
 sound-entered : (known : Known) (scopes : Scopes) → IsSoundKnown known → IsSoundKnown (record known { scopes = scopes })
-sound-entered known scopes sound = record { entries = sound.entries; complete = sound.complete; layered = sound.layered; begun = sound.begun; constants = sound.constants }
+sound-entered known scopes sound = record { entries = sound.entries; complete = sound.complete; layered = sound.layered; sizes = sound.sizes; begun = sound.begun; constants = sound.constants }
 
 pub entered-sound : (known : Known) → IsSoundKnown known → IsSoundKnown (entered known)
 entered-sound known sound = sound-entered known (entered known).scopes sound
@@ -222,7 +222,7 @@ name-gives known (given behind kind) sound h =
     let more : KnowsMore known behind = record { shapes = h.0.shapes; types = h.0.types; contents = h.0.contents; structs = h.0.structs; declared = h.0.declared } in
     let all = constants-sound-stay known behind more sound.complete known.constants sound.constants in (
       record { shapes = more.shapes; types = more.types; contents = more.contents; structs = more.structs; declared = more.declared },
-      record { entries = h.1.entries; complete = h.1.complete; layered = h.1.layered; begun = h.1.begun; constants = all },
+      record { entries = h.1.entries; complete = h.1.complete; layered = h.1.layered; sizes = h.1.sizes; begun = h.1.begun; constants = all },
       h.2,
       (h.3.0, h.1.constants),
     )

@@ -111,6 +111,7 @@ module _ (known : Known) (sound : IsSoundKnown known) (name : List ℕ) (entry :
         ⊎_elim (λ old. sound.entries at one old) (λ new. subst (λ (it : Declaration). IsEntry it × IsType known it.kind) new (is, type)) (pushed-get known.declared entry at one h);
     complete = sound.complete;
     layered = sound.layered;
+    sizes = sound.sizes;
     begun = sound.begun;
     constants = constants-sound-stay known (declaring known name entry) knows-entry sound.complete known.constants sound.constants;
   }
@@ -163,6 +164,7 @@ module _ (known : Known) (sound : IsSoundKnown known) (tree : Tree) where
     entries = sound.entries;
     complete = sound.complete;
     layered = sound.layered;
+    sizes = sound.sizes;
     begun = sound.begun;
     constants = (
       All-push (IsConstant (scene_of known)) known.constants tree sound.constants.0 (value.0, is),

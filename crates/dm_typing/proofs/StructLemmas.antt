@@ -1,13 +1,14 @@
 -- What is known stays sound where a struct is declared or gets its members.
-use Rattle.std.specs.Prelude.{◌≡◌, ℕ, zero, suc, ◌+◌, ◌<◌, ◌≤◌, ◌⊎◌, Bool, true, false, if◌then◌else◌, List, [], ◌∷◌, ◌++◌, length, Option, Some, None, is_some, IsSome, option_and_then, option_map, slice_get, slice_set, refl}
+use Rattle.std.specs.Prelude.{◌≡◌, ℕ, zero, suc, ◌+◌, ◌<◌, ◌≤◌, ◌⊎◌, Bool, true, false, if◌then◌else◌, List, [], ◌∷◌, ◌++◌, length, Option, Some, None, is_some, IsSome, option_and_then, option_map, nat_le, slice_get, slice_set, refl}
 use Rattle.std.proofs.Common.{sym, ap, ◌∙◌, subst, arith, inl, inr, ⊎_elim, length-append}
 use Rattle.std.proofs.lemmas.List.{length-set}
 use Rattle.std.proofs.lemmas.Option.{none-some}
+use Rattle.dm_token.specs.Limits.{most_type_bytes}
 use Rattle.dm_type.specs.declared.layout.Layout.{Layout}
 use Rattle.dm_type.specs.declared.shape.Content.{Content}
 use Rattle.dm_type.specs.declared.shape.Member.{Member}
 use Rattle.dm_type.specs.declared.shape.Struct.{Struct as StructEntry}
-use Rattle.dm_type.specs.CTypes.{CType, array, struct}
+use Rattle.dm_type.specs.CTypes.{CType, array, struct, const, bare}
 use Rattle.dm_type.specs.Layouts.{layout_of, size_of, if_fits, padded, nothing, joined, followed_by, struct_layout, contained}
 use Rattle.dm_type.specs.Tables.{Table, type_of, tag_of, content_of, members_of, with_struct, with_content}
 use Rattle.dm_type.specs.TableLaws.{injected}
@@ -91,9 +92,10 @@ content-of-members table at members e = go (content_of table at) refl e
     go (Some content) f h = (content, f, injected content.members members h)
     go None f h = absurd (none-some members h)
 
--- the elements of what is complete are complete
-complete-element : (table : Table) (type : CType) → IsSome (size_of table type) → IsSome (size_of table (element type))
+-- the elements of what is complete are complete, without const too
+complete-element : (table : Table) (type : CType) → IsSome (size_of table type) → IsSome (size_of table (bare (element type)))
 complete-element table (array type n) h = complete-element table type (element-complete table n type h)
+complete-element table (const type) h = h
 complete-element table type h = h
 
 complete-content : (table : Table) (number : ℕ) → IsSome (size_of table (struct number)) → (content : Content) × (content_of table number ≡ Some content)
@@ -131,6 +133,24 @@ laid-out : (table : Table) (members : List Member) → is_some (struct_layout ta
     → (n : ℕ) (one : Member) → slice_get members n ≡ Some one → IsSome (size_of table (type_of table one.kind))
 laid-out table members h = joined-complete table nothing members (then-some (λ layout. if_fits (padded layout)) (joined table nothing members) h)
 
+-- no larger than a type may be
+fitting : (layout one : Layout) → if_fits layout ≡ Some one → one.size ≤ most_type_bytes
+fitting layout one h = go (nat_le layout.size most_type_bytes) refl h
+  where
+    below : (m n : ℕ) → nat_le m n ≡ true → m ≤ n
+    below m n e = grind arith
+
+    go : (fits : Bool) → nat_le layout.size most_type_bytes ≡ fits → (if fits then Some layout else None) ≡ Some one → one.size ≤ most_type_bytes
+    go true e h = subst (λ (it : Layout). it.size ≤ most_type_bytes) (injected layout one h) (below layout.size most_type_bytes e)
+    go false e h = absurd (none-some one h)
+
+struct-fitting : (table : Table) (members : List Member) (one : Layout) → struct_layout table members ≡ Some one → one.size ≤ most_type_bytes
+struct-fitting table members one h = go (joined table nothing members) h
+  where
+    go : (found : Option Layout) → option_and_then (λ layout. if_fits (padded layout)) found ≡ Some one → one.size ≤ most_type_bytes
+    go (Some layout) h = fitting (padded layout) one h
+    go None h = absurd (none-some one h)
+
 -- ---- a new struct
 
 module _ (known : Known) (sound : IsSoundKnown known) (tag : Option (List ℕ)) where
@@ -162,6 +182,7 @@ module _ (known : Known) (sound : IsSoundKnown known) (tag : Option (List ℕ)) 
       (λ at members n one inner others e s is f. sound.layered.1 at members n one inner others (members-new at members e) s is (members-new inner others f)),
       (λ at members e. let below = sound.layered.2 at members (members-new at members e) in let same = count-pushed known.types.structs tag in omega (arith, below, same)),
     );
+    sizes = λ at content one e. sound.sizes at content one (sym (pushed known.types.structs tag at) ∙ e);
     begun = λ at h. let it = sound.begun at h in let below = it.0 in (omega (arith, longer, below), pushed known.types.structs tag at ∙ it.1);
     constants = constants-sound-stay known with-new knows-new sound.complete known.constants sound.constants;
   }
@@ -226,7 +247,7 @@ module _ (known : Known) (sound : IsSoundKnown known) (number : ℕ) (below : nu
       old-members at content h ∙ (sym (ap (option_map (λ (it : Content). it.members)) (knows-members.contents at content h)) ∙ e)
 
   inner-below : (at : ℕ) (members : List Member) (n : ℕ) (one : Member) (inner : ℕ) (others : List Member) → members_of with-members.types at ≡ Some members
-      → slice_get members n ≡ Some one → element (type_of known.types one.kind) ≡ struct inner → members_of with-members.types inner ≡ Some others → layer inner < layer at
+      → slice_get members n ≡ Some one → bare (element (type_of known.types one.kind)) ≡ struct inner → members_of with-members.types inner ≡ Some others → layer inner < layer at
   unfolding layer_by
   inner-below at members n one inner others e s is f =
       let complete = complete-element known.types (type_of known.types one.kind) (were-complete at members e n one s) in
@@ -258,6 +279,10 @@ module _ (known : Known) (sound : IsSoundKnown known) (number : ℕ) (below : nu
         complete = λ at members e n one s.
             complete-stays known (scene_of with-members) (known-later known with-members knows-members) sound.complete (type_of known.types one.kind) (were-complete at members e n one s);
         layered = (layer, inner-below, (λ at members e. all-below at));
+        sizes = λ at content one e l.
+            ⊎_elim (λ old. sound.sizes at content one old l)
+            (λ new. struct-fitting known.types all one (ap (λ (it : Content). it.layout) (injected (contained known.types all) content new) ∙ l))
+            (set-content known.types.structs number entry at content e);
         begun = λ at h. let it = others at h in let low = it.1 in (omega (arith, same, low), set-other known.types.structs number entry at it.0 ∙ it.2);
         constants = constants-sound-stay known with-members knows-members sound.complete known.constants sound.constants;
       }

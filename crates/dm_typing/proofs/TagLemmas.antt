@@ -176,6 +176,7 @@ beginning-sound known behind (Some at) starts =
       entries = sound.entries;
       complete = sound.complete;
       layered = sound.layered;
+      sizes = sound.sizes;
       begun = λ other h.
           ⊎_elim (λ same. let e = sym (same-numbers other at same) in subst (λ n. (n < length behind.types.structs) × (content_of behind.types n ≡ None)) e (starts.below at refl, starts.empty at refl))
           (λ old. sound.begun other old) (one-of (other == at) (is_among other behind.begun) h);

@@ -51,6 +51,7 @@ sound-start shapes scopes = record {
   entries = λ at entry h. absurd (cc);
   complete = λ at members e. absurd (cc);
   layered = ((λ at. 0), (λ at members n one inner others e. absurd (cc)), (λ at members e. absurd (cc)));
+  sizes = λ at content one e. absurd (cc);
   begun = λ at h. absurd (cc);
   constants = (All-nil (IsConstant (scene_of (at-start shapes scopes))), tt);
 }
@@ -222,7 +223,7 @@ abbrev bared : Known → Known
 bared known = record known { constants = [] }
 
 bared-sound : (known : Known) → IsSoundKnown known → IsSoundKnown (bared known)
-bared-sound known sound = record { entries = sound.entries; complete = sound.complete; layered = sound.layered; begun = sound.begun; constants = (All-nil (IsConstant (scene_of known)), tt) }
+bared-sound known sound = record { entries = sound.entries; complete = sound.complete; layered = sound.layered; sizes = sound.sizes; begun = sound.begun; constants = (All-nil (IsConstant (scene_of known)), tt) }
 
 -- ---- the syntax
 

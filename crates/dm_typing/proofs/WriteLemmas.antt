@@ -70,7 +70,7 @@ any-at test table (member ∷ members) (suc n) one s h =
 
 -- const at no depth below that of the structs is found
 const-within : (table : Table) (layers : AreLayered table) {type : CType} → HasConst table type → (depth : ℕ)
-    → ((at : ℕ) (members : List Member) → element type ≡ struct at → members_of table at ≡ Some members → layers.0 at < depth)
+    → ((at : ℕ) (members : List Member) → bare (element type) ≡ struct at → members_of table at ≡ Some members → layers.0 at < depth)
     → has_const_within depth table type ≡ true
 unfolding has_const_within
 const-within table layers (itself type h) zero below = const-element type h

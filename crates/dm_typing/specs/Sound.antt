@@ -6,7 +6,9 @@
 --     KnowsMore old new      all that was known still is
 --     BreaksWithin first behind outcome      a rule that is broken is so at one of these tokens
 use Rattle.std.specs.Prelude.{◌≡◌, ℕ, true, ◌||◌, not, IsTrue, List, [], ◌∷◌, All, length, ◌<◌, ◌≤◌, Some, None, is_some, IsSome, slice_get, suc, if◌then◌else◌}
+use Rattle.dm_token.specs.Limits.{most_type_bytes}
 use Rattle.dm_token.specs.declared.token.CToken.{CToken}
+use Rattle.dm_type.specs.declared.layout.Layout.{Layout}
 use Rattle.dm_type.specs.declared.shape.Content.{Content}
 use Rattle.dm_type.specs.declared.shape.Member.{Member}
 use Rattle.dm_type.specs.declared.shape.Struct.{Struct as StructEntry}
@@ -50,12 +52,16 @@ abbrev pub AreLayeredWithin : ℕ → Table → Type 0
 AreLayeredWithin many table =
     (layer : ℕ → ℕ)
     × ((at : ℕ) (members : List Member) (n : ℕ) (one : Member) (inner : ℕ) (others : List Member) → members_of table at ≡ Some members
-    → slice_get members n ≡ Some one → element (type_of table one.kind) ≡ struct inner → members_of table inner ≡ Some others → layer inner < layer at)
+    → slice_get members n ≡ Some one → bare (element (type_of table one.kind)) ≡ struct inner → members_of table inner ≡ Some others → layer inner < layer at)
     × ((at : ℕ) (members : List Member) → members_of table at ≡ Some members → layer at < many)
 
 -- in as many as there are structs
 abbrev pub AreLayered : Table → Type 0
 AreLayered table = AreLayeredWithin (length table.structs) table
+
+-- no struct is larger than a type may be
+abbrev pub HaveSizes : Table → Type 0
+HaveSizes table = (at : ℕ) (content : Content) (one : Layout) → content_of table at ≡ Some content → content.layout ≡ Some one → one.size ≤ most_type_bytes
 
 -- ---- declarations and tokens
 
@@ -132,12 +138,13 @@ abbrev pub how_many_complete : List StructEntry → ℕ
 how_many_complete [] = 0
 how_many_complete (entry ∷ structs) = if is_some entry.content then suc (how_many_complete structs) else how_many_complete structs
 
--- What is known is sound: entries are those of a unit and have such types, structs have complete members and are layered, those whose
--- members are being read have none yet, and lengths and enumerator values are constants.
+-- What is known is sound: entries are those of a unit and have such types, structs have complete members, are layered, and are no larger
+-- than types may be, those whose members are being read have none yet, and lengths and enumerator values are constants.
 pub record IsSoundKnown (known : Known) : Type 0 where
   pub entries : (at : ℕ) (entry : Declaration) → slice_get known.declared at ≡ Some entry → IsEntry entry × IsType known entry.kind
   pub complete : AreComplete known.types
   pub layered : AreLayeredWithin (how_many_complete known.types.structs) known.types
+  pub sizes : HaveSizes known.types
   pub begun : (at : ℕ) → is_among at known.begun ≡ true → (at < length known.types.structs) × (content_of known.types at ≡ None)
   pub constants : AreConstants known known.constants
 

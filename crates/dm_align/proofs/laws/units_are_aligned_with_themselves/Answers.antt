@@ -7,7 +7,7 @@ use Rattle.dm_align.proofs.laws.units_are_aligned_with_themselves.Goals as goal
 pub returns : goal.returns
 returns c types one =
     record {
-      structs = record { count = refl; same = λ number. refl };
+      structs = refl;
       added = tt;
       declared = refl;
       externals = externals-self (constant types one.declared) one.externals;

@@ -1,12 +1,9 @@
 -- The answer is yes beside the next part, or round the rest of the way.
-use Rattle.std.proofs.Common.{◌≡◌, Bool, true, false, ◌||◌, List, [], ◌∷◌, length, ap, refl, sym, ◌∙◌, rules, arith}
+use Rattle.std.proofs.Common.{◌≡◌, true, false, [], ◌∷◌, length, ap, refl, sym, ◌∙◌, rules, arith}
 use Rattle.std.specs.List.{list_any}
-use Rattle.dm_type.specs.Tables.{Table}
 use Rattle.dm_tree.specs.Paths.{Path}
-use Rattle.dm_tree.specs.Trees.{Tree}
 use Rattle.dm_tree.specs.Views.{view}
-use Rattle.dm_effect.specs.declared.around.Doubt.{Doubt}
-use Rattle.dm_effect.specs.Doubts.{is_doubted, is_doubted_beside}
+use Rattle.dm_effect.specs.Doubts.{is_doubted}
 use Rattle.dm_effect.specs.Sequencing.{around, others_of}
 use Rattle.dm_effect.proofs.AroundLemmas.{any_at, around-here, around-none, around-below, around-other}
 use Rattle.dm_effect.proofs.WalkLemmas.{second-skips}

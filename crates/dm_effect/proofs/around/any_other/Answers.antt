@@ -1,5 +1,5 @@
 -- The answer is yes for the last operand that is left, or for one before it.
-use Rattle.std.proofs.Common.{◌≡◌, ℕ, Bool, true, false, ◌&&◌, ◌==◌, not, Option, Some, None, ap, sym, ◌∙◌, rules}
+use Rattle.std.proofs.Common.{◌≡◌, ℕ, ◌&&◌, ◌==◌, not, Option, None, ap, sym, ◌∙◌, rules}
 use Rattle.dm_tree.specs.Paths.{tree_in}
 use Rattle.dm_tree.specs.Trees.{trees_of}
 use Rattle.dm_tree.specs.Views.{view}

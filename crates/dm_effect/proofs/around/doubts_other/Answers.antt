@@ -1,8 +1,6 @@
 -- The operand is another one, and is there or not.
-use Rattle.std.proofs.Common.{◌≡◌, Bool, true, false, ◌&&◌, ◌==◌, not, Option, ap, ap₂, sym, ◌∙◌, rules}
-use Rattle.dm_tree.specs.Paths.{tree_in}
-use Rattle.dm_tree.specs.Trees.{Tree, trees_of}
-use Rattle.dm_tree.specs.Views.{view}
+use Rattle.std.proofs.Common.{◌≡◌, Bool, false, ◌&&◌, ◌==◌, not, Option, ap₂, sym, ◌∙◌, rules}
+use Rattle.dm_tree.specs.Trees.{Tree}
 use Rattle.dm_effect.specs.Doubts.{is_doubted}
 use Rattle.dm_effect.specs.Entities.{passes}
 use Rattle.dm_effect.proofs.around.doubts_other.Goals as goal

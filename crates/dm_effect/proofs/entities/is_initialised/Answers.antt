@@ -1,11 +1,10 @@
 -- External declaration by external declaration.
 use Rattle.std.proofs.Common.{ℕ, List, map, ap, sym, ◌∙◌}
 use Rattle.std.specs.List.{list_any}
-use Rattle.dm_type.specs.Tables.{type_of}
 use Rattle.dm_tree.specs.declared.tree.Core.{out-Core}
 use Rattle.dm_tree.specs.declared.unit.CoreExternal.{CoreExternal}
-use Rattle.dm_tree.specs.Trees.{Tree, spans_of}
-use Rattle.dm_tree.specs.Views.{view, view_of_external, view_of_unit}
+use Rattle.dm_tree.specs.Trees.{Tree}
+use Rattle.dm_tree.specs.Views.{view_of_external, view_of_unit}
 use Rattle.dm_tree.proofs.ViewLemmas.{view-core}
 use Rattle.dm_effect.specs.declared.question.Question.TheVariants as question
 use Rattle.dm_effect.specs.Externals.{is_found}

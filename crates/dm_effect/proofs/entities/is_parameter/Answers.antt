@@ -1,5 +1,5 @@
 -- The first external declaration that is left has the parameter, or one of the others.
-use Rattle.std.proofs.Common.{◌≡◌, ℕ, Bool, List, map, refl, ap, rules, sym, ◌∙◌}
+use Rattle.std.proofs.Common.{ℕ, Bool, List, map, refl, rules, sym, ◌∙◌}
 use Rattle.std.specs.List.{list_any}
 use Rattle.dm_type.specs.Tables.{Table}
 use Rattle.dm_tree.specs.declared.unit.CoreExternal.{CoreExternal}

@@ -1,5 +1,5 @@
 -- An event in front of others is the first of its name, and the first behind it of that name is the next one.
-use Rattle.std.proofs.Common.{[], Some, None, length, append-nil, sym, ap, ◌∙◌}
+use Rattle.std.proofs.Common.{[], length, append-nil, sym, ap, ◌∙◌}
 use Rattle.std.specs.Prelude.{option_map}
 use Rattle.std.specs.FinMap as finite
 use denote.Bor.{Bor}

@@ -1,5 +1,5 @@
 -- A definition and the `#undef`s before it are the first of those to come.
-use Rattle.std.proofs.Common.{◌≡◌, ◌<◌, ◌≤◌, ◌+◌, ◌-◌, ◌++◌, drop, length, nat_le, sym, ap, subst, ◌∙◌, arith}
+use Rattle.std.proofs.Common.{◌≤◌, ◌+◌, ◌-◌, ◌++◌, drop, length, nat_le, ap, subst, ◌∙◌, arith}
 use Rattle.std.specs.List.{prefix_len}
 use Rattle.dm_mentions.specs.Mentions as mentions
 use Rattle.dm_mentions.specs.Mentions.{undefined_from}

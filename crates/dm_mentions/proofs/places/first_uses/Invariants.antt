@@ -1,6 +1,5 @@
 -- The map has the first positions among the uses that are done, which are the last ones.
-use Rattle.std.proofs.Common.{◌≡◌, ◌++◌, ℕ, List, length}
-use Rattle.std.specs.List.{position_from}
+use Rattle.std.proofs.Common.{◌≡◌, ◌++◌, List, length}
 use Rattle.dm_token.specs.declared.unit.Use.{Use}
 use Rattle.dm_mentions.specs.Mentions.{is_use}
 use Rattle.dm_mentions.proofs.PositionLemmas.{Finds}

@@ -1,5 +1,5 @@
 -- Each identifier in front of others is the first of its spelling.
-use Rattle.std.proofs.Common.{◌≡◌, ℕ, List, [], length, ◌∙◌, ◌&&◌, bytes_eq, append-nil, sym, ap}
+use Rattle.std.proofs.Common.{[], length, ◌∙◌, ◌&&◌, bytes_eq, append-nil, sym, ap}
 use Rattle.std.specs.FinMap as finite
 use Rattle.std.proofs.lemmas.Cmp.{nat_list_eq_equiv}
 use Rattle.dm_mentions.specs.Mentions.{is_mention}

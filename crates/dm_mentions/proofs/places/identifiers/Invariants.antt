@@ -1,6 +1,5 @@
 -- The map has the first positions among the tokens that are done, which are the last ones.
-use Rattle.std.proofs.Common.{◌≡◌, ◌++◌, ℕ, List, length}
-use Rattle.std.specs.List.{position_from}
+use Rattle.std.proofs.Common.{◌≡◌, ◌++◌, List, length}
 use Rattle.dm_token.specs.declared.token.Token.{Token}
 use Rattle.dm_mentions.specs.Mentions.{is_mention}
 use Rattle.dm_mentions.proofs.PositionLemmas.{Finds}

@@ -45,7 +45,7 @@ entries_avoid n (entry ∷ rest) h = added_avoids n entry.0 entry.1 rest h.0 (en
 closed_by : (state : State) → IsMade state.world.memory 1 → EntriesAvoid 1 state.world.memory → OnlyNames 1 1 state.statics
     → IsFrameClosed 1 1 state.statics state.frame → AreCallersClosed 1 1 state.statics state.callers → IsClosedState 1 1 state
 closed_by state made entries statics frame callers =
-    record { made = made; memory = entries_avoid 1 state.world.memory entries; statics = statics; frame = frame; callers = callers }
+    record { made = made; unreached = record { memory = entries_avoid 1 state.world.memory entries; statics = statics; frame = frame; callers = callers } }
 
 pub returns-clause-program : goal.returns-clause-program
 returns-clause-program c = program

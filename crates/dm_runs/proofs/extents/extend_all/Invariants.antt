@@ -1,5 +1,5 @@
 -- Those with the numbers up to here are extended.
-use Rattle.std.proofs.Common.{◌≡◌, fold, take, length}
+use Rattle.std.proofs.Common.{◌≡◌, fold, take}
 use Rattle.dm_runs.specs.Extents.{extended_at}
 use Rattle.dm_runs.proofs.extents.extend_all.Given as goal
 

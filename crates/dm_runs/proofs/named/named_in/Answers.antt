@@ -1,9 +1,8 @@
-use Rattle.std.proofs.Common.{◌≡◌, ℕ, ◌+◌, ◌<◌, List, [], ◌∷◌, ◌++◌, length, take, get_or, sym, ap, ◌∙◌, arith}
+use Rattle.std.proofs.Common.{◌≡◌, ◌+◌, ◌<◌, List, [], ◌∷◌, ◌++◌, length, take, get_or, sym, ap, ◌∙◌, arith}
 use Rattle.std.specs.Prelude.{count_by}
 use Rattle.std.proofs.lemmas.List.{take_more, length-take-le}
 use Rattle.dm_token.specs.declared.token.PpToken.{PpToken}
 use Rattle.dm_macro.specs.Bodies.{names_with}
-use Rattle.dm_runs.specs.declared.named.Named.{Named}
 use Rattle.dm_runs.specs.Names.{named_behind}
 use Rattle.dm_runs.proofs.NamedLemmas.{named-next, named-skip, is_of}
 use Rattle.dm_runs.proofs.named.named_in.Goals as goal

@@ -1,12 +1,12 @@
-use Rattle.std.proofs.Common.{◌≡◌, ℕ, ◌+◌, ◌-◌, ◌<◌, Bool, false, cond, ◌&&◌, List, [], ◌∷◌, ◌++◌, length, map, take, fold, replicate, get_or, refl, sym, ap, ◌∙◌, subst, arith, vec_len, length-append}
+use Rattle.std.proofs.Common.{◌≡◌, ℕ, ◌+◌, ◌-◌, false, cond, ◌&&◌, List, [], ◌∷◌, ◌++◌, length, map, take, fold, replicate, sym, ap, ◌∙◌, subst, arith, vec_len, length-append}
 use Rattle.std.specs.List.{flat_map}
-use Rattle.std.proofs.lemmas.List.{take_more, length-take-le, length-map, take_all}
+use Rattle.std.proofs.lemmas.List.{take_more, length-take-le, take_all}
 use Rattle.std.proofs.lemmas.List.Folds.{flat_map-map}
 use Rattle.dm_token.specs.declared.expansion.Mark.{Mark}
 use Rattle.dm_token.specs.declared.token.Token.{Token}
 use Rattle.dm_runs.specs.Beginnings.{beginnings_of, once_more}
 use Rattle.dm_runs.specs.Runs.{first_part}
-use Rattle.dm_runs.specs.Spans.{is_literal, begun_among}
+use Rattle.dm_runs.specs.Spans.{begun_among}
 use Rattle.dm_runs.proofs.GrowthLemmas.{Covers}
 use Rattle.dm_runs.proofs.ExtentLemmas.{flat-fold}
 use Rattle.dm_runs.proofs.PartLemmas.{trails_in, behind, Stand, behind-push, begun-push, begun-few, begun-some, parts-step, stand-step, covers-more}

@@ -1,4 +1,4 @@
-use Rattle.std.proofs.Common.{◌≡◌, List, [], ◌∷◌, ◌++◌, length, slice_get, sym, ap, ◌∙◌}
+use Rattle.std.proofs.Common.{List, [], ◌∷◌, ◌++◌, slice_get, sym, ap, ◌∙◌}
 use Rattle.dm_token.specs.declared.expansion.Mark.{Mark}
 use Rattle.dm_runs.proofs.ItemLemmas.{slice_get-last}
 use Rattle.dm_runs.proofs.StandLemmas.{slice_get-other, last-is}

@@ -1,4 +1,4 @@
-use Rattle.std.proofs.Common.{ℕ, ◌+◌, Bool, List, Some, drop, ap, ◌∙◌, sym}
+use Rattle.std.proofs.Common.{◌+◌, Bool, List, Some, drop, ap, ◌∙◌, sym}
 use Rattle.std.specs.Prelude.{find, ◌==◌}
 use Rattle.std.specs.Option.{option_map}
 use Rattle.std.proofs.lemmas.Bool.{cond-true, cond-false}

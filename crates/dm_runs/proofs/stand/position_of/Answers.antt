@@ -1,4 +1,4 @@
-use Rattle.std.proofs.Common.{ℕ, ◌+◌, Bool, List, Some, drop, ap, ◌∙◌, sym}
+use Rattle.std.proofs.Common.{◌+◌, Bool, List, Some, drop, ◌∙◌, sym}
 use Rattle.std.specs.List.{position_from}
 use Rattle.std.proofs.lemmas.Bool.{cond-true, cond-false}
 use Rattle.std.proofs.lemmas.List.{at_drop_all}

@@ -1,5 +1,5 @@
 -- The table says of each of them whether it is quiet.
-use Rattle.std.proofs.Common.{◌≡◌, ℕ, Bool, List, Option, map, length, not, refl, ap, subst, ◌∙◌}
+use Rattle.std.proofs.Common.{◌≡◌, ℕ, List, Option, map, length, not, ap, subst, ◌∙◌}
 use Rattle.std.specs.List.{list_all, list_any}
 use Rattle.dm_tree.specs.declared.unit.CoreExternal.{CoreExternal}
 use Rattle.dm_tree.specs.declared.unit.CoreUnit.{CoreUnit}

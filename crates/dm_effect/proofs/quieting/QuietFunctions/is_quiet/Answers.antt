@@ -1,13 +1,13 @@
 -- By the external declarations in front.
-use Rattle.std.proofs.Common.{◌≡◌, ℕ, List, map, take, length, refl, ap, subst, sym, ◌∙◌}
+use Rattle.std.proofs.Common.{◌≡◌, ℕ, List, take, length, refl, ap, ◌∙◌}
 use Rattle.std.specs.Prelude.{nat_le, take_while}
 use Rattle.dm_tree.specs.declared.tree.Core.{out-Core}
 use Rattle.dm_tree.specs.declared.unit.CoreExternal.{CoreExternal}
 use Rattle.dm_tree.specs.declared.unit.CoreUnit.{CoreUnit}
 use Rattle.dm_tree.specs.Trees.{Tree}
 use Rattle.dm_tree.specs.Units.{External}
-use Rattle.dm_tree.specs.Views.{view, view_of_external}
-use Rattle.dm_effect.specs.Quiet.{before, is_one_of, is_quiet_with, quiet_functions}
+use Rattle.dm_tree.specs.Views.{view}
+use Rattle.dm_effect.specs.Quiet.{is_one_of, is_quiet_with, quiet_functions}
 use Rattle.dm_effect.proofs.TableLemmas.{before-front}
 use Rattle.dm_effect.proofs.quieting.QuietFunctions.is_quiet.Goals as goal
 

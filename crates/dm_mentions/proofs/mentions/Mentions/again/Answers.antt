@@ -1,5 +1,5 @@
 -- The first event of the name, or where that is the reading, the next one.
-use Rattle.std.proofs.Common.{◌≡◌, ◌<◌, Some, None, length, slice_get, sym, ap, ◌∙◌, refl, arith}
+use Rattle.std.proofs.Common.{◌<◌, Some, length, slice_get, sym, ap, ◌∙◌, refl, arith}
 use Rattle.std.proofs.lemmas.Option.{slice_get_read}
 use Rattle.dm_mentions.proofs.AgainLemmas.{linked, none-named, first-inside, next-inside, another, none-behind, inside-behind, next-there}
 use Rattle.dm_mentions.proofs.mentions.Mentions.again.Goals as goal

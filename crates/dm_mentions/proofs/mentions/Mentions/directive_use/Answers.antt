@@ -1,5 +1,5 @@
 -- The map has the position of the first one that is the name.
-use Rattle.std.proofs.Common.{◌≡◌, ◌<◌, ◌-◌, length, Some, None, slice_get, sym, ap, ◌∙◌, arith}
+use Rattle.std.proofs.Common.{◌≡◌, ◌-◌, length, Some, slice_get, sym, ap, ◌∙◌, arith}
 use Rattle.std.specs.Prelude.{option_map}
 use Rattle.std.proofs.lemmas.Option.{get_or_from_slice_get}
 use Rattle.dm_token.specs.declared.unit.Use.{Use}

@@ -1,4 +1,4 @@
-use Rattle.std.proofs.Common.{◌≡◌, ℕ, ◌+◌, ◌<◌, List, [], ◌∷◌, ◌++◌, length, take, slice_get, get_or, Some, sym, ap, ◌∙◌, subst, arith, length-append}
+use Rattle.std.proofs.Common.{◌≡◌, ℕ, ◌<◌, List, [], ◌∷◌, length, slice_get, get_or, Some, sym, ap, ◌∙◌, subst, arith, length-append}
 use Rattle.dm_token.specs.declared.expansion.Mark.{Mark}
 use Rattle.dm_token.specs.declared.expansion.Mark.TheVariants.{Expansion}
 use Rattle.dm_runs.specs.Beginnings.{beginnings_of, once_more}

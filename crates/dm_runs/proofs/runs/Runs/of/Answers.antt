@@ -1,4 +1,4 @@
-use Rattle.std.proofs.Common.{◌≡◌, List, map, slice_get, ap, ◌∙◌}
+use Rattle.std.proofs.Common.{List, map, slice_get, ap, ◌∙◌}
 use Rattle.std.specs.List.{flat_map}
 use Rattle.dm_token.specs.declared.expansion.Mark.{Mark}
 use Rattle.dm_token.specs.declared.token.Token.{Token}

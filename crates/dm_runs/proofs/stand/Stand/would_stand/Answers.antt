@@ -1,5 +1,4 @@
-use Rattle.std.proofs.Common.{◌≡◌, ℕ, ◌+◌, ◌<◌, ◌≤◌, Bool, true, false, ◌&&◌, List, slice_get, get_or, Some, None, unwrap_or, refl, sym, ap, ◌∙◌, subst, arith, length, zero-add, below_more}
-use Rattle.std.specs.List.{position_from}
+use Rattle.std.proofs.Common.{◌≡◌, ℕ, ◌<◌, Bool, true, false, ◌&&◌, List, slice_get, Some, unwrap_or, refl, sym, ap, ◌∙◌, arith, length, zero-add, below_more}
 use Rattle.std.proofs.lemmas.Option.{slice_get_read}
 use Rattle.dm_token.specs.declared.token.CToken.{CToken}
 use Rattle.dm_runs.specs.Beginnings.{begins}

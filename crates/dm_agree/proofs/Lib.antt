@@ -1,0 +1,11 @@
+pub mod StandingLemmas
+pub mod IndexLemmas
+pub mod ArgumentLemmas
+pub mod AgreeLemmas
+pub mod HeadLemmas
+pub mod InitialLemmas
+pub mod PartLemmas
+pub mod StepLemmas
+pub mod TypeLemmas
+pub mod BodyLemmas
+pub mod CallLemmas

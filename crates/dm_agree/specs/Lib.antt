@@ -1,0 +1,10 @@
+pub mod Standing
+pub mod SameTypes
+pub mod Moves
+pub mod Heads
+pub mod Parts
+pub mod Runs
+pub mod Index
+pub mod Comparing
+pub mod Agreement
+pub mod Arguments

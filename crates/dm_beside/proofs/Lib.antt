@@ -1,0 +1,6 @@
+pub mod EvaluationLemmas
+pub mod HeritageLemmas
+pub mod KnownLemmas
+pub mod KnownSiteLemmas
+pub mod PlaceLemmas
+pub mod TallyLemmas

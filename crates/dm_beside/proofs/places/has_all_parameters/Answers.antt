@@ -1,0 +1,30 @@
+-- One parameter after another.
+use Rattle.std.proofs.Common.{◌≡◌, ℕ, suc, ◌+◌, ◌-◌, ◌<◌, ◌≤◌, Bool, true, ◌&&◌, ap, sym, ◌∙◌, arith}
+use Rattle.std.specs.List.{list_all, range_with_len}
+use Rattle.dm_beside.specs.Places.{occurs}
+use Rattle.dm_beside.proofs.places.has_all_parameters.Goals as goal
+
+step : (test : ℕ → Bool) (i count : ℕ) → i < count → list_all test (range_with_len i (count - i)) ≡ (test i && list_all test (range_with_len (i + 1) (count - (i + 1))))
+step test i count lt = let more : count - i ≡ suc (count - (i + 1)) = omega arith in ap (λ (n : ℕ). list_all test (range_with_len i n)) more
+
+none : (test : ℕ → Bool) (i count : ℕ) → count ≤ i → list_all test (range_with_len i (count - i)) ≡ true
+none test i count le = let left : count - i ≡ 0 = omega arith in ap (λ (n : ℕ). list_all test (range_with_len i n)) left
+
+pub returns-then-not-occurs : goal.returns-then-not-occurs
+returns-then-not-occurs c =
+    let test : ℕ → Bool = occurs c.args.run.now in
+    let i = c.loop-parameter.parameter in
+    sym (sym c.loop-parameter.invariant
+    ∙ (step test i c.args.count (omega arith) ∙ ap (λ b. b && list_all test (range_with_len (i + 1) (c.args.count - (i + 1)))) (sym c.occurs.ensures ∙ c.if-not-occurs.true)))
+
+pub loop-parameter-preserved : goal.loop-parameter-preserved
+loop-parameter-preserved c =
+    let test : ℕ → Bool = occurs c.args.run.now in
+    let i = c.loop-parameter.parameter in
+    sym (step test i c.args.count (omega arith) ∙ ap (λ b. b && list_all test (range_with_len (i + 1) (c.args.count - (i + 1)))) (sym c.occurs.ensures ∙ c.if-not-occurs.false))
+    ∙ c.loop-parameter.invariant
+
+pub returns : goal.returns
+returns c =
+    let test : ℕ → Bool = occurs c.args.run.now in
+    sym (sym c.loop-parameter.invariant ∙ none test c.loop-parameter.parameter c.args.count (omega arith))

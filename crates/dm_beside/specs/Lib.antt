@@ -1,0 +1,5 @@
+pub mod Evaluation
+pub mod Examples
+pub mod Places
+pub mod Rules
+pub mod Tallies

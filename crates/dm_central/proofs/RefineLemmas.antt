@@ -1,0 +1,415 @@
+-- The beginnings of runs agree, and the old program needs none of the parameters' objects: so the new program refines the old one.
+use Rattle.std.specs.Prelude.{◌≡◌, refl, ◌⊎◌, ℕ, suc, zero, ◌+◌, ◌*◌, ◌≤◌, false, List, [], ◌∷◌, map, length, Option, Some, None}
+use Rattle.std.proofs.Common.{arith, ap, sym, ◌∙◌, subst, inl, inr}
+use Rattle.dm_token.specs.declared.place.Place.{Place}
+use Rattle.dm_meaning.specs.declared.cause.Cause.{Cause}
+use Rattle.dm_meaning.specs.Among.{IsAmong}
+use Rattle.dm_meaning.specs.Called.{Called, new_of, statics_of}
+use Rattle.dm_meaning.specs.Extending.{HasAll}
+use Rattle.dm_meaning.specs.Machines.{undefined, Goes, RunsTo}
+use Rattle.dm_meaning.specs.Memory.{Memory, Block, look_up, new_block, killed}
+use Rattle.dm_meaning.specs.MoreObjects.{IsMade, ObjectsMade, IsSettled, Grown, with_memory, Spared}
+use Rattle.dm_meaning.specs.Objects.{all_zero}
+use Rattle.dm_meaning.specs.Operations.{World, Objects}
+use Rattle.dm_meaning.specs.Programs.{Definition, Program, layout}
+use Rattle.dm_meaning.specs.Refinement.{Refines}
+use Rattle.dm_meaning.specs.Replaced.{StaticAgrees, IsReplacement}
+use Rattle.dm_meaning.specs.Simulation.{GoesWrong, Meets, IsSimulation, simulated}
+use Rattle.dm_meaning.specs.States.{State}
+use Rattle.dm_meaning.specs.Statements.{named_from}
+use Rattle.dm_meaning.specs.Steps.{opened_frame, opened_memory, Step}
+use Rattle.dm_meaning.specs.Units.{static_numbers, statics_memory, argv_kind, arguments_for, start, main_of, Begins, machine_of}
+use Rattle.dm_meaning.specs.Values.{numbered, literal_of, elsewhere}
+use Rattle.dm_meaning.proofs.EntryLemmas.{with_entries, objects_in, AreFresh, AllSpare, kept, has_entered, spare_entered, has_left, spare_left}
+use Rattle.dm_meaning.proofs.GrowLemmas.{look_added}
+use Rattle.dm_meaning.proofs.KnownLemmas.{NamesKnown, begins_known, known_later}
+use Rattle.dm_meaning.proofs.LikenessLemmas.{unfolded_agree}
+use Rattle.dm_meaning.proofs.MatchLemmas.{parameter_block}
+use Rattle.dm_meaning.proofs.OptionLemmas.{none_is_some, some_is_some}
+use Rattle.dm_meaning.proofs.PassRunLemmas.{Entry as Stored}
+use Rattle.dm_meaning.proofs.PassStateLemmas.{Spare, flat}
+use Rattle.dm_meaning.proofs.PassStatementLemmas.{limit, IsSmall, main_small, most}
+use Rattle.dm_meaning.proofs.RunLemmas.{OptionAgrees, renamed_objects}
+use Rattle.dm_meaning.proofs.SpareStateLemmas.{unfolded_settled, spared_steps, settled_beginnings}
+use Rattle.dm_meaning.proofs.StartLemmas as plain
+use Rattle.dm_meaning.proofs.StaticLemmas.{statics_memory_same}
+use Rattle.dm_rewrite.specs.Effects.{on_others, Stage}
+use Rattle.dm_rewrite.specs.KeptMemory.{HasSameObjects, emptied}
+use Rattle.dm_rewrite.proofs.FrameChangeLemmas.{usable_made}
+use Rattle.dm_rewrite.proofs.KeptLemmas.{same_absence}
+use Rattle.dm_central.specs.Bodies.{nothing_known, DefinitionAgrees, NoStatements, CallsInPlace}
+use Rattle.dm_central.specs.StateAgreement.{DefinitionFits, StateAgrees, Related, worlds_after, GoesWithin, Met}
+use Rattle.dm_central.specs.Waiting.{IsWaiting}
+use Rattle.dm_central.proofs.BeginLemmas.{made_killed, begins_waiting}
+use Rattle.dm_central.proofs.BehindLemmas.{changes_left}
+use Rattle.dm_central.proofs.BodyLemmas.{likeness}
+use Rattle.dm_central.proofs.CallFrameLemmas.{frame_objects, frame_tasks, frame_memory}
+use Rattle.dm_central.proofs.StateStepLemmas.{step_met}
+use Rattle.dm_central.proofs.SteadyLemmas.{loose, steady_here}
+use Rattle.dm_central.proofs.TopLemmas.{same_worlds, top_begun, top_enough}
+use Rattle.dm_central.proofs.WaitingLemmas.{waiting_later, waiting_beside}
+
+-- ---- objects that stay
+
+same_join : (a b c : Memory) → HasSameObjects a b → HasSameObjects b c → HasSameObjects a c
+same_join a b c h k name there = k name (same_absence a b name (h name there) ∙ there) ∙ h name there
+
+-- the objects of the parameters are new
+entries_beside : (change : Called) (entries : List Stored) (memory : Memory) (n : ℕ) → AreFresh entries memory → IsMade memory n → look_up (with_entries change entries memory) n ≡ look_up memory n
+entries_beside change [] memory n fresh made = refl
+entries_beside change (entry ∷ entries) memory n fresh made =
+    look_added entry.stored (parameter_block change entry.parameter entry.value) (with_entries change entries memory) n (λ e. none_is_some made.0 (sym (ap (look_up memory) (sym e) ∙ fresh.0) ∙ made.1))
+    ∙ entries_beside change entries memory n fresh.2 made
+
+made_entered : (change : Called) (entries : List Stored) (memory : Memory) → AreFresh entries memory → (n : ℕ) → IsMade memory n → IsMade (with_entries change entries memory) n
+made_entered change entries memory fresh n made = (made.0, entries_beside change entries memory n fresh made ∙ made.1)
+
+same_entered : (change : Called) (entries : List Stored) (memory : Memory) → AreFresh entries memory → HasSameObjects memory (with_entries change entries memory)
+same_entered change entries memory fresh (numbered n) there = by_option (look_up memory n) refl
+  where
+    by_option : (o : Option Block) → look_up memory n ≡ o → emptied (look_up (with_entries change entries memory) n) ≡ emptied (look_up memory n)
+    by_option None e = absurd (usable_made memory n there e)
+    by_option (Some block) e = ap emptied (entries_beside change entries memory n fresh (block, e))
+same_entered change entries memory fresh (literal_of bytes unit) there = refl
+same_entered change entries memory fresh (elsewhere identifier) there = refl
+
+module _ (change : Called) (calling : CallsInPlace change nothing_known) where
+  -- ---- objects of static storage duration
+
+  same_statics : IsReplacement (statics_of change)
+  same_statics = record { injective = calling.injective; told = calling.added.told; functions = tt; statics = calling.statics }
+
+  same_count : length change.statics ≡ length change.old.statics
+  same_count = plain.zipped_length (statics_of change) same_statics (StaticAgrees (statics_of change)) change.statics change.old.statics calling.statics
+
+  statics_agree : (names : ℕ → ℕ) → named_from names 0 (static_numbers change.statics) [] ≡ renamed_objects change.rename (named_from names 0 (static_numbers change.old.statics) [])
+  statics_agree names = plain.statics_agree (statics_of change) same_statics names
+
+  abbrev old_statics : (ℕ → ℕ) → Objects
+  old_statics names = named_from names 0 (static_numbers change.old.statics) []
+
+  memory_agrees : (names : ℕ → ℕ) → statics_memory (new_of change) names (named_from names 0 (static_numbers change.statics) []) ≡ statics_memory change.old names (old_statics names)
+  memory_agrees names =
+      sym (statics_memory_same (new_of change) [] names (named_from names 0 (static_numbers change.statics) []))
+      ∙ plain.memory_agrees (statics_of change) same_statics names
+      ∙ statics_memory_same change.old [] names (old_statics names)
+
+  arguments_agree : (n : ℕ) (ds : List ℕ) → arguments_for n (map change.rename ds) ≡ arguments_for n ds
+  arguments_agree n [] = refl
+  arguments_agree n (d ∷ ds) = refl
+
+  other_main : (one other : Option Definition) (main : Definition) → OptionAgrees (DefinitionAgrees change nothing_known) one other → one ≡ Some main → (m : Definition) × (other ≡ Some m) × DefinitionAgrees change nothing_known main m
+  other_main None other main h e = absurd (none_is_some main e)
+  other_main (Some one) None main h e = absurd h
+  other_main (Some one) (Some other) main h e = (other, refl, subst (λ d. DefinitionAgrees change nothing_known d other) (some_is_some one main e) h)
+
+  -- ---- beginnings
+
+  start_agrees : (names : ℕ → ℕ) (main other : Definition) (input : List ℕ) → DefinitionFits change nothing_known main other
+      → StateAgrees change nothing_known [] [] (start names (new_of change) main input) (start names change.old other input)
+  start_agrees names main other input h =
+      let count = same_count in
+      let argv_block = record (new_block (layout change.old) argv_kind) { contents = all_zero (layout change.old) argv_kind } in
+      let begun = start names change.old other input in
+      record {
+        standing = refl;
+        function = h.0.0;
+        objects =
+            ap (λ n. (opened_frame (new_of change) (λ i. names (suc n + i)) main).objects) count
+            ∙ frame_objects change nothing_known calling (λ i. names (suc (length change.old.statics) + i)) main other h;
+        tasks = top_begun change nothing_known begun.statics begun.frame.objects begun.world _ _ (unfolded_agree change (likeness change nothing_known calling) _ _ (frame_tasks change nothing_known calling (λ i. names (suc (length change.old.statics) + i)) main other h));
+        callers = tt;
+        statics = statics_agree names;
+        world =
+            ap (λ n. record { memory = opened_memory (new_of change) (λ i. names (suc n + i)) main (arguments_for (names n) main.parameters) ((names n, argv_block) ∷ statics_memory (new_of change) names (named_from names 0 (static_numbers change.statics) [])); input = input; output = [] }) count
+            ∙ ap (λ m. record { memory = opened_memory (new_of change) (λ i. names (suc (length change.old.statics) + i)) main (arguments_for (names (length change.old.statics)) main.parameters) ((names (length change.old.statics), argv_block) ∷ m); input = input; output = [] }) (memory_agrees names)
+            ∙ ap (λ ps. record { memory = opened_memory (new_of change) (λ i. names (suc (length change.old.statics) + i)) main (arguments_for (names (length change.old.statics)) ps) ((names (length change.old.statics), argv_block) ∷ statics_memory change.old names (old_statics names)); input = input; output = [] }) h.0.1
+            ∙ ap (λ vs. record { memory = opened_memory (new_of change) (λ i. names (suc (length change.old.statics) + i)) main vs ((names (length change.old.statics), argv_block) ∷ statics_memory change.old names (old_statics names)); input = input; output = [] }) (arguments_agree (names (length change.old.statics)) other.parameters)
+            ∙ ap (λ m. record { memory = m; input = input; output = [] }) (frame_memory change nothing_known calling (λ i. names (suc (length change.old.statics) + i)) main other (arguments_for (names (length change.old.statics)) other.parameters) ((names (length change.old.statics), argv_block) ∷ statics_memory change.old names (old_statics names)) h);
+      }
+
+  begins_agrees : (input : List ℕ) (state : State) → Begins (new_of change) input state → (other : State) × Begins change.old input other × StateAgrees change nothing_known [] [] state other
+  begins_agrees input state (bytes, names, fresh, main, is_main_here, e) =
+      let found = other_main (main_of (new_of change)) (main_of change.old) main calling.mains is_main_here in
+      let small : IsSmall (limit change) (Some main) = subst (IsSmall (limit change)) is_main_here (main_small (new_of change) change.functions) in (
+        start names change.old found.0 input,
+        (bytes, names, fresh, found.0, found.1, refl),
+        subst (λ s. StateAgrees change nothing_known [] [] s (start names change.old found.0 input)) (sym e) (start_agrees names main found.0 input (found.2, small)),
+      )
+
+  -- ---- the old program beside the objects of the parameters
+
+  -- the state is one of a run
+  abbrev IsReached : State → Type 0
+  IsReached state = (input : List ℕ) × (n : ℕ) × RunsTo (machine_of change.old) input n state
+
+  -- the old program stands at a state without them
+  pub record Holds (other : State) (more : Memory) (spare : Spare) (starts : List World) : Type 0 where
+    pub settled : IsSettled other
+    pub has : HasAll more other.world.memory
+    pub names : NamesKnown change.old other
+    pub spares : AllSpare change more other.world.memory (flat spare)
+    pub waits : IsWaiting starts (with_memory other more)
+    pub reached : IsReached other
+
+  goes_nothing : (program : Program) (t : State) → Goes (machine_of program) 0 t t
+  unfolding Goes
+  goes_nothing program t = refl
+
+  goes_first : (program : Program) (n : ℕ) (s t u : State) → Step program s t → Goes (machine_of program) n t u → Goes (machine_of program) (suc n) s u
+  unfolding Goes
+  goes_first program n s t u step goes = (t, step, goes)
+
+  goes_last : (program : Program) (n : ℕ) (s t u : State) → Goes (machine_of program) n s t → Step program t u → Goes (machine_of program) (suc n) s u
+  unfolding Goes
+  goes_last program zero s t u e step = (u, subst (λ x. Step program x u) (sym e) step, refl)
+  goes_last program (suc n) s t u (middle, first, rest) step = (middle, first, goes_last program n middle t u rest step)
+
+  wrong_later : (program : Program) (s t : State) → Step program s t → GoesWrong (machine_of program) t → GoesWrong (machine_of program) s
+  unfolding Goes
+  wrong_later program s t step (n, u, goes, cause, place, e) = (suc n, u, (t, step, goes), cause, place, e)
+
+  wrong_after : (program : Program) (n : ℕ) (s t : State) → Goes (machine_of program) n s t → GoesWrong (machine_of program) t → GoesWrong (machine_of program) s
+  unfolding Goes
+  wrong_after program zero s t e wrong = subst (GoesWrong (machine_of program)) (sym e) wrong
+  wrong_after program (suc n) s t (middle, step, rest) wrong = wrong_later program s middle step (wrong_after program n middle t rest wrong)
+
+  -- where a run goes wrong beside more objects, it goes wrong without them
+  wrong_without : (n : ℕ) (program : Program) (more : Memory) (state u : State) → IsSettled state → HasAll more state.world.memory → Goes (machine_of program) n (with_memory state more) u
+      → (cause : Cause) (place : Place) → u.standing ≡ undefined cause place → GoesWrong (machine_of program) state
+  unfolding Goes
+  wrong_without zero program more state u settled has same cause place e = (0, state, refl, cause, place, ap (λ (s : State). s.standing) same ∙ e)
+  wrong_without (suc n) program more state u settled has (v, step, goes) cause place e =
+      by_step (spared_steps program state v more settled has step) (λ next after s h f. wrong_without n program after next u s h f cause place e)
+    where
+      by_step : GoesWrong (machine_of program) state ⊎ Spared program state v more
+          → ((next : State) (after : Memory) → IsSettled next → HasAll after next.world.memory → Goes (machine_of program) n (with_memory next after) u → GoesWrong (machine_of program) next)
+          → GoesWrong (machine_of program) state
+      by_step (inl wrong) later = wrong
+      by_step (inr spared) later =
+          wrong_later program state spared.next spared.step
+          (later spared.next spared.after spared.settled spared.grown.has (subst (λ s. Goes (machine_of program) n s u) spared.is goes))
+
+  -- what was made beside it still is
+  made_on : (more memory after later : Memory) → Grown more memory after later → (n : ℕ) → IsMade more n → IsMade after n
+  made_on more memory after later grown n made = by_option (look_up memory n) refl
+    where
+      by_option : (o : Option Block) → look_up memory n ≡ o → IsMade after n
+      by_option None e = (made.0, (grown.spare n made.0 (made.1, e)).0)
+      by_option (Some block) e = let there = grown.made n (block, e) in (there.0, grown.has n there.0 there.1)
+
+  -- a step beside them is one without them
+  record Advanced (other : State) (last : State) (spare : Spare) (starts : List World) : Type 0 where
+    next : State
+    after : Memory
+    step : Step change.old other next
+    is : last ≡ with_memory next after
+    holds : Holds next after spare starts
+
+  advance : (other : State) (more : Memory) (spare : Spare) (starts : List World) (last : State) → Holds other more spare starts → Step change.old (with_memory other more) last
+      → GoesWrong (machine_of change.old) other ⊎ Advanced other last spare (worlds_after starts (with_memory other more).world other.callers last.callers)
+  advance other more spare starts last h step = by_step (spared_steps change.old other last more h.settled h.has step)
+    where
+      by_step : GoesWrong (machine_of change.old) other ⊎ Spared change.old other last more
+          → GoesWrong (machine_of change.old) other ⊎ Advanced other last spare (worlds_after starts (with_memory other more).world other.callers last.callers)
+      by_step (inl wrong) = inl wrong
+      by_step (inr spared) =
+          let made : (n : ℕ) → IsMade more n → IsMade last.world.memory n =
+          λ n k. subst (λ (s : State). IsMade s.world.memory n) (sym spared.is) (made_on more other.world.memory spared.after spared.next.world.memory spared.grown n k) in
+          let own_made : ObjectsMade more other.frame.objects = λ n k. let there = h.settled.frame.0 n k in (there.0, h.has n there.0 there.1) in
+          inr (record {
+            next = spared.next;
+            after = spared.after;
+            step = spared.step;
+            is = spared.is;
+            holds = record {
+              settled = spared.settled;
+              has = spared.grown.has;
+              names = known_later change.old other spared.next spared.step h.names;
+              spares = kept change more other.world.memory spared.after spared.next.world.memory spared.grown (flat spare) h.spares;
+              waits = subst (IsWaiting (worlds_after starts (with_memory other more).world other.callers last.callers)) spared.is (waiting_later change.old (with_memory other more) last step made starts h.waits own_made);
+              reached = (h.reached.0, suc h.reached.1, record { start = h.reached.2.start; begins = h.reached.2.begins; goes = goes_last change.old h.reached.1 h.reached.2.start other spared.next h.reached.2.goes spared.step });
+            };
+          })
+
+  -- and so are steps within a frame
+  record AdvancedWithin (count : ℕ) (other : State) (last : State) (spare : Spare) (starts : List World) : Type 0 where
+    next : State
+    after : Memory
+    goes : Goes (machine_of change.old) count other next
+    is : last ≡ with_memory next after
+    holds : Holds next after spare starts
+
+  advance_within : (count : ℕ) (other : State) (more : Memory) (spare : Spare) (starts : List World) (start last : State) → start ≡ with_memory other more → Holds other more spare starts → GoesWithin change.old count start last
+      → GoesWrong (machine_of change.old) other ⊎ AdvancedWithin count other last spare starts
+  advance_within zero other more spare starts start last e h same = inr (record { next = other; after = more; goes = goes_nothing change.old other; is = sym same ∙ e; holds = h })
+  advance_within (suc count) other more spare starts start last e h (middle, step, callers, rest) =
+      by_step (advance other more spare starts middle h (subst (λ s. Step change.old s middle) e step)) (λ next after k is. advance_within count next after spare starts middle last is k rest)
+    where
+      same_starts : worlds_after starts (with_memory other more).world other.callers middle.callers ≡ starts
+      same_starts =
+          ap (worlds_after starts (with_memory other more).world other.callers) (callers ∙ ap (λ (s : State). s.callers) e) ∙ same_worlds starts (with_memory other more).world other.callers
+
+      by_step : GoesWrong (machine_of change.old) other ⊎ Advanced other middle spare (worlds_after starts (with_memory other more).world other.callers middle.callers)
+          → ((next : State) (after : Memory) → Holds next after spare starts → middle ≡ with_memory next after → GoesWrong (machine_of change.old) next ⊎ AdvancedWithin count next last spare starts)
+          → GoesWrong (machine_of change.old) other ⊎ AdvancedWithin (suc count) other last spare starts
+      by_step (inl wrong) later = inl wrong
+      by_step (inr a) later = by_rest (later a.next a.after (subst (Holds a.next a.after spare) same_starts a.holds) a.is)
+        where
+          by_rest : GoesWrong (machine_of change.old) a.next ⊎ AdvancedWithin count a.next last spare starts → GoesWrong (machine_of change.old) other ⊎ AdvancedWithin (suc count) other last spare starts
+          by_rest (inl wrong) = inl (wrong_later change.old other a.next a.step wrong)
+          by_rest (inr k) = inr (record { next = k.next; after = k.after; goes = goes_first change.old count other a.next k.next a.step k.goes; is = k.is; holds = k.holds })
+
+  -- ---- the simulation
+
+  module _ (no_statements : NoStatements change.old) where
+    pub record Relation (w : ℕ) (state other : State) : Type 0 where
+      pub more : Memory
+      pub spare : Spare
+      pub starts : List World
+      pub related : Related change nothing_known w spare starts state (with_memory other more)
+      pub holds : Holds other more spare starts
+
+    same_standing : (w : ℕ) (spare : Spare) (starts : List World) (s t : State) → Related change nothing_known w spare starts s t → s.standing ≡ t.standing
+    same_standing w spare starts s t (inl h) = h.1.standing
+    same_standing w spare starts s t (inr (first, rest, is, inl h)) = h.standing
+    same_standing w spare starts s t (inr (first, rest, is, inr h)) = h.standing
+
+    same_output : (w : ℕ) (spare : Spare) (starts : List World) (s t : State) → Related change nothing_known w spare starts s t → t.world.output ≡ s.world.output
+    same_output w spare starts s t (inl h) = ap (λ (world : World). world.output) (sym h.1.world)
+    same_output w spare starts s t (inr (first, rest, is, inl h)) = ap (λ (world : World). world.output) (sym h.world)
+    same_output w spare starts s t (inr (first, rest, is, inr h)) = ap (λ (world : World). world.output) (sym h.world)
+
+    Relates : ℕ → State → State → Type 0
+    Relates w state other = Relation w state other
+
+    Outcome : ℕ → State → State → Type 0
+    Outcome w s' t = GoesWrong (machine_of change.old) t ⊎ Meets (machine_of (new_of change)) (machine_of change.old) Relation (most change) w s' t
+
+    enough_risen : (n w c : ℕ) → n + 1 ≤ w + (1 + n) * suc c
+    enough_risen n w zero = omega arith
+    enough_risen n w (suc c) = let less = enough_risen n w c in grind (arith, less)
+
+    stays_met : (w v : ℕ) (s' t : State) → v + 1 ≤ w → Relation v s' t → Outcome w s' t
+    unfolding Outcome
+    stays_met w v s' t less related = inr (0, v, t, goes_nothing change.old t, omega (arith, less), related)
+
+    -- memory with the objects of the parameters, or without
+    with_more : (other : State) (more : Memory) (spare : Spare) (starts : List World) → Holds other more spare starts → (memory : Memory) (later : Spare) → HasAll memory other.world.memory → AllSpare change memory other.world.memory (flat later)
+        → ((n : ℕ) → IsMade more n → IsMade memory n) → ((start : World) → IsAmong start starts → HasSameObjects start.memory memory) → Holds other memory later starts
+    with_more other more spare starts h memory later has spares made same = record {
+      settled = h.settled;
+      has = has;
+      names = h.names;
+      spares = spares;
+      waits = waiting_beside starts (with_memory other more) memory h.waits (λ start l. record { made = λ n k. made n ((h.waits.since start l).made n k); same = same start l }) (λ n l. made n (h.waits.statics n l));
+      reached = h.reached;
+    }
+
+    abbrev no_stage : Stage
+    no_stage = record { scene = record { program = change.old; objects = [] }; closed = []; quiet = λ f. false }
+
+    met : (w : ℕ) (s' t : State) (more : Memory) (spare : Spare) (starts : List World) → Holds t more spare starts → Met change nothing_known w spare starts (with_memory t more) s' → Outcome w s' t
+    unfolding Outcome
+    met w s' t more spare starts h (inl (n, u, goes, cause, place, e)) = inl (wrong_without n change.old more t u h.settled h.has goes cause place e)
+    met w s' t more spare starts h (inr (inl f)) = by_step (advance t more spare starts f.last h f.step)
+      where
+        by_step : GoesWrong (machine_of change.old) t ⊎ Advanced t f.last spare (worlds_after starts (with_memory t more).world t.callers f.last.callers) → Outcome w s' t
+        by_step (inl wrong) = inl wrong
+        by_step (inr a) =
+            inr (
+              1,
+              most change,
+              a.next,
+              goes_first change.old 0 t a.next a.next a.step (goes_nothing change.old a.next),
+              enough_risen (most change) w 0,
+              record {
+                more = a.after;
+                spare = spare;
+                starts = worlds_after starts (with_memory t more).world t.callers f.last.callers;
+                related = subst (Related change nothing_known (most change) spare (worlds_after starts (with_memory t more).world t.callers f.last.callers) s') a.is f.related;
+                holds = a.holds;
+              },
+            )
+    met w s' t more spare starts h (inr (inr (inl f))) = by_steps (advance_within (suc f.count) t more spare starts (with_memory t more) f.last refl h f.goes)
+      where
+        by_steps : GoesWrong (machine_of change.old) t ⊎ AdvancedWithin (suc f.count) t f.last spare starts → Outcome w s' t
+        by_steps (inl wrong) = inl wrong
+        by_steps (inr a) =
+            inr (
+              suc f.count,
+              most change,
+              a.next,
+              a.goes,
+              enough_risen (most change) w f.count,
+              record { more = a.after; spare = spare; starts = starts; related = subst (Related change nothing_known (most change) spare starts s') a.is f.related; holds = a.holds },
+            )
+    met w s' t more spare starts h (inr (inr (inr (inl (v, less, related))))) = stays_met w v s' t less (record { more = more; spare = spare; starts = starts; related = related; holds = h })
+    met w s' t more spare starts h (inr (inr (inr (inr (inl f))))) =
+        stays_met w f.left s' t f.less (record {
+          more = with_entries change f.entries more;
+          spare = f.entries ∷ spare;
+          starts = starts;
+          related = f.related;
+          holds =
+              with_more t more spare starts h (with_entries change f.entries more) (f.entries ∷ spare) (has_entered change f.entries more t.world.memory f.fresh h.has) (spare_entered change f.entries (flat spare) more t.world.memory f.fresh h.has h.spares)
+              (made_entered change f.entries more f.fresh) (λ start l. same_join start.memory more (with_entries change f.entries more) (h.waits.since start l).same (same_entered change f.entries more f.fresh));
+        })
+    met w s' t more spare starts h (inr (inr (inr (inr (inr f))))) =
+        let all = subst (λ s. AllSpare change more t.world.memory (flat s)) f.is h.spares in
+        let memory = killed (map (λ entry. entry.1) (objects_in f.first)) more in
+        stays_met w f.left s' t f.less (record {
+          more = memory;
+          spare = f.rest;
+          starts = starts;
+          related = f.related;
+          holds =
+              with_more t more spare starts h memory f.rest (has_left change f.first (flat f.rest) more t.world.memory h.has all) (spare_left change f.first (flat f.rest) more t.world.memory h.has all)
+              (λ n k. made_killed (map (λ entry. entry.1) (objects_in f.first)) more n k)
+              (λ start l. (changes_left no_stage (on_others ∷ []) start (with_memory t more).world f.first (f.below start l) (loose no_stage (λ n k. k) start (with_memory t more).world (h.waits.since start l).same)).same_objects);
+        })
+
+    steps_met : (w : ℕ) (s s' t : State) → Relation w s t → Step (new_of change) s s' → Outcome w s' t
+    steps_met w s s' t h step =
+        met w s' t h.more h.spare h.starts h.holds
+        (step_met change nothing_known calling w h.spare h.starts s s' (with_memory t h.more) h.related t.world.memory h.holds.spares
+        (unfolded_settled t.world.memory t.frame.tasks h.holds.settled.frame.1)
+        (steady_here change h.starts (with_memory t h.more) h.holds.names h.holds.waits (λ place tree use_of rest e. no_statements h.holds.reached.0 h.holds.reached.1 t h.holds.reached.2 place tree use_of rest e)) step)
+
+    begins_related : (input : List ℕ) (s : State) → Begins (new_of change) input s → (w : ℕ) × (t : State) × (w ≤ most change) × Begins change.old input t × Relation w s t
+    begins_related input s b =
+        let t = begins_agrees input s b in (
+          most change,
+          t.0,
+          omega arith,
+          t.1,
+          record {
+            more = t.0.world.memory;
+            spare = [];
+            starts = [];
+            related = inl (top_enough change nothing_known t.0.statics t.0.frame.objects t.0.world _ _ t.2.tasks, t.2);
+            holds = record {
+              settled = settled_beginnings change.old input t.0 t.1;
+              has = λ n block e. e;
+              names = begins_known change.old input t.0 t.1;
+              spares = tt;
+              waits = begins_waiting change.old input t.0 t.1;
+              reached = (input, 0, record { start = t.0; begins = t.1; goes = goes_nothing change.old t.0 });
+            };
+          },
+        )
+
+    simulation : IsSimulation (machine_of (new_of change)) (machine_of change.old) Relates (most change) (most change)
+    unfolding Relates Outcome
+    simulation = record {
+      begins = begins_related;
+      steps = steps_met;
+      going_on = λ w s t h e. inr (sym (same_standing w h.spare h.starts s (with_memory t h.more) h.related) ∙ e, same_output w h.spare h.starts s (with_memory t h.more) h.related);
+      ending = λ w s t status h e. inr (0, t, goes_nothing change.old t, sym (same_standing w h.spare h.starts s (with_memory t h.more) h.related) ∙ e, same_output w h.spare h.starts s (with_memory t h.more) h.related);
+      wrong = λ w s t cause place h e. (0, t, goes_nothing change.old t, cause, place, sym (same_standing w h.spare h.starts s (with_memory t h.more) h.related) ∙ e);
+    }
+
+-- A program that calls the added function refines the program that has its expression in place, with the arguments in it.
+pub calls_refine : (change : Called) → CallsInPlace change nothing_known → NoStatements change.old → Refines (machine_of (new_of change)) (machine_of change.old)
+calls_refine change calling no_statements =
+    simulated (machine_of (new_of change)) (machine_of change.old) (Relates change calling no_statements) (most change) (most change) (simulation change calling no_statements)

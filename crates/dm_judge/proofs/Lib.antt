@@ -1,0 +1,4 @@
+mod ChangeLemmas
+mod SearchLemmas
+mod ProposalLemmas
+mod UnitLemmas

@@ -1,0 +1,31 @@
+//! What the typed trees of a unit do, noted once.
+
+ghost use Rattle.std.specs.Prelude.{◌≡◌, IfOk};
+ghost use Rattle.std.specs.Coded.{codes};
+ghost use Rattle.dm_tree.specs.contracts.tree.Core as core;
+ghost use Rattle.dm_tree.specs.contracts.tree.Initial as initial;
+ghost use Rattle.dm_tree.specs.contracts.tree.Local as local;
+
+use dm_effect::QuietFunctions;
+use dm_stable::Objects;
+use dm_token::Memory;
+use dm_tree::CoreUnit;
+use std::alloc::Global;
+
+/// Which functions of a unit are quiet, and what its trees do to its objects.
+#[derive(Drop)]
+pub struct Notes<'a> {
+    pub(crate) quiet: QuietFunctions<'a>,
+    pub(crate) objects: Objects<'a>,
+    ghost same_unit: { objects ≡ quiet } by { Prim.hlevel (codes, core.the_row.coded, initial.the_row.coded, local.the_row.coded) },
+}
+
+impl<'a> Notes<'a> {
+    pub(crate) fn of(alloc: Global, unit: &'a CoreUnit) -> Result<Notes<'a>, Memory>
+        ensures { IfOk result (λ made. made.quiet ≡ unit.now) }
+    {
+        let quiet = QuietFunctions::of(alloc, unit)?;
+        let objects = Objects::of(alloc, unit)?;
+        Ok(Notes { quiet, objects })
+    }
+}

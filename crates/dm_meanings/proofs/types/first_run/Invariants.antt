@@ -1,0 +1,8 @@
+-- No unit up to here has an expansion.
+use Rattle.std.proofs.Common.{◌≡◌, drop}
+use Rattle.dm_meanings.specs.First.{readings_of}
+use Rattle.dm_meanings.specs.Types as types
+use Rattle.dm_meanings.proofs.types.first_run.Given as goal
+
+abbrev pub invariant-loop-unit : goal.invariant-loop-unit
+invariant-loop-unit l = types.first_run l.fn.definition (readings_of (drop l.unit-index l.units)) ≡ types.first_run l.fn.definition (readings_of l.units)

@@ -1,0 +1,12 @@
+//! The rules that a macro keeps if a declaration is to stand for it, as far as types and names tell (ISO/IEC 9899:2011, 6.2.1, 6.7.6): that
+//! all its expansions have the same types, and that its names mean the same at each of them as at its definition.
+#![tactic(auto)]
+
+mod capture;
+mod meanings;
+mod typed;
+mod types;
+
+pub use capture::broken_capture;
+pub use meanings::Meanings;
+pub use types::{Met, broken_type, first_occurrence, first_run};
