@@ -59,6 +59,3 @@ fn no_value(at: Place) -> Stop
 pub fn one_truth()
     ensures { (tokens : List Token) (a b : Bool) → HasTruth tokens a → HasTruth tokens b → a ≡ b }
 {}
-
-#[cfg(test)]
-mod tests;

@@ -8,6 +8,3 @@ mod law;
 
 pub use form::{First, Named, Term, outcome};
 pub use law::one_reading;
-
-#[cfg(test)]
-mod tests;

@@ -39,6 +39,3 @@ pub fn ctokens(alloc: Global, tokens: &[Token]) -> Result<List<CToken>, Stop>
     }
     Ok(joiner.finish(alloc)?)
 }
-
-#[cfg(test)]
-mod tests;

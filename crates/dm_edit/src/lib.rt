@@ -11,6 +11,3 @@ pub use change::{As, Change};
 pub use editing::edit;
 pub use laws::{a_definition_lies, edits_commute, lines_stay, one_edit, places_move};
 pub use plan::{Changed, Entry, Fate, Plan};
-
-#[cfg(test)]
-mod tests;

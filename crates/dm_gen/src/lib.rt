@@ -30,6 +30,3 @@ pub fn generated(alloc: Global, n: u32) -> Result<MemoryFolder, Memory>
     folder.add(&name, text.as_bytes())?;
     Ok(folder)
 }
-
-#[cfg(test)]
-mod tests;

@@ -341,6 +341,3 @@ fn shift_right(kind: Kind, a: i128, count: i128) -> Result<i128, Fault>
         Err(Fault::Shift)
     }
 }
-
-#[cfg(test)]
-mod tests;

@@ -12,8 +12,6 @@ mod real_sink;
 mod shelf;
 mod sink;
 mod stored;
-#[cfg(test)]
-mod tests;
 
 pub use folder::{Folder, Got};
 pub use memory_folder::MemoryFolder;

@@ -95,6 +95,3 @@ pub fn one_token_alone()
     ensures { (text : List Character) (kind : PpKind) →
         (class_of (bytes text) ≡ Some kind) ↔ IsOneToken text kind }
 {}
-
-#[cfg(test)]
-mod tests;

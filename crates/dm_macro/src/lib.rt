@@ -11,8 +11,6 @@ mod role;
 mod same;
 mod sign;
 mod table;
-#[cfg(test)]
-mod tests;
 
 pub use body::Body;
 pub use named::named_count;

@@ -49,6 +49,3 @@ fn parse(alloc: Global, bytes: &[u8]) -> Result<Value, ManifestFault>
 pub fn good_lines()
     ensures { (line : List ℕ) → (line_may_stand line ≡ true) ↔ HasGoodCut line }
 {}
-
-#[cfg(test)]
-mod tests;

@@ -111,6 +111,3 @@ fn refusal(file: u32, bytes: &[u8], backslash: Character) -> Stop
         place: place_at(file, bytes, backslash.at as usize),
     })
 }
-
-#[cfg(test)]
-mod tests;

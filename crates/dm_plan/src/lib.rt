@@ -10,6 +10,3 @@ mod scan;
 mod sum;
 
 pub use reading::first;
-
-#[cfg(test)]
-mod tests;

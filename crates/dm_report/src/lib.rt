@@ -11,6 +11,3 @@ mod words;
 
 pub use as_json::json;
 pub use as_text::text;
-
-#[cfg(test)]
-mod tests;

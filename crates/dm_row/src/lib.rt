@@ -7,6 +7,3 @@ mod row;
 
 pub use item::Item;
 pub use row::Row;
-
-#[cfg(test)]
-mod tests;

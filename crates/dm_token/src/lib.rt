@@ -13,8 +13,6 @@ mod name;
 mod place;
 pub mod refusals;
 mod stop;
-#[cfg(test)]
-mod tests;
 mod text;
 mod token;
 mod trail;

@@ -2,7 +2,7 @@
 //! full, is left to the runs of the program.
 
 use super::got;
-use crate::{Folder, Got, RealFolder, RealSink, Sink};
+use dm_io::{Folder, Got, RealFolder, RealSink, Sink};
 use dm_token::Text;
 use std::fmt::Display;
 use std::fs;

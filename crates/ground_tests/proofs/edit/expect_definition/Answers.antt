@@ -3,7 +3,7 @@ use Rattle.std.proofs.lemmas.Option.{slice_get_read}
 use Rattle.dm_token.specs.declared.token.PpToken.{PpToken}
 use Rattle.dm_edit.specs.Cuts.{last_token}
 use Rattle.dm_edit.proofs.VisibleLemmas.{lies-in}
-use Rattle.dm_edit.proofs.tests.expect_definition.Goals as goal
+use Rattle.ground_tests.proofs.edit.expect_definition.Goals as goal
 
 pub returns : goal.returns
 returns g c =

@@ -1,6 +1,6 @@
 //! The five rewritings of a text, one after another.
 
-use crate::Character;
+use dm_phase::Character;
 use std::alloc::{AllocError, Global};
 
 /// What is rewritten from the left.

@@ -2,7 +2,7 @@
 
 mod tables;
 
-use crate::{Constant, Suffix, character_constant, ctokens, integer_constant, kind_of};
+use dm_ctok::{Constant, Suffix, character_constant, ctokens, integer_constant, kind_of};
 use dm_int::Kind;
 use dm_token::{
     CToken, Class, List, Mark, Place, PpKind, PpToken, Refusal, Stop, Text, Token, Trail,

@@ -1,5 +1,5 @@
-use crate::first;
 use dm_core::{Term, outcome};
+use dm_plan::first;
 use dm_token::{Stop, source_length_limit};
 use std::alloc::{AllocError, Global};
 use std::test::Fail;

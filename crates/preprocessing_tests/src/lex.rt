@@ -2,7 +2,7 @@
 
 mod slow;
 
-use super::{one_token, tokens};
+use dm_lex::{one_token, tokens};
 use dm_phase::flatten;
 use dm_token::{PpKind, PpToken, Refusal, Stop, Text, source_length_limit};
 use std::alloc::{AllocError, Global};

@@ -1,9 +1,9 @@
 //! Worked edits.
 
-ghost use Rattle.dm_edit.specs.Cuts.{LiesIn};
+ghost use Rattle.std.specs.Prelude.{◌≡◌};
+ghost use Rattle.dm_edit.specs.Cuts.{is_blank, LiesIn};
 
-use crate::editing::is_blank;
-use crate::{As, Change, edit};
+use dm_edit::{As, Change, edit};
 use dm_token::{Definition, List, Origin, Place, PpKind, PpToken, Text};
 use std::process::Abort;
 use std::test::Fail;
@@ -59,6 +59,13 @@ fn edited<R: Abort + AllocGlobal>(
     };
     expect_definition(rt, bytes, &change.definition);
     Ok(edit(rt.alloc(), bytes, &change)?)
+}
+
+/// Whether a byte is a space or a tab.
+fn is_blank(byte: u8) -> bool
+    ensures { result ≡ is_blank byte }
+{
+    byte == b' ' || byte == b'\t'
 }
 
 /// Checks that a definition lies in the bytes.

@@ -1,8 +1,8 @@
-//! Each public call once, those that take memory at a great size, and a type that holds itself.
+//! Each public call of `dm_token` once, those that take memory at a great size, and a type that holds itself.
 
 ghost use Rattle.std.specs.Prelude.{◌≡◌, [], ◌∷◌, IfOk};
 
-use crate::{
+use dm_token::{
     Boxed, Buffer, List, Mark, Memory, Place, PpKind, PpToken, Span, Text, Token, Trail,
     greatest_int, is_digit, is_normal_name, place_at, source_length_limit,
 };

@@ -3,7 +3,7 @@
 ghost use Rattle.std.specs.Prelude.{◌≤◌};
 ghost use Rattle.dm_gen.specs.Generated.{greatest_count};
 
-use crate::generated;
+use dm_gen::generated;
 use dm_token::Text;
 use std::process::Abort;
 use std::test::Fail;

@@ -1,4 +1,4 @@
-//! The crate's answers beside those of a C compiler.
+//! The answers of `dm_int` beside those of a C compiler.
 //!
 //! The tables were made with gcc 12.2 (`-std=c11`, x86-64) by two programs that print the value of each expression: `(T)v` and `T + U`'s type
 //! for all kinds, and each operator on all pairs of the values at the borders of a promoted kind. Those ran under
@@ -8,7 +8,10 @@
 ghost use Rattle.std.specs.Prelude.{IsTrue};
 ghost use Rattle.dm_int.specs.Kinds as kinds;
 
-use super::*;
+use dm_int::{
+    Fault, Kind, Op, binary, common, complement, convert, from_number, greatest, least, negate,
+    promote, size,
+};
 use std::process::Abort;
 
 // What gcc gives on the values of two kinds of one size and signedness, or of one kind twice. A letter is a place in `results`,

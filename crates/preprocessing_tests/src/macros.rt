@@ -1,7 +1,7 @@
 //! Lines that are made by hand. In a line the tokens stand behind a blank, or behind a backquote where no white
 //! space stands before them, and the place of a token is its number.
 
-use crate::MacroTable;
+use dm_macro::MacroTable;
 use dm_spell::punctuators;
 use dm_token::{Memory, Origin, Place, PpKind, PpToken, Refusal, Stop, Text};
 use std::alloc::Global;

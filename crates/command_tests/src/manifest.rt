@@ -1,6 +1,6 @@
 //! Worked manifests, and one table for each fault. In the texts a backquote stands for a quotation mark.
 
-use super::{ManifestFault, manifest};
+use dm_manifest::{ManifestFault, manifest};
 use dm_token::{List, Memory, Text, Unit};
 use std::alloc::{AllocError, Global};
 use std::process::Abort;

@@ -4,8 +4,8 @@ ghost use Rattle.std.specs.Prelude.{◌↔◌, IsTrue, length, All};
 ghost use Rattle.std.specs.Str.{IsAscii};
 ghost use Rattle.dm_report.specs.Plans.{HasAsciiName, IsKnown, IsKnownFate};
 
-use crate::{json, text};
 use dm_edit::{As, Entry, Fate, Plan};
+use dm_report::{json, text};
 use dm_token::{Definition, List, Origin, Place, Text};
 use std::process::Abort;
 use std::test::Fail;

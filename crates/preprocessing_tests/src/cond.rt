@@ -2,7 +2,7 @@
 //! what gcc computes and is refused here: the shifts that 6.5.7 leaves undefined, the remainder that 6.5.5p6 does, a
 //! constant with an encoding prefix, and one of two characters.
 
-use crate::condition;
+use dm_cond::condition;
 use dm_token::{List, Place, PpKind, PpToken, Refusal, Stop, Text, Token, Trail};
 use std::alloc::Global;
 use std::process::Abort;

@@ -1,6 +1,6 @@
 //! Scopes as in 6.2.1, and many of them.
 
-use crate::Scopes;
+use dm_scope::Scopes;
 use dm_token::{Memory, Text};
 use std::alloc::Global;
 use std::test::Fail;

@@ -6,7 +6,7 @@ ghost use Rattle.std.specs.Prelude.{◌↔◌, IsTrue, Some};
 ghost use Rattle.dm_io.specs.Files.{HasFile};
 ghost use Rattle.dm_io.specs.MemoryFolder.{files_of};
 
-use crate::{Folder, Got, MemoryFolder, MemorySink, Sink};
+use dm_io::{Folder, Got, MemoryFolder, MemorySink, Sink};
 use dm_token::{List, Text};
 use std::process::Abort;
 use std::test::Fail;

@@ -2,7 +2,7 @@
 
 mod slow;
 
-use super::{Character, flatten};
+use dm_phase::{Character, flatten};
 use dm_token::{Place, Refusal, Stop, source_length_limit};
 use std::alloc::{AllocError, Global};
 use std::process::Abort;

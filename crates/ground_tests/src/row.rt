@@ -1,6 +1,6 @@
 //! Rows as a machine with two stacks would use them.
 
-use crate::{Item, Row};
+use dm_row::{Item, Row};
 use dm_token::Memory;
 use std::alloc::Global;
 use std::test::Fail;

@@ -1,7 +1,7 @@
 ghost use Rattle.std.specs.Prelude.{◌≡◌, IfOk, map};
 ghost use Rattle.dm_core.specs.declared.form.Term.TheVariants.{Number};
 
-use crate::{First, Named, Term, outcome};
+use dm_core::{First, Named, Term, outcome};
 use dm_token::{List, Text};
 use std::alloc::{AllocError, Global};
 use std::test::Fail;
