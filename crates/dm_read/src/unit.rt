@@ -7,6 +7,7 @@ ghost use Rattle.dm_io.specs.Faults.{Rose};
 ghost use Rattle.dm_io.specs.Files.{Files};
 ghost use Rattle.dm_unit.specs.Loaders.{Grows, WasUnknown, stopped_at, most_names};
 ghost use Rattle.dm_unit.specs.Units.{setting_of};
+ghost use Rattle.dm_unit.specs.Views.{StaysServed};
 ghost use Rattle.dm_tree.specs.TypeNumbers.{IsTypedUnit};
 ghost use Rattle.dm_reading.specs.Layered.{IsLayered};
 ghost use Rattle.dm_read.specs.Reading.{IsReading};
@@ -42,6 +43,8 @@ pub fn read_unit<F: Folder, L: Ledger>(
     ensures well_typed { IfOk result (λ given. IsTypedUnit given.types given.core) }
     // What the loader knows stays known, and each new name's file is held, apart from that of a stop.
     ensures loader { result ≢ Err Memory → Grows (stopped_at result) loader.old loader.new }
+    // Where the folder tells its files, the loader holds what it read of them.
+    ensures served { StaysServed (F.files folder.old) loader.old loader.new }
 
     // A fault has its cause outside, and names a file of which nothing was known.
     ensures failed { (file : ℕ) → result ≡ Err (ReadFault file) → Rose (F.faults folder.old) (F.faults folder.new) }

@@ -1,11 +1,11 @@
 mod ConditionLemmas
 mod DefinitionLemmas
-mod FileLemmas
-mod GrowLemmas
+pub mod FileLemmas
+pub mod GrowLemmas
 mod LeaveLemmas
 mod LineLemmas
-mod ListLemmas
-mod NameLemmas
+pub mod ListLemmas
+pub mod NameLemmas
 pub mod OutcomeLemmas
 mod PartLemmas
 mod PlaceLemmas

@@ -6,7 +6,7 @@ use dm_token::PpToken;
 
 /// A directive (6.10p1), by its name.
 #[derive(Clone, Copy, Debug, PartialEq, Eq)]
-pub(crate) enum Directive {
+pub enum Directive {
     If,
     Ifdef,
     Ifndef,

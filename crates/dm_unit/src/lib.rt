@@ -13,7 +13,7 @@ ghost use Rattle.dm_unit.specs.Outcomes.{seeing, Agree, IsLike};
 ghost use Rattle.dm_unit.specs.Loaders.{Grows, WasUnknown, shown, stopped_at, most_names};
 ghost use Rattle.dm_unit.specs.Readings.{ReadsPart, ReadsFile, ReadsMain, ReadsUnit, DoesManifests, Enters};
 ghost use Rattle.dm_unit.specs.Units.{IsReadAs, setting_of};
-ghost use Rattle.dm_unit.specs.Views.{IsFaultless, state_of, Does, Serves, Leaves, stop_of, IsHeld, part_of, held_tokens, HoldsMain, NamesMain, IsCounted, Follows, FollowsPart};
+ghost use Rattle.dm_unit.specs.Views.{IsFaultless, state_of, Does, Serves, Leaves, stop_of, IsHeld, part_of, held_tokens, HoldsMain, NamesMain, IsCounted, Follows, FollowsPart, StaysServed};
 
 mod condition;
 mod conditional;
@@ -31,6 +31,7 @@ mod text;
 
 use conditional::end;
 use definition::{define_of_manifest, first_place};
+pub use directive::Directive;
 use dm_io::Folder;
 use dm_search::Loader;
 use dm_token::{MOST_NESTED, Stop, Text, Unit, UnitTokens, limit_numbers, refusals};
@@ -39,6 +40,7 @@ use include::{is_passed, load_main};
 use part::{part_length, read_part, tokens_of};
 use reader::Reader;
 use section::Sections;
+pub use section::{Section, Stage};
 use std::alloc::Global;
 use std::mem;
 use stops::{passed, refused};
@@ -63,6 +65,9 @@ pub fn unit_tokens<F: Folder>(
 
     // What the loader knows stays known, and each new name's file is held, apart from that of a stop.
     ensures loader { result ≢ Err Memory → Grows (stopped_at result) loader.old loader.new }
+
+    // Where the folder tells its files, the loader holds what it read of them.
+    ensures served { StaysServed (F.files folder.old) loader.old loader.new }
 
     // A fault has its cause outside, and names a file of which nothing was known.
     ensures failed { (file : ℕ) → result ≡ Err (ReadFault file) → Rose (F.faults folder.old) (F.faults folder.new) }

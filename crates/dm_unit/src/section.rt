@@ -10,7 +10,7 @@ use std::marker::Model;
 
 /// How far an if-section has come.
 #[derive(Clone, Copy, Debug, PartialEq, Eq)]
-pub(crate) enum Stage {
+pub enum Stage {
     /// Its present group is read, and no later one will be.
     Read,
     /// No group of it was read yet, and a later one may be.
@@ -21,7 +21,7 @@ pub(crate) enum Stage {
 
 /// An if-section that is open.
 #[derive(Clone, Copy, Debug, PartialEq, Eq)]
-pub(crate) struct Section {
+pub struct Section {
     /// The place of the `#` of its `if`, `ifdef` or `ifndef`.
     pub hash: Place,
     pub stage: Stage,
