@@ -1,0 +1,6 @@
+mod CatalogueLemmas
+mod ExpansionLemmas
+mod KeptLemmas
+mod OrderLemmas
+mod StayLemmas
+mod TokenLemmas

@@ -1,0 +1,64 @@
+//! What edits and later readings leave of a reading.
+
+ghost use Rattle.std.specs.Prelude.{◌≡◌, ℕ, false, true, List, Option, Ok};
+ghost use Rattle.dm_token.specs.declared.unit.Unit.{Unit as Source};
+ghost use Rattle.dm_io.specs.Files.{Files};
+ghost use Rattle.dm_search.specs.CallFiles.{file_for};
+ghost use Rattle.dm_search.specs.Loaded.{Loaded, is_held, with_bytes};
+ghost use Rattle.dm_unit.specs.Loaders.{Grows, shown};
+ghost use Rattle.dm_unit.specs.Readings.{is_among};
+ghost use Rattle.dm_unit.specs.Units.{setting_of};
+ghost use Rattle.dm_reading.specs.declared.reading.Reading.{Reading};
+ghost use Rattle.dm_read.specs.Reading.{IsReading, AreOneReading};
+ghost use Rattle.dm_local.specs.Kept.{IsOfLoader, IsReadBy, Keeps};
+ghost use Rattle.dm_local.specs.Order.{AreAscending};
+
+use dm_read::one_reading_of_unit;
+
+/// A reading of a unit stays when other files change and when more files are known: a loader that keeps what was known, and the bytes of
+/// the files that the reading reads, comes to the same reading, and learns nothing from it.
+pub fn readings_stay()
+    ensures { (before after : Files) (unit : Source) (old new known : Loaded) (reading : Reading) →
+        IsReading (setting_of old new before unit) unit old (Ok reading) new → IsOfLoader old →
+        Keeps reading.pp.files before after old new known → IsReadBy known after unit reading }
+{}
+
+/// So the reading of a unit is its reading by any later loader that has grown from there over the same files.
+pub fn readings_stay_known()
+    ensures { (files : Files) (unit : Source) (old new known : Loaded) (reading : Reading) (apart : Option ℕ) →
+        IsReading (setting_of old new files unit) unit old (Ok reading) new → IsOfLoader old →
+        Grows apart new known → ((name : List ℕ) → file_for known files name ≡ file_for old files name) →
+        IsReadBy known files unit reading }
+{}
+
+/// So an edit of a file that a unit doesn't read leaves its reading as it is.
+pub fn readings_stay_where_not_edited()
+    ensures { (files : Files) (unit : Source) (known : Loaded) (reading : Reading) (file : ℕ) (bytes : List ℕ) →
+        IsReadBy known files unit reading → IsOfLoader known → is_held known file ≡ true →
+        is_among file reading.pp.files ≡ false → IsReadBy (with_bytes known file bytes) files unit reading }
+{}
+
+/// The folder's files don't matter to a loader that knows all that it looks for.
+pub fn readings_hang_on_the_loader()
+    ensures { (files others : Files) (unit : Source) (known : Loaded) (reading : Reading) →
+        IsReadBy known files unit reading → IsOfLoader known → IsReadBy known others unit reading }
+{}
+
+/// Where a unit is read again by such a loader, the reading is the same, and the loader knows the same files.
+pub fn readings_learn_nothing()
+    ensures again { (files : Files) (unit : Source) (known new : Loaded) (reading again : Reading) →
+        IsReadBy known files unit reading → IsReading (setting_of known new files unit) unit known (Ok again) new →
+        AreOneReading (Ok reading) (Ok again) }
+    ensures learned { (files : Files) (unit : Source) (known new : Loaded) (reading again : Reading) →
+        IsReadBy known files unit reading → IsReading (setting_of known new files unit) unit known (Ok again) new →
+        shown new ≡ shown known }
+{
+    // The law on which its proof rests.
+    one_reading_of_unit();
+}
+
+/// The expansions of a unit have numbers that ascend: they are listed in the order in which they begin.
+pub fn expansions_ascend()
+    ensures { (files : Files) (unit : Source) (old new : Loaded) (reading : Reading) →
+        IsReading (setting_of old new files unit) unit old (Ok reading) new → IsOfLoader old → AreAscending 0 reading.pp.expansions }
+{}
