@@ -15,7 +15,7 @@ use Rattle.dm_meaning.specs.Steps.{given_from, opened_frame, opened_memory}
 use Rattle.dm_meaning.specs.Units.{static_numbers, zeroed_from, initialised, all_initialised, statics_memory, arguments_for, start, Begins}
 use Rattle.dm_meaning.specs.Values.{Value}
 use Rattle.dm_meaning.proofs.GrowLemmas.{made_changed, made_added, made_itself}
-use Rattle.dm_central.specs.Waiting.{FrameHas, IsEntry, AreOwn, IsWaiting}
+use Rattle.dm_central.specs.Waiting.{any_name, any_run, FrameHas, IsEntry, AreOwn, IsWaiting}
 use Rattle.dm_central.proofs.ShapeLemmas.{items_have_none}
 use Rattle.dm_central.proofs.WaitingLemmas.{Beyond, all_more}
 
@@ -77,7 +77,7 @@ module _ (program : Program) (names : ℕ → ℕ) (fresh : IsFresh names []) wh
 
   pub own_statics : AreOwn [] [] (named_from names 0 (static_numbers program.statics) []) × Beyond names [] (length program.statics) (named_from names 0 (static_numbers program.statics) [])
   own_statics =
-      all_more names [] fresh [] [] none_older 0 (static_numbers program.statics) [] (record { apart = λ x y k l e. no_entry x k; missing = λ w l n k. absurd k }) (λ k later entry l e. no_entry entry l) (length program.statics)
+      all_more names [] fresh [] [] none_older 0 (static_numbers program.statics) [] (record { apart = λ x y k l e. no_entry x k; local = λ x y k l e. absurd k; missing = λ w l n k. absurd k }) (λ k later entry l e. no_entry entry l) (length program.statics)
       (subst (λ n. 0 + n ≤ length program.statics) (sym (numbers_count program.statics)) (at_zero (length program.statics)))
     where
       at_zero : (n : ℕ) → 0 + n ≤ n
@@ -97,11 +97,11 @@ module _ (program : Program) (names : ℕ → ℕ) (fresh : IsFresh names []) wh
   own_frame main =
       let items = parts_of main.body in
       let others_fresh : IsFresh others [] = (λ i j e. same_rest (length program.statics) i j (fresh.0 (suc (length program.statics) + i) (suc (length program.statics) + j) e), λ i. refl) in
-      let first = all_more others [] others_fresh statics [] none_older 0 main.parameters [] (record { apart = λ x y k l e. own_statics.0.apart x y (static_entry x k) (static_entry y l) e; missing = λ w l n k. absurd k })
+      let first = all_more others [] others_fresh statics [] none_older 0 main.parameters [] (record { apart = λ x y k l e. own_statics.0.apart x y (static_entry x k) (static_entry y l) e; local = λ x y k l e. absurd l; missing = λ w l n k. absurd k })
       (λ k later entry l e. own_statics.1 (suc (length program.statics) + k) (further (length program.statics) k) entry (static_entry entry l) e) (length main.parameters) (at_zero (length main.parameters)) in
       let second = all_more others [] others_fresh statics [] none_older (length main.parameters) (declared_in program items) (named_from others 0 main.parameters []) first.0 first.1
       (length main.parameters + length (declared_in program items)) (itself (length main.parameters + length (declared_in program items))) in
-      (second.0, items_have_none program (AreOwn statics []) items)
+      (second.0, items_have_none program (AreOwn statics []) any_name any_run items)
     where
       at_zero : (n : ℕ) → 0 + n ≤ n
       at_zero n = omega arith

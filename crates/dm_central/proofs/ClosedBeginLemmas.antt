@@ -18,6 +18,7 @@ use Rattle.dm_meaning.proofs.SpareStateLemmas.{settled_beginnings}
 use Rattle.dm_rewrite.specs.ClosedStates.{ProgramNamesOnly, OnlyNames, IsUnreached}
 use Rattle.dm_rewrite.proofs.ClosedStartLemmas.{unreached_start}
 use Rattle.dm_central.specs.ClosedFrames.{AreClosedIn, AreAllClosed}
+use Rattle.dm_central.specs.Waiting.{any_name, any_run}
 use Rattle.dm_central.proofs.BeginLemmas.{made_opened, own_statics, own_frame, begins_waiting}
 use Rattle.dm_central.proofs.ClosedFrameLemmas.{from_named, only_from}
 use Rattle.dm_central.proofs.ShapeLemmas.{items_have_none}
@@ -100,7 +101,7 @@ module _ (program : Program) (test : ℕ → Bool) (all : (d : ℕ) → test d �
     unmade = begins_unmade statics own;
     frame = (
       λ entry l picked. record { made = own entry.1 (among-map (λ (x : ℕ × ℕ). x.1) entry first.frame.objects l); unreached = begins_own entry l picked },
-      items_have_none program (AreClosedIn test first) (parts_of main.body),
+      items_have_none program (AreClosedIn test first) any_name any_run (parts_of main.body),
     );
     callers = tt;
   }

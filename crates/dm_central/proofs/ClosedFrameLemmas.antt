@@ -8,40 +8,56 @@ use Rattle.dm_meaning.specs.Memory.{look_up}
 use Rattle.dm_meaning.specs.MoreObjects.{IsMade, ObjectsMade}
 use Rattle.dm_meaning.specs.Operations.{World, Objects}
 use Rattle.dm_meaning.specs.Programs.{Program, Definition}
-use Rattle.dm_meaning.specs.States.{Task, begins, declares, initials, evaluates, again, tests, ends, ends_switch, leaves, skips, hands_back, Frame, Caller, State}
+use Rattle.dm_meaning.specs.Running.{Run}
+use Rattle.dm_meaning.specs.States.{Use, drops, chooses, selects, repeats, continues, returns, initialises, Task, begins, declares, initials, evaluates, again, tests, ends, ends_switch, leaves, skips, hands_back, Frame, Caller, State}
 use Rattle.dm_meaning.specs.Statements.{declared_in, named_from, entered}
 use Rattle.dm_meaning.specs.Steps.{opened_frame, Step}
 use Rattle.dm_meaning.proofs.AmongLemmas.{among-map}
 use Rattle.dm_meaning.proofs.OptionLemmas.{none_is_some}
+use Rattle.dm_meaning.specs.Values.{Name}
 use Rattle.dm_rewrite.specs.ClosedStates.{ProgramNamesOnly, OnlyNames, IsUnreached, IsClosedState}
 use Rattle.dm_rewrite.proofs.ClosedStateLemmas.{unreached_step}
 use Rattle.dm_central.specs.ClosedFrames.{CallersHave, AreClosedIn, AreAllClosed}
-use Rattle.dm_central.specs.Waiting.{TaskHas, TasksHave, FrameHas, AreOwn}
+use Rattle.dm_central.specs.Waiting.{UseHas, TaskKeeps, TasksKeep, FrameKeeps, any_name, any_run, FrameHas, AreOwn}
 use Rattle.dm_central.proofs.BehindLemmas.{never_made}
-use Rattle.dm_central.proofs.ShapeLemmas.{Shape, step_shape, items_have_none}
+use Rattle.dm_central.proofs.ShapeLemmas.{items_have_none, Shape, any_use, objects_shape}
 
 -- ---- what holds of one list of objects, and so of another
 
-module _ (P Q : Objects → Type 0) (follows : (objects : Objects) → P objects → Q objects) where
-  task_follows : (task : Task) → TaskHas P task → TaskHas Q task
+module _ (P Q : Objects → Type 0) (M N : Name → Type 0) (R S : Run → Type 0) (follows : (objects : Objects) → P objects → Q objects) (names : (name : Name) → M name → N name)
+    (runs : (run : Run) → R run → S run) where
+  pub use_follows : (use_of : Use) → UseHas M use_of → UseHas N use_of
+  use_follows (initialises at kind) h = names at.name h
+  use_follows drops h = tt
+  use_follows (chooses first second) h = tt
+  use_follows (selects items) h = tt
+  use_follows (repeats loop) h = tt
+  use_follows (continues loop) h = tt
+  use_follows returns h = tt
+
+  task_follows : (task : Task) → TaskKeeps P M R task → TaskKeeps Q N S task
   task_follows (again objects loop) h = follows objects h
   task_follows (tests objects loop) h = follows objects h
   task_follows (ends objects) h = follows objects h
   task_follows (ends_switch objects) h = follows objects h
   task_follows (begins tree) h = tt
   task_follows (declares declarator expressions) h = tt
-  task_follows (initials at kind initialiser expressions) h = tt
-  task_follows (evaluates place run use_of) h = tt
+  task_follows (initials at kind initialiser expressions) h = names at.name h
+  task_follows (evaluates place run use_of) h = (runs run h.0, use_follows use_of h.1)
   task_follows leaves h = tt
   task_follows skips h = tt
   task_follows (hands_back value) h = tt
 
-  tasks_follow : (tasks : List Task) → TasksHave P tasks → TasksHave Q tasks
+  tasks_follow : (tasks : List Task) → TasksKeep P M R tasks → TasksKeep Q N S tasks
   tasks_follow [] h = tt
   tasks_follow (task ∷ tasks) h = (task_follows task h.0, tasks_follow tasks h.1)
 
-  frame_follows : (frame : Frame) → FrameHas P frame → FrameHas Q frame
-  frame_follows frame h = (follows frame.objects h.0, tasks_follow frame.tasks h.1)
+  pub all_follows : (frame : Frame) → FrameKeeps P M R frame → FrameKeeps Q N S frame
+  all_follows frame h = (follows frame.objects h.0, tasks_follow frame.tasks h.1)
+
+module _ (P Q : Objects → Type 0) (follows : (objects : Objects) → P objects → Q objects) where
+  pub frame_follows : (frame : Frame) → FrameHas P frame → FrameHas Q frame
+  frame_follows frame h = all_follows P Q any_name any_name any_run any_run follows (λ name k. k) (λ run k. k) frame h
 
   callers_follow : (callers : List Caller) → CallersHave P callers → CallersHave Q callers
   callers_follow [] h = tt
@@ -101,7 +117,7 @@ module _ (program : Program) (test : ℕ → Bool) (all : (d : ℕ) → test d �
       by_origin (inr (j, e)) = new_closed j entry e picked (subst (IsAmong entry) is l)
 
   opened_closed : (definition : Definition) → t.frame ≡ opened_frame program step.0 definition → FrameHas WereClosed (opened_frame program step.0 definition)
-  opened_closed definition is = (λ entry l picked. by_origin entry l picked (from_named step.0 count (declared_in program (parts_of definition.body)) given entry l), items_have_none program WereClosed (parts_of definition.body))
+  opened_closed definition is = (λ entry l picked. by_origin entry l picked (from_named step.0 count (declared_in program (parts_of definition.body)) given entry l), items_have_none program WereClosed any_name any_run (parts_of definition.body))
     where
       count : ℕ
       count = length definition.parameters
@@ -119,7 +135,7 @@ module _ (program : Program) (test : ℕ → Bool) (all : (d : ℕ) → test d �
           by_parameter (inr (j, e)) = new_closed j entry e picked (subst (λ (frame : Frame). IsAmong entry frame.objects) (sym is) l)
 
   -- the frames behind the step
-  frames_closed : Shape program WereClosed step.0 s t → FrameHas WereClosed t.frame × CallersHave WereClosed t.callers
+  frames_closed : Shape program WereClosed any_name any_run step.0 s t → FrameHas WereClosed t.frame × CallersHave WereClosed t.callers
   frames_closed (inl k) =
       (k.frame, subst (CallersHave WereClosed) (sym k.callers) (callers_follow (AreClosedIn test s) WereClosed were_closed s.callers h.callers))
   frames_closed (inr (inl k)) = (
@@ -128,7 +144,7 @@ module _ (program : Program) (test : ℕ → Bool) (all : (d : ℕ) → test d �
   )
   frames_closed (inr (inr k)) =
       let waited = callers_follow (AreClosedIn test s) WereClosed were_closed (k.caller ∷ k.behind) (subst (CallersHave (AreClosedIn test s)) k.was h.callers) in (
-        subst (FrameHas WereClosed) (sym k.frame) (waited.0.0, (tt, waited.0.1)),
+        subst (FrameHas WereClosed) (sym k.frame) (waited.0.0, ((tt, any_use k.caller.use_of), waited.0.1)),
         subst (CallersHave WereClosed) (sym k.callers) waited.1,
       )
 
@@ -144,7 +160,7 @@ module _ (program : Program) (test : ℕ → Bool) (all : (d : ℕ) → test d �
 
   pub all_closed_later : AreAllClosed test t
   all_closed_later =
-      let frames = frames_closed (step_shape program WereClosed (λ objects. objects ≡ t.frame.objects) s t step
+      let frames = frames_closed (objects_shape program WereClosed (λ objects. objects ≡ t.frame.objects) s t step
       (frame_follows (AreClosedIn test s) WereClosed were_closed s.frame h.frame) entered_closed refl) in record {
         unmade = still_unmade;
         frame = frame_follows WereClosed (AreClosedIn test t) are_closed t.frame frames.0;

@@ -20,11 +20,11 @@ use Rattle.dm_rewrite.specs.Effects.{Stage}
 use Rattle.dm_rewrite.specs.KeptMemory.{HasSameObjects, emptied_block, emptied}
 use Rattle.dm_rewrite.proofs.FrameChangeLemmas.{usable_made, changes_opened}
 use Rattle.dm_central.specs.StateAgreement.{worlds_after}
-use Rattle.dm_central.specs.Waiting.{FrameHas, IsEntry, AreOwn, HasLasted, CallersOwn, IsWaiting}
+use Rattle.dm_central.specs.Waiting.{any_name, any_run, FrameHas, IsEntry, AreOwn, HasLasted, CallersOwn, IsWaiting}
 use Rattle.dm_central.proofs.BehindLemmas.{never_made}
 use Rattle.dm_central.proofs.LastLemmas.{step_lasts}
 use Rattle.dm_central.proofs.OutcomeLemmas.{changes_none}
-use Rattle.dm_central.proofs.ShapeLemmas.{Stays, Called, Returned, Shape, step_shape, items_have_none}
+use Rattle.dm_central.proofs.ShapeLemmas.{items_have_none, Stays, Called, Returned, Shape, any_use, objects_shape}
 use Rattle.dm_central.proofs.TopLemmas.{same_worlds, more_worlds, fewer_worlds}
 
 -- ---- new objects
@@ -47,6 +47,7 @@ module _ (names : ℕ → ℕ) (memory : Memory) (fresh : IsFresh names memory) 
   one_more i d objects own beyond = (
     record {
       apart = λ x y k l e. by_entries x y k l e;
+      local = λ x y k l e. by_local x y k l e;
       missing = λ start l n k. by_number start l n k;
     },
     λ k later entry l e. still_beyond k later entry l e,
@@ -68,6 +69,10 @@ module _ (names : ℕ → ℕ) (memory : Memory) (fresh : IsFresh names memory) 
           by_both (inl f) (inr g) = absurd (beyond i (same_index i) y g (sym e ∙ ap (λ (z : ℕ × ℕ). z.1) f))
           by_both (inr f) (inl g) = absurd (beyond i (same_index i) x f (e ∙ ap (λ (z : ℕ × ℕ). z.1) g))
           by_both (inr f) (inr g) = own.apart x y f g e
+
+      by_local : (x y : ℕ × ℕ) → IsAmong x statics → IsAmong y ((d, names i) ∷ objects) → x.1 ≡ y.1 → ⊥
+      by_local x y k (inl f) e = beyond i (same_index i) x (inl k) (e ∙ ap (λ (z : ℕ × ℕ). z.1) f)
+      by_local x y k (inr l) e = own.local x y k l e
 
       by_number : (start : World) → IsAmong start starts → (n : ℕ) → IsAmong n (numbers_of ((d, names i) ∷ objects)) → look_up start.memory n ≡ None
       by_number start l n (inl e) = never_made start.memory memory n (older start l n) (ap (look_up memory) e ∙ fresh.1 i)
@@ -142,7 +147,7 @@ module _ (program : Program) (s t : State) (step : Step program s t) (made : (n 
     statics_later : t.statics ≡ s.statics → ObjectsMade t.world.memory t.statics
     statics_later e n l = made n (waiting.statics n (subst (λ (os : Objects). IsAmong n (numbers_of os)) e l))
 
-    stays : Stays program Own s t → IsWaiting (worlds_after starts s.world s.callers t.callers) t
+    stays : Stays program Own any_name any_run s t → IsWaiting (worlds_after starts s.world s.callers t.callers) t
     stays h =
         subst (λ cs. IsWaiting (worlds_after starts s.world s.callers cs) t) (sym h.callers)
         (subst (λ ws. IsWaiting ws t) (sym (same_worlds starts s.world s.callers)) (record {
@@ -161,11 +166,11 @@ module _ (program : Program) (s t : State) (step : Step program s t) (made : (n 
         let items = parts_of definition.body in
         let all_older : (start : World) → IsAmong start (s.world ∷ starts) → (n : ℕ) → IsMade start.memory n → IsMade s.world.memory n =
         λ start l n k. older_than start l n k in
-        let none : AreOwn s.statics (s.world ∷ starts) [] = record { apart = λ x y k l e. waiting.frame.0.apart x y (static_entry x k) (static_entry y l) e; missing = λ start l n k. absurd k } in
+        let none : AreOwn s.statics (s.world ∷ starts) [] = record { apart = λ x y k l e. waiting.frame.0.apart x y (static_entry x k) (static_entry y l) e; local = λ x y k l e. absurd l; missing = λ start l n k. absurd k } in
         let first = all_more step.0 s.world.memory step.1 s.statics (s.world ∷ starts) all_older 0 definition.parameters [] none (made_beyond step.0 s.world.memory step.1 s.statics [] waiting.statics (λ n k. absurd k)) (length definition.parameters) (at_zero (length definition.parameters)) in
         let second = all_more step.0 s.world.memory step.1 s.statics (s.world ∷ starts) all_older (length definition.parameters) (declared_in program items) (named_from step.0 0 definition.parameters []) first.0 first.1
         (length definition.parameters + length (declared_in program items)) (itself (length definition.parameters + length (declared_in program items))) in
-        (second.0, items_have_none program (AreOwn s.statics (s.world ∷ starts)) items)
+        (second.0, items_have_none program (AreOwn s.statics (s.world ∷ starts)) any_name any_run items)
       where
         at_zero : (n : ℕ) → 0 + n ≤ n
         at_zero n = omega arith
@@ -181,7 +186,7 @@ module _ (program : Program) (s t : State) (step : Step program s t) (made : (n 
         static_entry x (inl k) = inl k
         static_entry x (inr k) = absurd k
 
-    calls : Called program Own step.0 s t → IsWaiting (worlds_after starts s.world s.callers t.callers) t
+    calls : Called program Own any_name any_run step.0 s t → IsWaiting (worlds_after starts s.world s.callers t.callers) t
     calls h =
         subst (λ cs. IsWaiting (worlds_after starts s.world s.callers cs) t) (sym h.callers)
         (subst (λ ws. IsWaiting ws t) (sym (more_worlds starts s.world s.callers h.caller)) (record {
@@ -202,7 +207,7 @@ module _ (program : Program) (s t : State) (step : Step program s t) (made : (n 
         by_start start (inr l) = all_since start l
 
     -- a function returns
-    returned : Returned program Own s t → IsWaiting (worlds_after starts s.world s.callers t.callers) t
+    returned : Returned program Own any_name any_run s t → IsWaiting (worlds_after starts s.world s.callers t.callers) t
     returned h = by_starts starts refl (subst (CallersOwn s.statics starts) h.was waiting.callers)
       where
         by_starts : (ws : List World) → starts ≡ ws → CallersOwn s.statics ws (h.caller ∷ h.behind) → IsWaiting (worlds_after starts s.world s.callers t.callers) t
@@ -213,16 +218,16 @@ module _ (program : Program) (s t : State) (step : Step program s t) (made : (n 
             (subst (λ ws. IsWaiting (worlds_after ws s.world (h.caller ∷ h.behind) h.behind) t) (sym e)
             (subst (λ ws. IsWaiting ws t) (sym (fewer_worlds start more s.world h.behind h.caller)) (record {
               statics = statics_later h.statics;
-              frame = subst (λ (os : Objects). FrameHas (AreOwn os more) t.frame) (sym h.statics) (subst (FrameHas (AreOwn s.statics more)) (sym h.frame) (k.0.0, (tt, k.0.1)));
+              frame = subst (λ (os : Objects). FrameHas (AreOwn os more) t.frame) (sym h.statics) (subst (FrameHas (AreOwn s.statics more)) (sym h.frame) (k.0.0, ((tt, any_use h.caller.use_of), k.0.1)));
               callers = subst (λ (os : Objects). CallersOwn os more t.callers) (sym h.statics) (subst (CallersOwn s.statics more) (sym h.callers) k.1);
               since = λ one l. all_since one (subst (IsAmong one) (sym e) (inr l));
             }))))
 
     -- each step leaves them waiting
     pub waiting_later : IsWaiting (worlds_after starts s.world s.callers t.callers) t
-    waiting_later = by_shape (step_shape program Own (λ objects. Unit {0}) s t step waiting.frame (λ items q. entered_own items) tt)
+    waiting_later = by_shape (objects_shape program Own (λ objects. Unit {0}) s t step waiting.frame (λ items q. entered_own items) tt)
       where
-        by_shape : Shape program Own step.0 s t → IsWaiting (worlds_after starts s.world s.callers t.callers) t
+        by_shape : Shape program Own any_name any_run step.0 s t → IsWaiting (worlds_after starts s.world s.callers t.callers) t
         by_shape (inl h) = stays h
         by_shape (inr (inl h)) = calls h
         by_shape (inr (inr h)) = returned h

@@ -11,3 +11,4 @@ pub mod StateAgreement
 pub mod Waiting
 pub mod Examples
 pub mod ClosedFrames
+pub mod LeftAlone

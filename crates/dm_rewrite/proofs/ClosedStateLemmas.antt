@@ -599,7 +599,7 @@ module _ (n d : ℕ) where
   continued_waits saved loop rest o h w (Some after) k = (((after, refl, k), h), w)
   continued_waits saved loop rest o h w None k = tested_waits saved loop rest o h w loop.condition h.0
 
-  unfolded_closed : (objects : Objects) → OnlyNames n d objects → (tasks : List Task) → AreTasksClosed n d objects tasks → AreTasksClosed n d objects (unfolded tasks)
+  pub unfolded_closed : (objects : Objects) → OnlyNames n d objects → (tasks : List Task) → AreTasksClosed n d objects tasks → AreTasksClosed n d objects (unfolded tasks)
   unfolded_closed objects only [] h = tt
   unfolded_closed objects only (tests saved loop ∷ rest) h =
       all_waited objects only (tested saved loop rest loop.condition) (tested_waits saved loop rest h.0.0 h.0.1 h.1 loop.condition h.0.1.0)

@@ -11,7 +11,7 @@ pub mod ShrinkEffectLemmas
 pub mod ClosedStateLemmas
 pub mod ClosedStartLemmas
 pub mod FrameChangeLemmas
-mod StepEffectLemmas
+pub mod StepEffectLemmas
 mod NamedConstantLemmas
 mod NamedStatementLemmas
 mod NamedSizeLemmas
@@ -22,4 +22,4 @@ mod NamedStartLemmas
 mod NamedUnitLemmas
 mod NamedExample
 mod CountExample
-mod UnnamedLemmas
+pub mod UnnamedLemmas
