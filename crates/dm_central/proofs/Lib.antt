@@ -36,3 +36,4 @@ mod WholeLemmas
 mod TwiceExample
 mod ClosedFrameLemmas
 mod ClosedBeginLemmas
+mod LeftAloneLemmas

@@ -75,6 +75,7 @@ module _ (program : Program) (P : Objects → Type 0) (N : Name → Type 0) (R :
     pub definition : Definition
     pub arguments : List Value
     pub callers : other.callers ≡ caller ∷ state.callers
+    pub objects : caller.frame.objects ≡ state.frame.objects
     pub waits : FrameKeeps P N R caller.frame
     pub use_of : UseHas N caller.use_of
     pub resumes : (value : Value) → R (filled_in caller.hole (done caller.kind (of_value value) []))
@@ -257,6 +258,7 @@ module _ (program : Program) (P : Objects → Type 0) (N : Name → Type 0) (R :
               definition = definition;
               arguments = arguments;
               callers = refl;
+              objects = refl;
               waits = (has.0, behind);
               use_of = used;
               resumes = resumes;

@@ -32,7 +32,8 @@ ghost use Rattle.dm_meaning.proofs.LikenessLemmas.{Likeness};
 ghost use Rattle.dm_central.specs.Added.{IsAdded};
 ghost use Rattle.dm_central.specs.Bodies.{Known, nothing_known, IsWholeProgram, CallsInPlace};
 ghost use Rattle.dm_central.specs.ClosedFrames.{AreAllClosed};
-ghost use Rattle.dm_central.specs.Waiting.{AreOwn};
+ghost use Rattle.dm_central.specs.LeftAlone.{AreLeftAlone};
+ghost use Rattle.dm_central.specs.Waiting.{AreOwn, IsWaiting};
 ghost use Rattle.dm_central.specs.StateAgreement.{TreeFits, RunFits, Related, Met as StateMet, IsSteady};
 ghost use Rattle.dm_central.specs.Agreement.{Entry, Mode, outside, inside, is_inside, IsReading, AreUnbegun, open_effects, beside_first, before_rest, BegunOutside, IsPassed, RunAgrees, RunsAgree};
 ghost use Rattle.dm_central.specs.Arguments.{ReadsApart, Way, untouched, AllFollowed, ReadsFirst, StandsOpen};
@@ -242,6 +243,14 @@ pub fn closed_objects_stay()
         → Step program state other → ((n : ℕ) → IsMade state.world.memory n → IsMade other.world.memory n)
         → AreOwn other.statics starts other.frame.objects → ObjectsMade other.world.memory other.frame.objects
         → AreAllClosed test state → AreAllClosed test other }
+{}
+
+/// Frames above leave these objects alone: no name stands for them there, no initialiser is one of theirs, and no full expression has an effect on
+/// them. So they hold what they held when the functions above were called.
+pub fn closed_objects_are_left_alone()
+    ensures begins { (program : Program) (test : ℕ → Bool) (input : List ℕ) (state : State) → Begins program input state → AreLeftAlone program test state }
+    ensures steps { (program : Program) (test : ℕ → Bool) (starts : List World) (state other : State) → Step program state other
+        → IsWaiting starts state → AreAllClosed test state → AreLeftAlone program test state → AreLeftAlone program test other }
 {}
 
 /// A program that calls an added function in place of its expression refines the program with the expression, with the arguments in it. An argument is
