@@ -37,3 +37,4 @@ mod TwiceExample
 mod ClosedFrameLemmas
 mod ClosedBeginLemmas
 mod LeftAloneLemmas
+mod KeptFrameLemmas

@@ -22,7 +22,7 @@ use Rattle.dm_meaning.specs.Values.{Name, numbered, At, Value, integer_value, un
 use Rattle.dm_meaning.proofs.AmongLemmas.{among-map_from}
 use Rattle.dm_meaning.proofs.FormLemmas.{one_tree_has, first_tree_has, option_tree_has, if_tree_has}
 use Rattle.dm_meaning.proofs.StateLemmas.{from_steps}
-use Rattle.dm_central.specs.Waiting.{UseHas, TasksKeep, FrameKeeps, any_name, any_run}
+use Rattle.dm_central.specs.Waiting.{UseHas, TaskKeeps, TasksKeep, FrameKeeps, any_name, any_run}
 
 -- where this is known of the objects that the frame has then
 abbrev TurnedKeep : (Objects → Type 0) → (Name → Type 0) → (Run → Type 0) → (Objects → Type 0) → Turned → Type 0
@@ -319,6 +319,14 @@ any_use (selects items) = tt
 any_use (repeats loop) = tt
 any_use (continues loop) = tt
 any_use returns = tt
+
+pub tasks_any : (tasks : List Task) → TasksKeep (λ objects. Unit {0}) any_name any_run tasks
+tasks_any [] = tt
+tasks_any (task ∷ tasks) = (task_any task, tasks_any tasks)
+  where
+    task_any : (task : Task) → TaskKeeps (λ objects. Unit {0}) any_name any_run task
+    task_any (evaluates place run use_of) = (tt, any_use use_of)
+    task_any task = tt
 
 pub objects_shape : (program : Program) (P Q : Objects → Type 0) (state other : State) (step : Step program state other) → FrameKeeps P any_name any_run state.frame
     → ((items : List Tree) → Q (entered program step.0 items state.frame.objects) → P (entered program step.0 items state.frame.objects)) → Q other.frame.objects → Shape program P any_name any_run step.0 state other

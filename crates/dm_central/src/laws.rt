@@ -32,9 +32,9 @@ ghost use Rattle.dm_meaning.proofs.LikenessLemmas.{Likeness};
 ghost use Rattle.dm_central.specs.Added.{IsAdded};
 ghost use Rattle.dm_central.specs.Bodies.{Known, nothing_known, IsWholeProgram, CallsInPlace};
 ghost use Rattle.dm_central.specs.ClosedFrames.{AreAllClosed};
-ghost use Rattle.dm_central.specs.LeftAlone.{AreLeftAlone};
+ghost use Rattle.dm_central.specs.LeftAlone.{AreLeftAlone, AreKept};
 ghost use Rattle.dm_central.specs.Waiting.{AreOwn, IsWaiting};
-ghost use Rattle.dm_central.specs.StateAgreement.{TreeFits, RunFits, Related, Met as StateMet, IsSteady};
+ghost use Rattle.dm_central.specs.StateAgreement.{TreeFits, RunFits, Related, worlds_after, Met as StateMet, IsSteady};
 ghost use Rattle.dm_central.specs.Agreement.{Entry, Mode, outside, inside, is_inside, IsReading, AreUnbegun, open_effects, beside_first, before_rest, BegunOutside, IsPassed, RunAgrees, RunsAgree};
 ghost use Rattle.dm_central.specs.Arguments.{ReadsApart, Way, untouched, AllFollowed, ReadsFirst, StandsOpen};
 ghost use Rattle.dm_central.specs.Apart.{ReadsFreeNames};
@@ -251,6 +251,10 @@ pub fn closed_objects_are_left_alone()
     ensures begins { (program : Program) (test : ℕ → Bool) (input : List ℕ) (state : State) → Begins program input state → AreLeftAlone program test state }
     ensures steps { (program : Program) (test : ℕ → Bool) (starts : List World) (state other : State) → Step program state other
         → IsWaiting starts state → AreAllClosed test state → AreLeftAlone program test state → AreLeftAlone program test other }
+    ensures kept { (program : Program) (test : ℕ → Bool) (state other : State) → Step program state other → AreLeftAlone program test state
+        → (starts : List World) → IsWaiting starts state → IsWaiting (worlds_after starts state.world state.callers other.callers) other
+        → AreKept program test state.statics starts state.callers state.world
+        → AreKept program test other.statics (worlds_after starts state.world state.callers other.callers) other.callers other.world }
 {}
 
 /// A program that calls an added function in place of its expression refines the program with the expression, with the arguments in it. An argument is
