@@ -26,7 +26,7 @@ use Rattle.dm_rewrite.proofs.ShrinkEffectLemmas.{run_calm}
 use Rattle.dm_rewrite.proofs.UnnamedLemmas.{begun_free}
 use Rattle.dm_central.specs.ClosedFrames.{CallersHave, AreClosedIn, AreAllClosed}
 use Rattle.dm_central.specs.LeftAlone.{IsUnnamed, stage_with, HasNoEffect, AllUnnamed, IsOther, HasNoEffects, FrameLeaves, CallerLeaves, IsPickedIn, IsClosedBelow, CallersLeave, AreLeftAlone}
-use Rattle.dm_central.specs.Waiting.{FrameKeeps, IsWaiting}
+use Rattle.dm_central.specs.Waiting.{AreOwn}
 use Rattle.dm_central.proofs.ClosedFrameLemmas.{from_named}
 use Rattle.dm_central.proofs.ShapeLemmas.{items_have_none, Shape, RunsKeep, step_shape}
 use Rattle.dm_central.proofs.SteadyLemmas.{named_among}
@@ -99,13 +99,18 @@ named_other B statics objects h d m e n b f = h n b (d, m) (among_right (d, m) s
 
 -- ---- steps
 
+-- the first full expression names a closed object only where it reads or writes
+pub tasks_closed : (n d : ℕ) (state : State) → IsClosedState n d state → AreTasksClosed n d (state.statics ++ state.frame.objects) (unfolded state.frame.tasks)
+tasks_closed n d state c =
+    unfolded_closed n d (state.statics ++ state.frame.objects) (only_join n d state.statics state.frame.objects c.unreached.statics c.unreached.frame.0) state.frame.tasks c.unreached.frame.1
+
 -- the closed object of a frame that waits
 pub below_closed : (test : ℕ → Bool) (state : State) (callers : List Caller) → CallersHave (AreClosedIn test state) callers → (n : ℕ) → IsClosedBelow test callers n → (d : ℕ) × (test d ≡ true) × IsClosedState n d state
 below_closed test state [] h n b = absurd b
 below_closed test state (caller ∷ callers) h n (inl (d, picked, l)) = (d, picked, h.0.0 (d, n) l picked)
 below_closed test state (caller ∷ callers) h n (inr b) = below_closed test state callers h.1 n b
 
-module _ (program : Program) (test : ℕ → Bool) (starts : List World) (s t : State) (step : Step program s t) (waiting : IsWaiting starts s) (h : AreAllClosed test s) (k : AreLeftAlone program test s) where
+module _ (program : Program) (test : ℕ → Bool) (starts : List World) (s t : State) (step : Step program s t) (own : AreOwn s.statics starts s.frame.objects) (h : AreAllClosed test s) (k : AreLeftAlone program test s) where
   Below : ℕ → Type 0
   Below n = IsClosedBelow test s.callers n
 
@@ -116,13 +121,10 @@ module _ (program : Program) (test : ℕ → Bool) (starts : List World) (s t : 
   here : Objects
   here = s.statics ++ s.frame.objects
 
-  -- the first full expression names a closed object only where it reads or writes
   first_closed : (n d : ℕ) → IsClosedState n d s → (place : Place) (run : Run) (use_of : Use) (rest : List Task) → unfolded s.frame.tasks ≡ evaluates place run use_of ∷ rest
       → (m : ℕ) → IsAmong m (n ∷ []) → IsClosedIn m here run
   unfolding here
-  first_closed n d c place run use_of rest e m (inl f) =
-      subst (λ x. IsClosedIn x here run) (sym f)
-      (subst (AreTasksClosed n d here) e (unfolded_closed n d here (only_join n d s.statics s.frame.objects c.unreached.statics c.unreached.frame.0) s.frame.tasks c.unreached.frame.1)).0.0
+  first_closed n d c place run use_of rest e m (inl f) = subst (λ x. IsClosedIn x here run) (sym f) (subst (AreTasksClosed n d here) e (tasks_closed n d s c)).0.0
   first_closed n d c place run use_of rest e m (inr l) = absurd l
 
   avoided : (n d : ℕ) → IsClosedState n d s → (m : ℕ) → IsAmong m (n ∷ []) → MemoryAvoids m s.world.memory
@@ -203,8 +205,8 @@ module _ (program : Program) (test : ℕ → Bool) (starts : List World) (s t : 
         where
           by_depth : (n : ℕ) → IsClosedBelow test (c.caller ∷ s.callers) n → IsUnnamed n (s.statics ++ (opened_frame program step.0 c.definition).objects)
           by_depth n (inl (d, picked, l)) =
-              let own = subst (IsAmong (d, n)) c.objects l in
-              opened_unnamed c.definition n (λ entry m e. waiting.frame.0.local entry (d, n) m own e) (other_than n d (h.frame.0 (d, n) own picked))
+              let there = subst (IsAmong (d, n)) c.objects l in
+              opened_unnamed c.definition n (λ entry m e. own.local entry (d, n) m there e) (other_than n d (h.frame.0 (d, n) there picked))
           by_depth n (inr b) =
               let at = below n b in opened_unnamed c.definition n (λ entry m e. k.frame.0 n b entry (among_left entry s.statics s.frame.objects m) e) (other_than n at.0 at.2)
       by_shape (inr (inr c)) =

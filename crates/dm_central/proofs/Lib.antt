@@ -38,3 +38,5 @@ mod ClosedFrameLemmas
 mod ClosedBeginLemmas
 mod LeftAloneLemmas
 mod KeptFrameLemmas
+mod ClosedSteadyLemmas
+mod NewProgramLemmas

@@ -12,3 +12,4 @@ pub mod Waiting
 pub mod Examples
 pub mod ClosedFrames
 pub mod LeftAlone
+pub mod ClosedPrograms

@@ -250,7 +250,7 @@ pub fn closed_objects_stay()
 pub fn closed_objects_are_left_alone()
     ensures begins { (program : Program) (test : ℕ → Bool) (input : List ℕ) (state : State) → Begins program input state → AreLeftAlone program test state }
     ensures steps { (program : Program) (test : ℕ → Bool) (starts : List World) (state other : State) → Step program state other
-        → IsWaiting starts state → AreAllClosed test state → AreLeftAlone program test state → AreLeftAlone program test other }
+        → AreOwn state.statics starts state.frame.objects → AreAllClosed test state → AreLeftAlone program test state → AreLeftAlone program test other }
     ensures kept { (program : Program) (test : ℕ → Bool) (state other : State) → Step program state other → AreLeftAlone program test state
         → (starts : List World) → IsWaiting starts state → IsWaiting (worlds_after starts state.world state.callers other.callers) other
         → AreKept program test state.statics starts state.callers state.world
