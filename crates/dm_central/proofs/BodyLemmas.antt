@@ -23,7 +23,7 @@ use Rattle.dm_meaning.proofs.YieldLemmas.{may_give, given_may, doing_gives, Yiel
 use Rattle.dm_rewrite.specs.Effects.{Effect, Stage}
 use Rattle.dm_central.specs.Agreement.{beside_first, before_rest, BegunOutside, AllBegun, BegunPasses, IsCall}
 use Rattle.dm_central.specs.Arguments.{Way, at_once, untouched, runs_at, trees_at, StandsWhole, Stands}
-use Rattle.dm_central.specs.Bodies.{Known, frame_stage, AreNamedApart, ExpressionAgrees, AllAgree, DefinitionAgrees, CallsInPlace}
+use Rattle.dm_central.specs.Bodies.{Known, frame_stage, AreNamedOnce, ExpressionAgrees, AllAgree, DefinitionAgrees, CallsInPlace}
 use Rattle.dm_central.specs.StateAgreement.{TreeFits, DefinitionFits, RunFits}
 use Rattle.dm_central.proofs.AgreementLemmas.{begun_beside_less}
 use Rattle.dm_central.proofs.FactLemmas.{same_but_gives}
@@ -184,8 +184,8 @@ pub not_true : (b : Bool) → not b ≡ true → b ≡ false
 not_true true e = absurd (true≢false (sym e))
 not_true false e = refl
 
-none_apart : AreNamedApart []
-none_apart c d n e f = absurd (none_is_some n e)
+none_named : (known : Known) → AreNamedOnce known [] []
+none_named known = record { apart = λ c d n e f. absurd (none_is_some n e); closed_ones = λ d n picked e. absurd (none_is_some n e) }
 
 same_case : (change : Called) (label : Label) (parts others : Trees) → is_statement label ≡ false → SameCase change label parts others
 same_case change case parts others e = absurd (true≢false e)
@@ -197,10 +197,10 @@ module _ (change : Called) (known : Known) where
       (before : List Effect) × (beside : List Effect) × AllBegun change (frame_stage change known statics objects) known.safe before beside opens trees others
 
   -- the parts of expressions that agree do
-  parts_agree : (opens : Open) (trees others : Trees) → are_expressions others ≡ true → ((statics objects : Objects) → AreNamedApart (statics ++ objects) → Below statics objects opens trees others) → AllAgree change known trees others
+  parts_agree : (opens : Open) (trees others : Trees) → are_expressions others ≡ true → ((statics objects : Objects) → AreNamedOnce known statics objects → Below statics objects opens trees others) → AllAgree change known trees others
   parts_agree opens no_trees no_trees e h = tt
-  parts_agree opens no_trees (more_trees other others) e h = absurd (h [] [] none_apart).2
-  parts_agree opens (more_trees first rest) no_trees e h = absurd (h [] [] none_apart).2
+  parts_agree opens no_trees (more_trees other others) e h = absurd (h [] [] (none_named known)).2
+  parts_agree opens (more_trees first rest) no_trees e h = absurd (h [] [] (none_named known)).2
   parts_agree opens (more_trees (node label kind spans parts) rest) (more_trees other others) e h =
       let both = both_true (is_expression other) (are_expressions others) e in (
         inr (
@@ -242,14 +242,14 @@ module _ (change : Called) (known : Known) where
         → ExpressionAgrees change known (node label kind spans parts) (node other other_kind other_spans others) → all_left_in (all_begun parts) ≤ limit change
         → (b : Bool) → calls_added change label parts ≡ b → SameNode change (TreeFits change known) label kind parts other other_kind others ⊎ CallNode label other
     expression_opened label kind spans parts other other_kind other_spans others h small true e =
-        let there = called_here change calling.apart (frame_stage change known [] []) known.safe label kind spans parts (node other other_kind other_spans others) (h.1 [] [] none_apart) e in
+        let there = called_here change calling.apart (frame_stage change known [] []) known.safe label kind spans parts (node other other_kind other_spans others) (h.1 [] [] (none_named known)) e in
         inr (there.0, gives_label change calling.added.gives (frame_stage change known [] []) known.safe [] (node label kind spans parts) (node other other_kind other_spans others) (inr there.1) (ap may_give there.0))
     expression_opened label kind spans parts other other_kind other_spans others h small false e =
         let shapes = both_true (not (is_statement other)) (are_expressions others) h.0 in
-        let same : (statics objects : Objects) → AreNamedApart (statics ++ objects) → (label ≡ relabelled change.rename other) × (kind ≡ other_kind)
+        let same : (statics objects : Objects) → AreNamedOnce known statics objects → (label ≡ relabelled change.rename other) × (kind ≡ other_kind)
         × AllBegun change (frame_stage change known statics objects) known.safe [] [] (open_of other) parts others =
         λ statics objects names. same_here change calling.apart (frame_stage change known statics objects) known.safe label kind spans parts (node other other_kind other_spans others) (h.1 statics objects names) e in
-        let first = same [] [] none_apart in
+        let first = same [] [] (none_named known) in
         inl (
           first.0,
           first.1,

@@ -74,6 +74,16 @@ from_named names i (d ∷ ds) objects entry l = by_rest (from_named names (suc i
     by_rest (inl (inr k)) = inl k
     by_rest (inr k) = inr k
 
+-- and is one of these declarations
+pub declared_from : (names : ℕ → ℕ) (i : ℕ) (ds : List ℕ) (objects : Objects) (entry : ℕ × ℕ) → IsAmong entry (named_from names i ds objects) → IsAmong entry objects ⊎ IsAmong entry.0 ds
+declared_from names i [] objects entry l = inl l
+declared_from names i (d ∷ ds) objects entry l = by_rest (declared_from names (suc i) ds ((d, names i) ∷ objects) entry l)
+  where
+    by_rest : IsAmong entry ((d, names i) ∷ objects) ⊎ IsAmong entry.0 ds → IsAmong entry objects ⊎ IsAmong entry.0 (d ∷ ds)
+    by_rest (inl (inl e)) = inr (inl (ap (λ (x : ℕ × ℕ). x.0) e))
+    by_rest (inl (inr k)) = inl k
+    by_rest (inr k) = inr (inr k)
+
 pub only_from : (n d : ℕ) (objects : Objects) → ((entry : ℕ × ℕ) → IsAmong entry objects → entry.1 ≡ n → entry.0 ≡ d) → OnlyNames n d objects
 only_from n d [] h = tt
 only_from n d (entry ∷ entries) h = (h entry (inl refl), only_from n d entries (λ other l e. h other (inr l) e))

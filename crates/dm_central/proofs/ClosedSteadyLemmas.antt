@@ -23,21 +23,22 @@ use Rattle.dm_central.specs.StateAgreement.{FirstHasWaited, IsSteady}
 use Rattle.dm_central.specs.Waiting.{AreOwn, IsWaiting}
 use Rattle.dm_central.proofs.KeptFrameLemmas.{picked_from}
 use Rattle.dm_central.proofs.LeftAloneLemmas.{tasks_closed}
-use Rattle.dm_central.proofs.SteadyLemmas.{named_apart}
+use Rattle.dm_central.proofs.SteadyLemmas.{named_once}
 
 safe_in : Mode → Tree → Bool
 safe_in (outside safe) tree = safe tree
 safe_in (inside entries) tree = false
 
 pub steady_here : (change : Called) (closed : ℕ → Bool) (starts : List World) (other : State) (memory : Memory) → NamesKnown change.old other → IsWaiting starts (with_memory other memory)
+    → ((entry : ℕ × ℕ) → IsAmong entry other.statics → closed entry.0 ≡ true → ⊥)
     → ((n : ℕ) → IsAmong n (closed_numbers closed other.frame.objects) → MemoryAvoids n memory) → AreAllClosed closed other
     → AreKept change.old closed other.statics starts other.callers (with_memory other memory).world
     → ((place : Place) (tree : Tree) (use_of : Use) (rest : List Task) → unfolded other.frame.tasks ≡ evaluates place (begun tree) use_of ∷ rest → is_statement (label_of tree) ≡ false)
     → IsSteady change (known_closed closed) starts (with_memory other memory)
 unfolding safe_in
-steady_here change closed starts other memory names waiting avoids all kept whole = record {
+steady_here change closed starts other memory names waiting none avoids all kept whole = record {
   names = names;
-  apart = named_apart other.statics starts other.frame.objects waiting.frame.0;
+  named = named_once (known_closed closed) other.statics starts other.frame.objects waiting.frame.0 none;
   made = λ start l n k. (waiting.since start l).made n k;
   avoids = avoids;
   closed = λ place run use_of rest e n l.

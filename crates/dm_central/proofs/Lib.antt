@@ -34,6 +34,7 @@ mod BeginLemmas
 mod RefineLemmas
 mod WholeLemmas
 mod TwiceExample
+mod AroundExample
 mod ClosedFrameLemmas
 mod ClosedBeginLemmas
 mod LeftAloneLemmas

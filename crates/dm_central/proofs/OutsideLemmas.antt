@@ -637,7 +637,7 @@ module _ (change : Called) (known : Known) (calling : CallsInPlace change known)
         (subst (λ x. IsAmong state (task_steps (new_of change) names now (initials other_at x initialiser trees ∷ ts))) h.0.1
         (subst (λ x. IsAmong state (task_steps (new_of change) names now (initials x kind initialiser trees ∷ ts))) h.0.0 k)))
     task_met (evaluates place run use_of) (evaluates at other_run other_use) ts us h enough e state k =
-        let top = top_run change known other.statics other.frame.objects other.world steady.apart run other_run
+        let top = top_run change known other.statics other.frame.objects other.world steady.named run other_run
         (λ tree is. steady.whole at tree other_use us (e ∙ ap (λ r. evaluates at r other_use ∷ us) is)) h.0.0 in
         expression_met ts us h.1 place at use_of other_use h.0.1 run other_run top.0 top.1 enough e state k
     task_met (again objects loop) (again others other_loop) ts us h enough e state k = absurd k

@@ -1,5 +1,5 @@
 -- The beginnings of runs agree, and the old program needs none of the parameters' objects: so the new program refines the old one.
-use Rattle.std.specs.Prelude.{◌≡◌, refl, ◌⊎◌, ℕ, suc, zero, ◌+◌, ◌*◌, ◌≤◌, Bool, false, List, [], ◌∷◌, map, length, Option, Some, None}
+use Rattle.std.specs.Prelude.{◌≡◌, refl, ◌⊎◌, ℕ, suc, zero, ◌+◌, ◌*◌, ◌≤◌, Bool, true, false, List, [], ◌∷◌, map, length, Option, Some, None}
 use Rattle.std.proofs.Common.{arith, true≢false, ap, sym, ◌∙◌, subst, inl, inr}
 use Rattle.dm_token.specs.declared.place.Place.{Place}
 use Rattle.dm_meaning.specs.declared.cause.Cause.{Cause}
@@ -49,11 +49,12 @@ use Rattle.dm_central.proofs.BehindLemmas.{changes_left}
 use Rattle.dm_central.proofs.BodyLemmas.{likeness}
 use Rattle.dm_central.proofs.CallFrameLemmas.{frame_objects, frame_tasks, frame_memory}
 use Rattle.dm_central.proofs.ClosedBeginLemmas.{begins_all_closed}
-use Rattle.dm_central.proofs.ClosedFrameLemmas.{all_closed_later}
+use Rattle.dm_central.proofs.ClosedFrameLemmas.{declared_from, all_closed_later}
 use Rattle.dm_central.proofs.ClosedSteadyLemmas.{steady_here}
 use Rattle.dm_central.proofs.KeptFrameLemmas.{kept_by, kept_later}
 use Rattle.dm_central.proofs.LeftAloneLemmas.{left_alone_later, begins_left_alone}
 use Rattle.dm_central.proofs.NewProgramLemmas.{same_world, related_made, IsClear, begins_clear, clear_later, clear_avoids}
+use Rattle.dm_central.proofs.ShapeLemmas.{same_statics as statics_stay}
 use Rattle.dm_central.proofs.StateStepLemmas.{step_met}
 use Rattle.dm_central.proofs.SteadyLemmas.{loose}
 use Rattle.dm_central.proofs.TopLemmas.{same_worlds, top_begun, top_enough}
@@ -176,7 +177,8 @@ module _ (change : Called) (closed : ℕ → Bool) (calling : CallsInPlace chang
     pub spares : AllSpare change more other.world.memory (flat spare)
     pub waits : IsWaiting starts (with_memory other more)
     pub reached : IsReached other
-    -- in the frames below, closed objects hold what they held
+    -- closed objects are the frame's own, and in the frames below they hold what they held
+    pub own_ones : (entry : ℕ × ℕ) → IsAmong entry other.statics → closed entry.0 ≡ true → ⊥
     pub closed_ones : AreAllClosed closed other
     pub alone : AreLeftAlone change.old closed other
     pub kept_ones : AreKept change.old closed other.statics starts other.callers (with_memory other more).world
@@ -264,6 +266,7 @@ module _ (change : Called) (closed : ℕ → Bool) (calling : CallsInPlace chang
               names = known_later change.old other spared.next spared.step h.names;
               spares = kept change more other.world.memory spared.after spared.next.world.memory spared.grown (flat spare) h.spares;
               waits = waits;
+              own_ones = λ entry l picked. h.own_ones entry (subst (IsAmong entry) (statics_stay change.old other spared.next spared.step) l) picked;
               closed_ones = all_closed_later change.old closed only.old later other spared.next spared.step spared.grown.made waits.frame.0 spared.settled.frame.0 h.closed_ones;
               alone = alone;
               kept_ones = subst (λ (s : State). AreKept change.old closed s.statics later s.callers s.world) spared.is still_kept;
@@ -347,6 +350,7 @@ module _ (change : Called) (closed : ℕ → Bool) (calling : CallsInPlace chang
       spares = spares;
       waits = waiting_beside starts (with_memory other more) memory h.waits (λ start l. record { made = λ n k. made n ((h.waits.since start l).made n k); same = same start l }) (λ n l. made n (h.waits.statics n l));
       reached = h.reached;
+      own_ones = h.own_ones;
       closed_ones = h.closed_ones;
       alone = h.alone;
       kept_ones =
@@ -426,7 +430,7 @@ module _ (change : Called) (closed : ℕ → Bool) (calling : CallsInPlace chang
         met w s' t h.more h.spare h.starts h.holds clears
         (step_met change (known_closed closed) calling w h.spare h.starts s s' (with_memory t h.more) h.related t.world.memory h.holds.spares
         (unfolded_settled t.world.memory t.frame.tasks h.holds.settled.frame.1)
-        (steady_here change closed h.starts t h.more h.holds.names h.holds.waits (clear_avoids change closed only.new (known_closed closed) w h.spare h.starts s (with_memory t h.more) h.related h.clear) h.holds.closed_ones h.holds.kept_ones
+        (steady_here change closed h.starts t h.more h.holds.names h.holds.waits h.holds.own_ones (clear_avoids change closed only.new (known_closed closed) w h.spare h.starts s (with_memory t h.more) h.related h.clear) h.holds.closed_ones h.holds.kept_ones
         (λ place tree use_of rest e. no_statements h.holds.reached.0 h.holds.reached.1 t h.holds.reached.2 place tree use_of rest e)) step)
       where
         memory_is : s.world.memory ≡ h.more
@@ -439,6 +443,14 @@ module _ (change : Called) (closed : ℕ → Bool) (calling : CallsInPlace chang
             clear_later change closed only.new s s' step (λ n k. subst (λ m. IsMade m n) (sym is) (made n (subst (λ m. IsMade m n) memory_is k)))
             (subst (λ m. ObjectsMade m s.frame.objects) (sym memory_is) (related_made change (known_closed closed) w h.spare h.starts s t h.more h.related h.holds.settled h.holds.has h.holds.spares))
             (subst (λ m. ObjectsMade m s'.frame.objects) (sym is) (related_made change (known_closed closed) v spare starts s' u memory related holds.settled holds.has holds.spares)) h.clear
+
+    begins_own : (input : List ℕ) (state : State) → Begins change.old input state → (entry : ℕ × ℕ) → IsAmong entry state.statics → closed entry.0 ≡ true → ⊥
+    begins_own input state (bytes, names, fresh, main, is_main_here, e) entry l picked =
+        by_declared (declared_from names 0 (static_numbers change.old.statics) [] entry (subst (λ (s : State). IsAmong entry s.statics) e l))
+      where
+        by_declared : IsAmong entry [] ⊎ IsAmong entry.0 (static_numbers change.old.statics) → ⊥
+        by_declared (inl k) = absurd k
+        by_declared (inr k) = only.local entry.0 picked k
 
     -- when a run begins, no frame waits
     begins_kept : (input : List ℕ) (state : State) → Begins change.old input state → AreKept change.old closed state.statics [] state.callers state.world
@@ -462,6 +474,7 @@ module _ (change : Called) (closed : ℕ → Bool) (calling : CallsInPlace chang
               names = begins_known change.old input t.0 t.1;
               spares = tt;
               waits = begins_waiting change.old input t.0 t.1;
+              own_ones = begins_own input t.0 t.1;
               closed_ones = begins_all_closed change.old closed only.old input t.0 t.1;
               alone = begins_left_alone change.old closed input t.0 t.1;
               kept_ones = begins_kept input t.0 t.1;
@@ -489,4 +502,4 @@ closed_calls_refine change closed calling only no_statements =
 -- So it does where nothing is known of closed objects.
 pub calls_refine : (change : Called) → CallsInPlace change nothing_known → NoStatements change.old → Refines (machine_of (new_of change)) (machine_of change.old)
 calls_refine change calling no_statements =
-    closed_calls_refine change (λ d. false) calling (record { old = λ d e. absurd (true≢false (sym e)); new = λ d e. absurd (true≢false (sym e)) }) no_statements
+    closed_calls_refine change (λ d. false) calling (record { local = λ d e. absurd (true≢false (sym e)); old = λ d e. absurd (true≢false (sym e)); new = λ d e. absurd (true≢false (sym e)) }) no_statements

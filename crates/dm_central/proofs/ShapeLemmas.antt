@@ -332,3 +332,12 @@ pub objects_shape : (program : Program) (P Q : Objects → Type 0) (state other 
     → ((items : List Tree) → Q (entered program step.0 items state.frame.objects) → P (entered program step.0 items state.frame.objects)) → Q other.frame.objects → Shape program P any_name any_run step.0 state other
 objects_shape program P Q state other step has more q =
     step_shape program P any_name any_run (λ objects h d n e. tt) (λ tree. tt) Q state other step has (record { goes_on = λ place run later use_of rest world e l so. tt; resumes = λ place run use_of rest f arguments kind hole e l so value. tt }) more q
+
+-- the objects of static storage duration stay
+pub same_statics : (program : Program) (state other : State) → Step program state other → other.statics ≡ state.statics
+same_statics program state other step = by_shape (objects_shape program (λ objects. Unit {0}) (λ objects. Unit {0}) state other step (tt, tasks_any state.frame.tasks) (λ items q. tt) tt)
+  where
+    by_shape : Shape program (λ objects. Unit {0}) any_name any_run step.0 state other → other.statics ≡ state.statics
+    by_shape (inl h) = h.statics
+    by_shape (inr (inl h)) = h.statics
+    by_shape (inr (inr h)) = h.statics

@@ -1,14 +1,14 @@
--- Objects of frames are named apart; where none is closed, a function may change any of them.
-use Rattle.std.specs.Prelude.{◌≡◌, refl, ℕ, ◌==◌, Bool, true, false, List, [], ◌∷◌, ◌++◌, Some, if◌then◌else◌}
-use Rattle.std.proofs.Common.{sym, inl, inr}
+-- Objects of frames are named once; where none is closed, a function may change any of them.
+use Rattle.std.specs.Prelude.{◌≡◌, refl, ◌⊎◌, ℕ, ◌==◌, Bool, true, false, List, [], ◌∷◌, ◌++◌, Some, if◌then◌else◌}
+use Rattle.std.proofs.Common.{true≢false, ap, sym, ◌∙◌, inl, inr}
 use Rattle.dm_meaning.specs.Among.{IsAmong}
 use Rattle.dm_meaning.specs.Operations.{World, Objects, object_named}
-use Rattle.dm_meaning.proofs.AmongLemmas.{among_either}
+use Rattle.dm_meaning.proofs.AmongLemmas.{among_left, among_right, among_either}
 use Rattle.dm_meaning.proofs.GrowLemmas.{equal_of}
 use Rattle.dm_meaning.proofs.OptionLemmas.{none_is_some, some_is_some}
 use Rattle.dm_rewrite.specs.Effects.{on_others, Stage, ChangesOnly}
 use Rattle.dm_rewrite.specs.KeptMemory.{HasSameObjects}
-use Rattle.dm_central.specs.Bodies.{nothing_known, closed_numbers, AreNamedApart}
+use Rattle.dm_central.specs.Bodies.{Known, nothing_known, closed_numbers, AreNamedOnce}
 use Rattle.dm_central.specs.Waiting.{AreOwn}
 
 pub none_closed : (objects : Objects) (n : ℕ) → IsAmong n (closed_numbers nothing_known.closed objects) → ⊥
@@ -27,7 +27,26 @@ named_among (entry ∷ entries) c n e = by_case (entry.0 == c) refl e (named_amo
     by_case true f g later = inl (λ i. (sym (equal_of entry.0 c f) i, sym (some_is_some entry.1 n g) i))
     by_case false f g later = inr (later g)
 
+closed_among : (test : ℕ → Bool) (objects : Objects) (d n : ℕ) → test d ≡ true → IsAmong (d, n) objects → IsAmong n (closed_numbers test objects)
+closed_among test [] d n picked l = absurd l
+closed_among test (entry ∷ entries) d n picked (inl e) = among_left n (if test entry.0 then entry.1 ∷ [] else []) (closed_numbers test entries) (by_test (test entry.0) (sym (ap (λ (x : ℕ × ℕ). test x.0) e) ∙ picked))
+  where
+    by_test : (b : Bool) → b ≡ true → IsAmong n (if b then entry.1 ∷ [] else [])
+    by_test true f = inl (ap (λ (x : ℕ × ℕ). x.1) e)
+    by_test false f = absurd (true≢false (sym f))
+closed_among test (entry ∷ entries) d n picked (inr l) = among_right n (if test entry.0 then entry.1 ∷ [] else []) (closed_numbers test entries) (closed_among test entries d n picked l)
+
 -- objects of one declaration each are named apart
-pub named_apart : (statics : Objects) (starts : List World) (objects : Objects) → AreOwn statics starts objects → AreNamedApart (statics ++ objects)
-named_apart statics starts objects own c d n e f =
-    own.apart (c, n) (d, n) (among_either (c, n) statics objects (named_among (statics ++ objects) c n e)) (among_either (d, n) statics objects (named_among (statics ++ objects) d n f)) refl
+pub named_once : (known : Known) (statics : Objects) (starts : List World) (objects : Objects) → AreOwn statics starts objects → ((entry : ℕ × ℕ) → IsAmong entry statics → known.closed entry.0 ≡ true → ⊥)
+    → AreNamedOnce known statics objects
+named_once known statics starts objects own none = record {
+  apart = λ c d n e f. own.apart (c, n) (d, n) (entry_of c n e) (entry_of d n f) refl;
+  closed_ones = λ d n picked e. by_part d n picked (entry_of d n e);
+}
+  where
+    entry_of : (d n : ℕ) → object_named (statics ++ objects) d ≡ Some n → IsAmong (d, n) statics ⊎ IsAmong (d, n) objects
+    entry_of d n e = among_either (d, n) statics objects (named_among (statics ++ objects) d n e)
+
+    by_part : (d n : ℕ) → known.closed d ≡ true → IsAmong (d, n) statics ⊎ IsAmong (d, n) objects → IsAmong n (closed_numbers known.closed objects)
+    by_part d n picked (inl l) = absurd (none (d, n) l picked)
+    by_part d n picked (inr l) = closed_among known.closed objects d n picked l

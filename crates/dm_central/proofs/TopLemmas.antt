@@ -13,7 +13,7 @@ use Rattle.dm_meaning.proofs.OptionLemmas.{none_is_some, some_is_some}
 use Rattle.dm_meaning.proofs.PassStatementLemmas.{limit, share, task_left, tasks_left, most, most_inside}
 use Rattle.dm_meaning.proofs.ShrinkLemmas.{left_in}
 use Rattle.dm_central.specs.Agreement.{outside, RunAgrees}
-use Rattle.dm_central.specs.Bodies.{Known, frame_stage, AreNamedApart}
+use Rattle.dm_central.specs.Bodies.{Known, frame_stage, AreNamedOnce}
 use Rattle.dm_central.specs.StateAgreement.{TreeFits, RunFits, TasksAgree, RunsNow, TopAgrees, worlds_after}
 use Rattle.dm_central.proofs.AgreementLemmas.{begun_agrees}
 
@@ -90,7 +90,7 @@ module _ (change : Called) (known : Known) (statics objects : Objects) (world : 
       alone (share change (tasks_left tasks)) (most change) (most_inside change (tasks_left tasks) 0 (top_few tasks others h) (none_more _))
 
   -- The full expressions agree, as soon as they come up.
-  pub top_run : AreNamedApart (statics ++ objects) → (run other : Run) → ((tree : Tree) → other ≡ begun tree → is_statement (label_of tree) ≡ false)
+  pub top_run : AreNamedOnce known statics objects → (run other : Run) → ((tree : Tree) → other ≡ begun tree → is_statement (label_of tree) ≡ false)
       → RunsNow change known statics objects world run other → RunAgrees change (frame_stage change known statics objects) (outside known.safe) world [] run other × (left_in run ≤ limit change)
   top_run apart run other whole (inr h) = h
   top_run apart run other whole (inl h) = by_tree h.tree h.is h.fits

@@ -53,7 +53,7 @@ defined zero = refl
 defined (suc zero) = refl
 defined (suc (suc d)) = ap is_some (none_new d) ∙ sym (ap is_some (none_old d))
 
-own : (p : ℕ) → IsAmong p (3 ∷ []) → (c : ℕ) → beyond_twice c ≡ p → ⊥
+pub own : (p : ℕ) → IsAmong p (3 ∷ []) → (c : ℕ) → beyond_twice c ≡ p → ⊥
 own p (inl e) zero f = omega (arith, e, f)
 own p (inl e) (suc zero) f = omega (arith, e, f)
 own p (inl e) (suc (suc c)) f = omega (arith, e, f)
@@ -77,7 +77,7 @@ reads_x = record { parameter = 3; spans = _; named_kind = _; named_spans = _; is
 first_read : ReadsFirst 3 body
 first_read = inr (inl (refl, inl (record { kind = _; spans = _; named_kind = _; named_spans = _; is = refl })))
 
-is_parameter : (p : ℕ) (tree : Tree) (b : Bool) → (3 == p) ≡ b → (if b then Some (untouched (reading 1)) else None) ≡ Some (untouched tree) → 3 ≡ p
+pub is_parameter : (p : ℕ) (tree : Tree) (b : Bool) → (3 == p) ≡ b → (if b then Some (untouched (reading 1)) else None) ≡ Some (untouched tree) → 3 ≡ p
 is_parameter p tree true e f = equal_of 3 p e
 is_parameter p tree false e f = absurd (none_is_some (untouched tree) f)
 
@@ -136,7 +136,7 @@ steps move k =
 
 -- ---- the programs
 
-injective : (c d : ℕ) → beyond_twice c ≡ beyond_twice d → c ≡ d
+pub injective : (c d : ℕ) → beyond_twice c ≡ beyond_twice d → c ≡ d
 injective zero zero e = refl
 injective zero (suc zero) e = omega (arith, e)
 injective zero (suc (suc d)) e = omega (arith, e)
@@ -147,7 +147,7 @@ injective (suc (suc c)) zero e = omega (arith, e)
 injective (suc (suc c)) (suc zero) e = omega (arith, e)
 injective (suc (suc c)) (suc (suc d)) e = omega (arith, e)
 
-not_twice : (d : ℕ) → beyond_twice d ≡ 2 → ⊥
+pub not_twice : (d : ℕ) → beyond_twice d ≡ 2 → ⊥
 not_twice zero e = omega (arith, e)
 not_twice (suc zero) e = omega (arith, e)
 not_twice (suc (suc d)) e = omega (arith, e)

@@ -49,9 +49,10 @@ closed_numbers closed (entry ∷ entries) = (if closed entry.0 then entry.1 ∷ 
 abbrev pub frame_stage : Called → Known → Objects → Objects → Stage
 frame_stage change known statics objects = old_stage change (statics ++ objects) (closed_numbers known.closed objects) known.quiet
 
--- no object has two names
-abbrev pub AreNamedApart : Objects → Type 0
-AreNamedApart objects = (c d n : ℕ) → object_named objects c ≡ Some n → object_named objects d ≡ Some n → c ≡ d
+-- no object has two names, and what names a closed object there names one of the frame
+pub record AreNamedOnce (known : Known) (statics objects : Objects) : Type 0 where
+  pub apart : (c d n : ℕ) → object_named (statics ++ objects) c ≡ Some n → object_named (statics ++ objects) d ≡ Some n → c ≡ d
+  pub closed_ones : (d n : ℕ) → known.closed d ≡ true → object_named (statics ++ objects) d ≡ Some n → IsAmong n (closed_numbers known.closed objects)
 
 -- ---- trees
 
@@ -59,7 +60,7 @@ AreNamedApart objects = (c d n : ℕ) → object_named objects c ≡ Some n → 
 abbrev pub ExpressionAgrees : Called → Known → Tree → Tree → Type 0
 ExpressionAgrees change known tree other =
     (is_expression other ≡ true)
-    × ((statics objects : Objects) → AreNamedApart (statics ++ objects) → BegunOutside change (frame_stage change known statics objects) known.safe [] tree other)
+    × ((statics objects : Objects) → AreNamedOnce known statics objects → BegunOutside change (frame_stage change known statics objects) known.safe [] tree other)
 
 abbrev mutual
   pub Agrees : Called → Known → Tree → Tree → Type 0

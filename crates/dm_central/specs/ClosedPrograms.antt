@@ -1,8 +1,10 @@
 -- Programs in which certain declarations are named only where they are read or written.
 --     known_closed closed      what is known of the old program: that these declarations are of closed objects
---     AreOnlyNamed change closed      all trees of both programs name what they declare only so
+--     AreOnlyNamed change closed      all trees of both programs name what they declare only so, and that isn't of static storage duration
 use Rattle.std.specs.Prelude.{◌≡◌, ℕ, Bool, true, false}
+use Rattle.dm_meaning.specs.Among.{IsAmong}
 use Rattle.dm_meaning.specs.Called.{Called, new_of}
+use Rattle.dm_meaning.specs.Units.{static_numbers}
 use Rattle.dm_rewrite.specs.ClosedStates.{ProgramNamesOnly}
 use Rattle.dm_central.specs.Bodies.{Known}
 
@@ -10,5 +12,6 @@ abbrev pub known_closed : (ℕ → Bool) → Known
 known_closed closed = record { closed = closed; quiet = λ f. false; safe = λ tree. false }
 
 pub record AreOnlyNamed (change : Called) (closed : ℕ → Bool) : Type 0 where
+  pub local : (d : ℕ) → closed d ≡ true → IsAmong d (static_numbers change.old.statics) → ⊥
   pub old : (d : ℕ) → closed d ≡ true → ProgramNamesOnly d change.old
   pub new : (d : ℕ) → closed d ≡ true → ProgramNamesOnly (change.rename d) (new_of change)

@@ -1,4 +1,5 @@
--- A small change: `int y = 2; return y + y;` becomes `int twice(int x) { return x + x; }` and `int y = 2; return twice(y);`.
+-- Small changes: `int y = 2; return y + y;` becomes `int twice(int x) { return x + x; }` and `int y = 2; return twice(y);`; and one in which a function
+-- is called between the reads.
 use Rattle.std.specs.Prelude.{ℕ, zero, suc, Bool, true, false, List, [], ◌∷◌, ◌++◌, Some, pos, codes}
 use Rattle.dm_int.specs.declared.Kind.TheVariants.{Int}
 use Rattle.dm_int.specs.declared.Op.TheVariants.{Add}
@@ -76,6 +77,41 @@ calling_twice = record {
   rename = beyond_twice;
   added = twice;
   body = body;
+}
+
+-- ---- a function that is called between two reads: `int y = 2; return (y + g()) + y;` becomes `return around(y);`
+
+abbrev int_of_nothing : CType
+int_of_nothing = function_type int no_types
+
+-- x + g() + x, where the declarations of x and g have these numbers
+abbrev pub around_of : ℕ → ℕ → Tree
+around_of d g =
+    node (binary Add) int spans (trees (
+      node (binary Add) int spans (trees (reading d ∷ node call int spans (trees (node (function g) int_of_nothing spans (trees []) ∷ [])) ∷ []))
+      ∷ reading d ∷ []))
+
+abbrev pub around : Definition
+around = record { function = 2; parameters = 3 ∷ []; body = node block void spans (trees (node return void spans (trees (around_of 3 4 ∷ [])) ∷ [])) }
+
+-- int g(void) { return 3; }
+abbrev pub giving_three : ℕ → Definition
+giving_three g = record { function = g; parameters = []; body = node block void spans (trees (node return void spans (trees (constant 3 ∷ [])) ∷ [])) }
+
+abbrev declared_g : Declaration
+declared_g = record { name = codes "g"; sort = Function; kind = int_of_nothing; linkage = External; place = at 0 }
+
+abbrev pub calling_around : Called
+calling_around = record {
+  old = record { declared = old_declared ++ declared_g ∷ []; functions = main_with (around_of 1 2) ∷ giving_three 2 ∷ []; statics = []; table = types };
+  declared =
+      old_declared ++ record { name = codes "around"; sort = Function; kind = int_of_int; linkage = External; place = at 0 }
+      ∷ record { name = codes "x"; sort = Object false; kind = int; linkage = Absent; place = at 0 } ∷ declared_g ∷ [];
+  functions = around ∷ main_with calling ∷ giving_three 4 ∷ [];
+  statics = [];
+  rename = beyond_twice;
+  added = around;
+  body = around_of 3 4;
 }
 
 -- ---- where the trees stand: y is the object 1, and nothing is known of it

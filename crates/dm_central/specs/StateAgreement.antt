@@ -38,7 +38,7 @@ use Rattle.dm_rewrite.specs.Computed.{Computed, computed, IsPure}
 use Rattle.dm_rewrite.specs.Effects.{Effect, Stage, effects_of, call_effects, lock_effects, ChangesOnly, IsNoMore}
 use Rattle.dm_central.specs.Agreement.{Stood, a_value, a_tree, Entry, outside, inside, IsReading, RunAgrees}
 use Rattle.dm_central.specs.Arguments.{ReadsApart}
-use Rattle.dm_central.specs.Bodies.{Known, closed_numbers, frame_stage, AreNamedApart, Agrees, DefinitionAgrees}
+use Rattle.dm_central.specs.Bodies.{Known, closed_numbers, frame_stage, AreNamedOnce, Agrees, DefinitionAgrees}
 use Rattle.dm_central.specs.Outcomes.{AvoidsClosed, AgreesBehind, AreSafe}
 
 -- ---- what is left to do
@@ -350,7 +350,7 @@ FirstHasWaited change known starts other callers = Unit {0}
 
 pub record IsSteady (change : Called) (known : Known) (starts : List World) (other : State) : Type 0 where
   pub names : NamesKnown change.old other
-  pub apart : AreNamedApart (other.statics ++ other.frame.objects)
+  pub named : AreNamedOnce known other.statics other.frame.objects
   pub made : (start : World) → IsAmong start starts → (n : ℕ) → IsMade start.memory n → IsMade other.world.memory n
   -- no pointer leads to a closed object, and full expressions only name them
   pub avoids : (n : ℕ) → IsAmong n (closed_numbers known.closed other.frame.objects) → MemoryAvoids n other.world.memory

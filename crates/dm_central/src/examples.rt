@@ -17,6 +17,7 @@ ghost use Rattle.dm_central.specs.Added.{IsAdded};
 ghost use Rattle.dm_central.specs.Agreement.{BegunOutside, RunAgrees};
 ghost use Rattle.dm_central.specs.Bodies.{nothing_known, CallsInPlace, IsWholeProgram};
 ghost use Rattle.dm_central.specs.ClosedFrames.{AreAllClosed};
+ghost use Rattle.dm_central.specs.ClosedPrograms.{known_closed, AreOnlyNamed};
 ghost use Rattle.dm_central.specs.Examples as examples;
 ghost use Rattle.dm_central.specs.NodeSteps.{new_scene};
 ghost use Rattle.dm_central.specs.Outcomes.{Met};
@@ -47,4 +48,13 @@ pub fn objects_are_closed_when_they_are_made()
         → ((n : ℕ) → IsMade state.world.memory n → IsMade other.world.memory n)
         → AreOwn other.statics starts other.frame.objects → ObjectsMade other.world.memory other.frame.objects
         → AreAllClosed (λ d. d == 2) state → AreAllClosed (λ d. d == 2) other }
+{}
+
+/// In `int y = 2; return (y + g()) + y;` y is read behind a call, but no pointer leads to it. So `return around(y);` in its place refines this, where
+/// `int around(int x) { return (x + g()) + x; }`.
+pub fn an_argument_is_read_behind_a_call()
+    ensures calls { CallsInPlace examples.calling_around (known_closed (λ d. d == 1)) }
+    ensures named { AreOnlyNamed examples.calling_around (λ d. d == 1) }
+    ensures whole { IsWholeProgram examples.calling_around.old }
+    ensures refines { Refines (machine_of (new_of examples.calling_around)) (machine_of examples.calling_around.old) }
 {}

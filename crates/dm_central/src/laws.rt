@@ -32,6 +32,7 @@ ghost use Rattle.dm_meaning.proofs.LikenessLemmas.{Likeness};
 ghost use Rattle.dm_central.specs.Added.{IsAdded};
 ghost use Rattle.dm_central.specs.Bodies.{Known, nothing_known, IsWholeProgram, CallsInPlace};
 ghost use Rattle.dm_central.specs.ClosedFrames.{AreAllClosed};
+ghost use Rattle.dm_central.specs.ClosedPrograms.{known_closed, AreOnlyNamed};
 ghost use Rattle.dm_central.specs.LeftAlone.{AreLeftAlone, AreKept};
 ghost use Rattle.dm_central.specs.Waiting.{AreOwn, IsWaiting};
 ghost use Rattle.dm_central.specs.StateAgreement.{TreeFits, RunFits, Related, worlds_after, Met as StateMet, IsSteady};
@@ -262,5 +263,12 @@ pub fn closed_objects_are_left_alone()
 /// nothing that the expression writes, nor what is evaluated beside it, by the names in them.
 pub fn calls_refine()
     ensures { (change : Called) → CallsInPlace change nothing_known → IsWholeProgram change.old
+        → Refines (machine_of (new_of change)) (machine_of change.old) }
+{}
+
+/// So it does where certain local objects are known to be closed: what declares them is named only where it is read or written, in both programs. Then
+/// no function that is called changes them, and nothing that is stored through a pointer. So an argument that reads them may be read behind calls.
+pub fn closed_calls_refine()
+    ensures { (change : Called) (closed : ℕ → Bool) → CallsInPlace change (known_closed closed) → AreOnlyNamed change closed → IsWholeProgram change.old
         → Refines (machine_of (new_of change)) (machine_of change.old) }
 {}

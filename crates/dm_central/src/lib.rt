@@ -4,9 +4,13 @@
 mod examples;
 mod laws;
 
-pub use examples::{a_call_that_reads_its_argument_twice_refines, an_argument_is_read_twice};
+pub use examples::{
+    a_call_that_reads_its_argument_twice_refines, an_argument_is_read_behind_a_call,
+    an_argument_is_read_twice, objects_are_closed_when_they_are_made,
+};
 pub use laws::{
     agreement_beside_less, agreement_kept, argument_places, argument_steps, begun_agreement,
-    bodies_alike, call_steps, calls_refine, common_facts, entered_expressions, moved_operands,
-    named_reads_are_apart, node_steps, state_steps, tree_steps,
+    bodies_alike, call_steps, calls_refine, closed_calls_refine, closed_objects_are_left_alone,
+    closed_objects_stay, common_facts, entered_expressions, moved_operands, named_reads_are_apart,
+    node_steps, state_steps, tree_steps,
 };

@@ -1,0 +1,14 @@
+use Rattle.dm_central.proofs.AroundExample as around
+use Rattle.dm_central.proofs.examples.an_argument_is_read_behind_a_call.Goals as goal
+
+pub returns-clause-calls : goal.returns-clause-calls
+returns-clause-calls c = around.in_place
+
+pub returns-clause-named : goal.returns-clause-named
+returns-clause-named c = around.only_named
+
+pub returns-clause-whole : goal.returns-clause-whole
+returns-clause-whole c = around.whole_program
+
+pub returns-clause-refines : goal.returns-clause-refines
+returns-clause-refines c = around.refines
