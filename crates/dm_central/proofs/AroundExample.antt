@@ -1,6 +1,6 @@
 -- A small program whose argument is read behind a call meets the premises of the law: no pointer leads to the object that it reads.
 use Rattle.std.specs.List.{list_all}
-use Rattle.std.specs.Prelude.{◌≡◌, refl, ◌⊎◌, ℕ, zero, suc, ◌==◌, Bool, true, false, List, [], ◌∷◌, ◌++◌, Option, Some, None, option_map, is_some, if◌then◌else◌}
+use Rattle.std.specs.Prelude.{◌≡◌, refl, ◌⊎◌, ℕ, zero, suc, ◌==◌, Bool, true, false, [], ◌∷◌, ◌++◌, Option, Some, None, option_map, is_some, if◌then◌else◌}
 use Rattle.std.proofs.Common.{arith, true≢false, ap, sym, ◌∙◌, subst, inl, inr}
 use Rattle.dm_int.specs.declared.Kind.TheVariants.{Int}
 use Rattle.dm_type.specs.CTypes.{integer}
@@ -20,7 +20,7 @@ use Rattle.dm_meaning.proofs.OptionLemmas.{none_is_some, some_is_some}
 use Rattle.dm_meaning.proofs.RunLemmas.{OptionAgrees}
 use Rattle.dm_rewrite.specs.Closed.{IsClosedIn, IsPlace}
 use Rattle.dm_rewrite.specs.ClosedStates.{NamesOnly, ListNamesOnly, ProgramNamesOnly}
-use Rattle.dm_rewrite.specs.Effects.{Effect, on_others, Stage, Hits, IsFree, effects_of}
+use Rattle.dm_rewrite.specs.Effects.{Stage, Hits, IsFree, effects_of}
 use Rattle.dm_central.specs.Added.{IsAdded}
 use Rattle.dm_central.specs.Agreement.{BegunOutside}
 use Rattle.dm_central.specs.Arguments.{ReadsApart, at_once, untouched, ReadsParameter, ReadsFirst}

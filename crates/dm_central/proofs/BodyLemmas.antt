@@ -1,5 +1,5 @@
 -- Trees of statements that agree: their nodes are the same, or calls of the added function, so that statements begin, decide and end alike.
-use Rattle.std.specs.Prelude.{◌≡◌, refl, ◌⊎◌, ℕ, ◌+◌, ◌≤◌, ◌==◌, Bool, true, false, not, ◌&&◌, List, [], ◌∷◌, ◌++◌, Option, Some, None, if◌then◌else◌}
+use Rattle.std.specs.Prelude.{◌≡◌, refl, ◌⊎◌, ℕ, ◌+◌, ◌≤◌, ◌==◌, Bool, true, false, not, ◌&&◌, List, [], ◌∷◌, Option, Some, None, if◌then◌else◌}
 use Rattle.std.proofs.Common.{arith, true≢false, ap, sym, ◌∙◌, inl, inr}
 use Rattle.dm_type.specs.CTypes.{CType}
 use Rattle.dm_tree.specs.Trees.{Label, function, choose, comma, member, call, case, is_statement, Spans, Tree, Trees, node, no_trees, more_trees, label_of, kind_of, trees_of, parts_of}

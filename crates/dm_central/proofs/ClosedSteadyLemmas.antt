@@ -1,6 +1,6 @@
 -- What the relation asks of the old program it keeps, where its trees name certain declarations only where they read or write.
 use Rattle.std.specs.Prelude.{◌≡◌, refl, ℕ, Bool, true, false, List, [], ◌∷◌, ◌++◌}
-use Rattle.std.proofs.Common.{true≢false, ap, sym, ◌∙◌, subst, inl, inr}
+use Rattle.std.proofs.Common.{true≢false, ap, sym, ◌∙◌, subst, inl}
 use Rattle.dm_token.specs.declared.place.Place.{Place}
 use Rattle.dm_tree.specs.Trees.{is_statement, Tree, label_of}
 use Rattle.dm_meaning.specs.Among.{IsAmong}

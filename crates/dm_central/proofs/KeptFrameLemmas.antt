@@ -193,10 +193,10 @@ module _ (program : Program) (test : ℕ → Bool) (s t : State) (step : Step pr
         by_starts caller behind was e g [] f kept = absurd kept
         by_starts caller behind was e g (start ∷ more) f kept =
             let worlds =
-                ap (λ (ws : List World). worlds_after ws s.world s.callers t.callers) f
-                ∙ ap (λ (cs : List Caller). worlds_after (start ∷ more) s.world cs t.callers) was
-                ∙ ap (λ (cs : List Caller). worlds_after (start ∷ more) s.world (caller ∷ behind) cs) e
-                ∙ fewer_worlds start more s.world behind caller in
+            ap (λ (ws : List World). worlds_after ws s.world s.callers t.callers) f
+            ∙ ap (λ (cs : List Caller). worlds_after (start ∷ more) s.world cs t.callers) was
+            ∙ ap (λ (cs : List Caller). worlds_after (start ∷ more) s.world (caller ∷ behind) cs) e
+            ∙ fewer_worlds start more s.world behind caller in
             placed more behind worlds e g
             (rest_kept more behind (λ one l. subst (IsAmong one) (sym f) (inr l)) (λ one l. subst (IsAmong one) (sym worlds) l) (λ n b. subst (λ (cs : List Caller). IsClosedBelow test cs n) (sym was) (inr b)) kept.1)
 

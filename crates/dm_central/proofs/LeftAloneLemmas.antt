@@ -2,20 +2,18 @@
 use Rattle.std.specs.Prelude.{◌≡◌, refl, ◌⊎◌, ℕ, Bool, true, List, [], ◌∷◌, ◌++◌, length, Option, Some, None}
 use Rattle.std.proofs.Common.{ap, sym, ◌∙◌, subst, inl, inr}
 use Rattle.dm_token.specs.declared.place.Place.{Place}
-use Rattle.dm_type.specs.CTypes.{CType}
 use Rattle.dm_tree.specs.Trees.{object, store, update, count, call, Tree, parts_of}
 use Rattle.dm_meaning.specs.Among.{IsAmong}
-use Rattle.dm_meaning.specs.Expressions.{Move, goes, calls, function_named, moves}
+use Rattle.dm_meaning.specs.Expressions.{goes, calls}
 use Rattle.dm_meaning.specs.Memory.{look_up}
-use Rattle.dm_meaning.specs.MoreObjects.{IsMade}
 use Rattle.dm_meaning.specs.Operations.{of_value, designates, World, Objects, object_named}
 use Rattle.dm_meaning.specs.Programs.{Program, Definition}
-use Rattle.dm_meaning.specs.Running.{Doing, evaluates as evaluates_label, Run, done, to_do, Runs, no_runs, more_runs, begun, Hole, filled_in, locks_in}
+use Rattle.dm_meaning.specs.Running.{Doing, evaluates as evaluates_label, Run, done, to_do, Runs, no_runs, more_runs, begun, filled_in, locks_in}
 use Rattle.dm_meaning.specs.States.{Use, Task, evaluates, Frame, Caller, State}
 use Rattle.dm_meaning.specs.Statements.{declared_in, named_from, unfolded, entered}
-use Rattle.dm_meaning.specs.Steps.{opened_frame, scene_of, Step}
+use Rattle.dm_meaning.specs.Steps.{opened_frame, Step}
 use Rattle.dm_meaning.specs.Units.{start, Begins}
-use Rattle.dm_meaning.specs.Values.{numbered, Value}
+use Rattle.dm_meaning.specs.Values.{numbered}
 use Rattle.dm_meaning.proofs.AmongLemmas.{among_left, among_right, among_either}
 use Rattle.dm_meaning.proofs.OptionLemmas.{none_is_some}
 use Rattle.dm_rewrite.specs.Closed.{MemoryAvoids, IsClosedIn}
@@ -25,7 +23,7 @@ use Rattle.dm_rewrite.proofs.ClosedStateLemmas.{only_join, unfolded_closed}
 use Rattle.dm_rewrite.proofs.ShrinkEffectLemmas.{run_calm}
 use Rattle.dm_rewrite.proofs.UnnamedLemmas.{begun_free}
 use Rattle.dm_central.specs.ClosedFrames.{CallersHave, AreClosedIn, AreAllClosed}
-use Rattle.dm_central.specs.LeftAlone.{IsUnnamed, stage_with, HasNoEffect, AllUnnamed, IsOther, HasNoEffects, FrameLeaves, CallerLeaves, IsPickedIn, IsClosedBelow, CallersLeave, AreLeftAlone}
+use Rattle.dm_central.specs.LeftAlone.{IsUnnamed, stage_with, HasNoEffect, AllUnnamed, IsOther, HasNoEffects, FrameLeaves, IsClosedBelow, CallersLeave, AreLeftAlone}
 use Rattle.dm_central.specs.Waiting.{AreOwn}
 use Rattle.dm_central.proofs.ClosedFrameLemmas.{from_named}
 use Rattle.dm_central.proofs.ShapeLemmas.{items_have_none, Shape, RunsKeep, step_shape}

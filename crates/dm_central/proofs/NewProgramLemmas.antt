@@ -1,6 +1,6 @@
 -- The new program names the closed objects only so too. Its memory is that of the old one beside the objects of the parameters, so no pointer leads to
 -- closed objects there, nor does the value of a parameter.
-use Rattle.std.specs.Prelude.{◌≡◌, refl, ◌⊎◌, ℕ, ◌==◌, Bool, true, List, [], ◌∷◌, map, Some}
+use Rattle.std.specs.Prelude.{◌≡◌, refl, ◌⊎◌, ℕ, ◌==◌, Bool, true, List, [], ◌∷◌}
 use Rattle.std.proofs.Common.{ap, sym, ◌∙◌, subst, inl, inr}
 use Rattle.dm_meaning.specs.Among.{IsAmong}
 use Rattle.dm_meaning.specs.Called.{Called, new_of}
@@ -20,7 +20,7 @@ use Rattle.dm_meaning.proofs.PassRunLemmas.{Entry as Stored}
 use Rattle.dm_meaning.proofs.PassStateLemmas.{Spare, flat}
 use Rattle.dm_meaning.proofs.RunLemmas.{renamed_objects}
 use Rattle.dm_rewrite.specs.Closed.{MemoryAvoids}
-use Rattle.dm_rewrite.specs.ClosedStates.{ProgramNamesOnly, IsClosedState}
+use Rattle.dm_rewrite.specs.ClosedStates.{ProgramNamesOnly}
 use Rattle.dm_central.specs.Bodies.{Known, closed_numbers}
 use Rattle.dm_central.specs.ClosedFrames.{CallersHave, AreClosedIn, AreAllClosed}
 use Rattle.dm_central.specs.LeftAlone.{IsPickedIn}

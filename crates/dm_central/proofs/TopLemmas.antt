@@ -1,5 +1,5 @@
 -- The first task of a frame, whose full expression may be under evaluation, and the worlds at calls.
-use Rattle.std.specs.Prelude.{◌≡◌, refl, ℕ, ◌≤◌, ◌+◌, ◌==◌, Bool, true, false, List, [], ◌∷◌, ◌++◌, Some, if◌then◌else◌}
+use Rattle.std.specs.Prelude.{◌≡◌, refl, ℕ, ◌≤◌, ◌+◌, ◌==◌, Bool, true, false, List, [], ◌∷◌, Some, if◌then◌else◌}
 use Rattle.std.proofs.Common.{arith, true≢false, ap, sym, ◌∙◌, subst, inl, inr}
 use Rattle.dm_tree.specs.Trees.{is_statement, Tree, node, label_of}
 use Rattle.dm_meaning.specs.Called.{Called}

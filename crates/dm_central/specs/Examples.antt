@@ -88,8 +88,8 @@ int_of_nothing = function_type int no_types
 abbrev pub around_of : ℕ → ℕ → Tree
 around_of d g =
     node (binary Add) int spans (trees (
-      node (binary Add) int spans (trees (reading d ∷ node call int spans (trees (node (function g) int_of_nothing spans (trees []) ∷ [])) ∷ []))
-      ∷ reading d ∷ []))
+    node (binary Add) int spans (trees (reading d ∷ node call int spans (trees (node (function g) int_of_nothing spans (trees []) ∷ [])) ∷ []))
+    ∷ reading d ∷ []))
 
 abbrev pub around : Definition
 around = record { function = 2; parameters = 3 ∷ []; body = node block void spans (trees (node return void spans (trees (around_of 3 4 ∷ [])) ∷ [])) }
