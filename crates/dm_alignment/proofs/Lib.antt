@@ -1,0 +1,4 @@
+pub mod NameLemmas
+pub mod AddedLemmas
+pub mod ReadingLemmas
+pub mod RunLemmas

@@ -1,0 +1,54 @@
+-- Readings of a unit before and after the edit of a macro's definition (6.9).
+--     entries_behind reading k      how many entries the unit has behind its first external declarations
+--     DeclaresAlone reading k name number      in file scope the external declaration of this number declares this name and nothing else
+--     IsInsertion old new change put      what the edit adds to the new reading
+--     AreAlignedReadings old new change      the readings are the same but for that, and for what stands where runs of the macro stood
+use Rattle.std.specs.Prelude.{◌≡◌, ℕ, suc, ◌+◌, true, false, List, [], ◌∷◌, Option, Some, None}
+use Rattle.dm_align.specs.Insertions.{IsOfKind, number_of}
+use Rattle.dm_align.specs.Units.{AreAligned, Insertion}
+use Rattle.dm_edit.specs.declared.change.Change.{Change}
+use Rattle.dm_meanings.specs.Captures.{source_in}
+use Rattle.dm_meanings.specs.Types.{syntax_in, unit_in}
+use Rattle.dm_names.specs.declared.identifier.Entered.{Entered}
+use Rattle.dm_names.specs.Meanings as names
+use Rattle.dm_reading.specs.declared.reading.Reading.{Reading}
+use Rattle.dm_rules.specs.Places.{externals_behind}
+use Rattle.dm_rules.specs.Uses.{reads, runs_in}
+
+-- ---- file scope (6.2.1)
+
+unfoldable pub entries_behind : Reading → ℕ → ℕ
+entries_behind reading k = names.entries_behind (source_in reading) (syntax_in reading) k
+
+-- a name that is no tag
+abbrev pub entered_alone : List ℕ → ℕ → Entered
+entered_alone name number = record { name = name; tag = false; number = number }
+
+-- no other name, and no tag
+unfoldable pub DeclaresAlone : Reading → ℕ → List ℕ → ℕ → Type 0
+DeclaresAlone reading k name number = names.entered_by (source_in reading) (syntax_in reading) k ≡ entered_alone name number ∷ []
+
+-- ---- what the edit adds
+
+-- One external declaration stands where the definition stood, behind as many as there. At any depth it declares what is entered behind it and
+-- not before it; and in file scope the macro's name alone, as a declaration of the change's kind.
+pub record IsInsertion (old new : Reading) (change : Change) (put : Insertion) : Type 0 where
+  pub read : reads change.definition old ≡ true
+  pub external : put.external ≡ externals_behind change.definition old
+  pub first : put.first ≡ entries_behind new put.external
+  pub behind : put.first + put.count ≡ entries_behind new (suc put.external)
+  pub name : put.name ≡ change.definition.name
+  pub kind : IsOfKind change.kind put.added
+  pub alone : DeclaresAlone new put.external put.name (number_of put.added)
+
+-- nothing where the unit doesn't read the definition
+abbrev pub AddsBy : Reading → Reading → Change → Option Insertion → Type 0
+AddsBy old new change None = reads change.definition old ≡ false
+AddsBy old new change (Some put) = IsInsertion old new change put
+
+-- ---- readings
+
+abbrev pub AreAlignedReadings : Reading → Reading → Change → Type 0
+AreAlignedReadings old new change =
+    (put : Option Insertion) × AddsBy old new change put
+    × AreAligned old.types new.types (unit_in old) (unit_in new) (runs_in change.definition old) put

@@ -1,0 +1,87 @@
+//! What the edit of a macro's definition adds to a unit.
+
+ghost use Rattle.std.specs.Prelude.{◌≡◌, ◌↔◌, ℕ, [], ◌∷◌, IfNone, IfOk, IfSome, IsTrue};
+ghost use Rattle.dm_align.specs.Units.{Insertion};
+ghost use Rattle.dm_alignment.specs.Insertions.{IsInserted};
+ghost use Rattle.dm_alignment.specs.Readings as seen;
+ghost use Rattle.dm_alignment.specs.Readings.{IsInsertion};
+
+use dm_align::Inserted;
+use dm_edit::Change;
+use dm_meanings::Meanings;
+use dm_names::Entered;
+use dm_rules::Index;
+use dm_token::{Memory, Text};
+
+/// How many entries a unit has behind its first external declarations.
+fn entries_behind(unit: &Meanings, externals: u32) -> u32
+    ensures { result ≡ seen.entries_behind unit.now.index.now.reading.now externals }
+{
+    unit.names.entries_behind(externals)
+}
+
+/// The number of the entry of a name, where an external declaration declares in file scope this name and no other.
+fn number_alone(unit: &Meanings, external: u32, name: &Text) -> Option<u32>
+    ensures found { IfSome result (λ number. seen.DeclaresAlone unit.now.index.now.reading.now external name.now number) }
+    ensures none { IfNone result ((number : ℕ) → ¬ seen.DeclaresAlone unit.now.index.now.reading.now external name.now number) }
+{
+    number_of_only(unit.names.entered(external), name)
+}
+
+/// The number of the entry of a name, where it alone is entered.
+fn number_of_only(entered: &[Entered], name: &Text) -> Option<u32>
+    ensures found { IfSome result (λ number. entered.now ≡ seen.entered_alone name.now number ∷ []) }
+    ensures none { IfNone result ((number : ℕ) → ¬ (entered.now ≡ seen.entered_alone name.now number ∷ [])) }
+{
+    match entered {
+        [one] => number_of(one, name),
+        _ => None,
+    }
+}
+
+/// The number of an entry, if it is of this name and no tag.
+fn number_of(one: &Entered, name: &Text) -> Option<u32>
+    ensures found { IfSome result (λ number. one.now ≡ seen.entered_alone name.now number) }
+    ensures none { IfNone result ((number : ℕ) → ¬ (one.now ≡ seen.entered_alone name.now number)) }
+{
+    if is_same_name(&one.name, name) && !one.tag {
+        Some(one.number)
+    } else {
+        None
+    }
+}
+
+fn is_same_name(one: &Text, other: &Text) -> bool
+    ensures { IsTrue result ↔ (one.now ≡ other.now) }
+{
+    one == other
+}
+
+/// What the edit adds, where the unit reads the definition. More than 4,294,967,294 external declarations count as want of memory.
+pub(crate) fn added_to<'a>(
+    old: &Index,
+    new: &Meanings,
+    change: &'a Change,
+) -> Result<Option<Inserted<'a>>, Memory>
+    ensures found { IfOk result (λ found. IfSome found (IsInserted old.now.reading.now new.now.index.now.reading.now change.now)) }
+    ensures none { IfOk result (λ found. IfNone found ((put : Insertion) → ¬ IsInsertion old.now.reading.now new.now.index.now.reading.now change.now put)) }
+{
+    let external = old.externals_behind(&change.definition);
+    let behind = external.checked_add(1).ok_or(Memory)?;
+    let first = entries_behind(new, external);
+    let Some(count) = entries_behind(new, behind).checked_sub(first) else {
+        return Ok(None);
+    };
+    let name = &change.definition.name;
+    let Some(number) = number_alone(new, external, name) else {
+        return Ok(None);
+    };
+    Ok(Some(Inserted {
+        external: external as usize,
+        first,
+        count,
+        name,
+        number,
+        kind: change.kind,
+    }))
+}
