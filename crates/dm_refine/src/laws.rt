@@ -1,0 +1,30 @@
+//! What follows for the programs of aligned units.
+
+ghost use Rattle.std.specs.Prelude.{◌≡◌, ℕ, List, Option, None, ℤ};
+ghost use Rattle.dm_runs.specs.declared.run.Run.{Run};
+ghost use Rattle.dm_type.specs.Tables.{Table};
+ghost use Rattle.dm_tree.specs.Typing.{IsWellTypedUnit};
+ghost use Rattle.dm_tree.specs.Units.{TypedUnit};
+ghost use Rattle.dm_meaning.specs.Refinement.{Refines};
+ghost use Rattle.dm_meaning.specs.Units.{machine_of, program_of};
+ghost use Rattle.dm_agree.specs.Agreement.{added_enumerator};
+ghost use Rattle.dm_align.specs.Units.{Insertion, AreAligned, added_by};
+
+/// Where nothing is put in, as in a unit that doesn't read the definition, each of the two programs refines the other.
+pub fn unread_units_refine()
+    ensures new { (old_types new_types : Table) (old new : TypedUnit) (runs : List Run)
+        → IsWellTypedUnit old_types old → IsWellTypedUnit new_types new → AreAligned old_types new_types old new runs None
+        → Refines (machine_of (program_of new_types new)) (machine_of (program_of old_types old)) }
+    ensures old { (old_types new_types : Table) (old new : TypedUnit) (runs : List Run)
+        → IsWellTypedUnit old_types old → IsWellTypedUnit new_types new → AreAligned old_types new_types old new runs None
+        → Refines (machine_of (program_of old_types old)) (machine_of (program_of new_types new)) }
+{}
+
+/// Where an enumerator is put in, which stands in place of the runs, the new program refines the old one. The units need be well typed and no
+/// more: an enumerator may stand wherever an integer constant expression of its type does.
+pub fn enumerated_units_refine()
+    ensures { (old_types new_types : Table) (old new : TypedUnit) (runs : List Run) (put : Option Insertion) (d : ℕ) (value : ℤ)
+        → IsWellTypedUnit old_types old → IsWellTypedUnit new_types new → AreAligned old_types new_types old new runs put
+        → added_by put ≡ added_enumerator d value
+        → Refines (machine_of (program_of new_types new)) (machine_of (program_of old_types old)) }
+{}

@@ -1,0 +1,8 @@
+//! When two typed units are aligned, the program of the new one refines that of the old one.
+#![tactic(auto)]
+
+mod examples;
+mod laws;
+
+pub use examples::an_enumerator_refines;
+pub use laws::{enumerated_units_refine, unread_units_refine};
