@@ -5,3 +5,11 @@ mod EnumeratorTreeLemmas
 mod EnumeratorUnitLemmas
 mod BackLemmas
 mod EnumeratorExample
+mod InertLemmas
+mod RangeLemmas
+mod StaticLemmas
+mod ConstantTreeLemmas
+mod ConstantEntryLemmas
+mod ConstantLocalLemmas
+mod ConstantUnitLemmas
+mod ConstantExample

@@ -4,5 +4,5 @@
 mod examples;
 mod laws;
 
-pub use examples::an_enumerator_refines;
-pub use laws::{enumerated_units_refine, unread_units_refine};
+pub use examples::{a_constant_refines, an_enumerator_refines};
+pub use laws::{enumerated_units_refine, named_constant_units_refine, unread_units_refine};

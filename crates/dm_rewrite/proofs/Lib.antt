@@ -17,6 +17,7 @@ mod NamedStatementLemmas
 mod NamedSizeLemmas
 mod NamedStateLemmas
 mod NamedRefineLemmas
+pub mod NamedValueLemmas
 mod NamedStaticLemmas
 mod NamedStartLemmas
 mod NamedUnitLemmas

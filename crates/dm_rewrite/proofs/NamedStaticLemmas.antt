@@ -1,13 +1,12 @@
 -- How a run begins where the new program has one object of static storage duration more: it takes a name of its own, and all other objects
 -- are those of the old program, which takes the other names in order.
-use Rattle.std.specs.Prelude.{◌≡◌, refl, ℕ, suc, ◌+◌, ◌<◌, ◌≤◌, ◌==◌, nat_lt, Bool, true, false, List, [], ◌∷◌, ◌++◌, length, take, drop, Option, Some, None, option_map, option_and_then, slice_get, ℤ, if◌then◌else◌}
-use Rattle.std.proofs.Common.{arith, ap, sym, ◌∙◌, subst, inl, inr}
+use Rattle.std.specs.Prelude.{◌≡◌, refl, ℕ, suc, ◌+◌, ◌<◌, ◌≤◌, ◌==◌, nat_lt, Bool, true, false, List, [], ◌∷◌, ◌++◌, length, take, drop, Option, Some, None, option_map, ℤ, if◌then◌else◌}
+use Rattle.std.proofs.Common.{arith, ap, sym, ◌∙◌, subst}
 use Rattle.dm_int.specs.declared.Op.{Op}
 use Rattle.dm_int.specs.Kinds as kinds
 use Rattle.dm_type.specs.CTypes.{CType, void, integer, pointer, array, struct, function as function_type, const, bare}
 use Rattle.dm_tree.specs.declared.unit.Sort.{Sort}
-use Rattle.dm_tree.specs.Constants.{is_constant_form, constant_forms, has_constant_form, kinds_in, constant_value, constant_values, value_at, value_if_enumerator, enumerator_value}
-use Rattle.dm_tree.specs.Trees.{Label, enumerator, literal, object, member, decay, address, follow, convert, binary, sizeof_tree, Initialiser, Initialisers, one_expression, in_braces, no_items, more_items, expressions_in, Tree, Trees, node, no_trees, more_trees, kind_of, listed}
+use Rattle.dm_tree.specs.Trees.{Label, enumerator, literal, object, member, decay, address, follow, convert, binary, Initialiser, Initialisers, one_expression, in_braces, no_items, more_items, expressions_in, Tree, Trees, node, no_trees, more_trees, kind_of, listed}
 use Rattle.dm_tree.specs.Units.{Declaration}
 use Rattle.dm_meaning.specs.Values.{Name, numbered, literal_of, elsewhere, Pointer, null, to, integer_value, pointer_value, values, parts_in, parts as compound}
 use Rattle.dm_meaning.specs.Objects.{inner_type, all_zero}
@@ -24,8 +23,9 @@ use Rattle.dm_meaning.proofs.GrowLemmas.{equal_is, differ_is, look_added, look_b
 use Rattle.dm_meaning.proofs.RunLemmas.{same_renamed}
 use Rattle.dm_meaning.proofs.StatementLemmas.{zipped_take, zipped_drop}
 use Rattle.dm_rewrite.specs.Closed.{PointerAvoids}
-use Rattle.dm_rewrite.specs.NamedConstants.{Named, new_of, Agrees, AllAgree, IsNaming, IfSizeof, IsRenamed, AreRenamed, StaticAgrees, IsAddedObject, AddsObject, held, NameAlike}
+use Rattle.dm_rewrite.specs.NamedConstants.{Named, new_of, IsNaming, IfSizeof, IsRenamed, AreRenamed, StaticAgrees, IsAddedObject, AddsObject, held, NameAlike}
 use Rattle.dm_rewrite.proofs.NamedSizeLemmas.{likeness}
+use Rattle.dm_rewrite.proofs.NamedValueLemmas.{renamed_kind, renamed_constant}
 use Rattle.dm_rewrite.proofs.NamedStatementLemmas as alike
 
 -- ---- memories of which one has an object more
@@ -164,103 +164,12 @@ unfolding name_fact
 identifier_is None = refl
 identifier_is (Some declaration) = refl
 
-enumerator_fact : Option (List ℕ × Sort × CType) → Option ℤ
-enumerator_fact None = None
-enumerator_fact (Some facts) = value_if_enumerator facts.1
-
-enumerator_is : (o : Option Declaration) → option_and_then (λ (entry : Declaration). value_if_enumerator entry.sort) o ≡ enumerator_fact (option_map facts_of o)
-unfolding enumerator_fact
-enumerator_is None = refl
-enumerator_is (Some declaration) = refl
-
 module _ (change : Named) (naming : IsNaming change) where
   same_type : (d : ℕ) → type_declared (new_of change) (change.rename d) ≡ type_declared change.old d
   same_type d = alike.same_type change (likeness change 0 naming) d
 
-  same_value : (d : ℕ) → enumerator_value change.declared (change.rename d) ≡ enumerator_value change.old.declared d
-  same_value d = enumerator_is (slice_get change.declared (change.rename d)) ∙ ap enumerator_fact (naming.told d) ∙ sym (enumerator_is (slice_get change.old.declared d))
-
   same_identifier : (d : ℕ) → identifier_of (declaration_of (new_of change) (change.rename d)) ≡ identifier_of (declaration_of change.old d)
   same_identifier d = identifier_is (declaration_of (new_of change) (change.rename d)) ∙ ap name_fact (naming.told d) ∙ sym (identifier_is (declaration_of change.old d))
-
-  -- ---- constant expressions
-
-  agreeing_kind : (tree other : Tree) → Agrees change tree other → kind_of tree ≡ kind_of other
-  agreeing_kind (node label kind spans parts) other (inl h) = h.1
-  agreeing_kind (node label kind spans parts) other (inr h) = h.typed ∙ sym h.constant.kind
-
-  agreeing_kinds : (trees others : Trees) → AllAgree change trees others → kinds_in trees ≡ kinds_in others
-  agreeing_kinds no_trees no_trees h = refl
-  agreeing_kinds no_trees (more_trees other others) h = absurd h
-  agreeing_kinds (more_trees first rest) no_trees h = absurd h
-  agreeing_kinds (more_trees first rest) (more_trees other others) h =
-      ap (λ k. k ∷ kinds_in rest) (agreeing_kind first other h.0) ∙ ap (λ l. kind_of other ∷ l) (agreeing_kinds rest others h.1)
-
-  renamed_kind : (tree other : Tree) → IsRenamed change tree other → kind_of tree ≡ kind_of other
-  renamed_kind (node label kind spans parts) other h = h.1
-
-  renamed_kinds : (trees others : Trees) → AreRenamed change trees others → kinds_in trees ≡ kinds_in others
-  renamed_kinds no_trees no_trees h = refl
-  renamed_kinds no_trees (more_trees other others) h = absurd h
-  renamed_kinds (more_trees first rest) no_trees h = absurd h
-  renamed_kinds (more_trees first rest) (more_trees other others) h =
-      ap (λ k. k ∷ kinds_in rest) (renamed_kind first other h.0) ∙ ap (λ l. kind_of other ∷ l) (renamed_kinds rest others h.1)
-
-  form_label : (label : Label) (kind : CType) (passes others : List Bool) (A B : Type 0) → IfSizeof label A B → (B → passes ≡ others)
-      → has_constant_form (relabelled change.rename label) kind passes ≡ has_constant_form label kind others
-  form_label sizeof_tree kind passes others A B h same = refl
-  form_label (enumerator d) kind passes others A B h same = refl
-  form_label label kind passes others A B h same = ap (has_constant_form label kind) (same h)
-
-  mutual
-    renamed_form : (tree other : Tree) → IsRenamed change tree other → is_constant_form tree ≡ is_constant_form other
-    renamed_form (node label kind spans parts) (node other other_kind other_spans others) h =
-        ap (λ l. has_constant_form l kind (constant_forms parts)) h.0
-        ∙ ap (λ k. has_constant_form (relabelled change.rename other) k (constant_forms parts)) h.1
-        ∙ form_label other other_kind (constant_forms parts) (constant_forms others) _ _ h.2 (λ k. renamed_forms parts others k)
-
-    renamed_forms : (trees others : Trees) → AreRenamed change trees others → constant_forms trees ≡ constant_forms others
-    renamed_forms no_trees no_trees h = refl
-    renamed_forms no_trees (more_trees other others) h = absurd h
-    renamed_forms (more_trees first rest) no_trees h = absurd h
-    renamed_forms (more_trees first rest) (more_trees other others) h =
-        ap (λ b. b ∷ constant_forms rest) (renamed_form first other h.0) ∙ ap (λ l. is_constant_form other ∷ l) (renamed_forms rest others h.1)
-
-  size_at : (declared : List Declaration) (kind : CType) (kinds : List CType) (values others : List (Option ℤ))
-      → value_at change.old.table declared sizeof_tree kind kinds values ≡ value_at change.old.table change.old.declared sizeof_tree kind kinds others
-  size_at declared kind [] values others = refl
-  size_at declared kind (x ∷ []) values others = refl
-  size_at declared kind (x ∷ y ∷ rest) values others = refl
-
-  value_label : (label : Label) (kind : CType) (kinds other_kinds : List CType) (values others : List (Option ℤ)) (A B : Type 0) → IfSizeof label A B
-      → (A → kinds ≡ other_kinds) → (B → kinds ≡ other_kinds) → (B → values ≡ others)
-      → value_at change.old.table change.declared (relabelled change.rename label) kind kinds values ≡ value_at change.old.table change.old.declared label kind other_kinds others
-  value_label sizeof_tree kind kinds other_kinds values others A B h a b c =
-      ap (λ ks. value_at change.old.table change.declared sizeof_tree kind ks values) (a h) ∙ size_at change.declared kind other_kinds values others
-  value_label (enumerator d) kind kinds other_kinds values others A B h a b c = same_value d
-  value_label label kind kinds other_kinds values others A B h a b c =
-      ap (λ ks. value_at change.old.table change.declared label kind ks values) (b h) ∙ ap (value_at change.old.table change.declared label kind other_kinds) (c h)
-
-  mutual
-    renamed_value : (tree other : Tree) → IsRenamed change tree other → constant_value change.old.table change.declared tree ≡ constant_value change.old.table change.old.declared other
-    renamed_value (node label kind spans parts) (node other other_kind other_spans others) h =
-        ap (λ l. value_at change.old.table change.declared l kind (kinds_in parts) (constant_values change.old.table change.declared parts)) h.0
-        ∙ ap (λ k. value_at change.old.table change.declared (relabelled change.rename other) k (kinds_in parts) (constant_values change.old.table change.declared parts)) h.1
-        ∙ value_label other other_kind (kinds_in parts) (kinds_in others) (constant_values change.old.table change.declared parts) (constant_values change.old.table change.old.declared others) _ _ h.2
-        (agreeing_kinds parts others) (renamed_kinds parts others) (λ k. renamed_values parts others k)
-
-    renamed_values : (trees others : Trees) → AreRenamed change trees others → constant_values change.old.table change.declared trees ≡ constant_values change.old.table change.old.declared others
-    renamed_values no_trees no_trees h = refl
-    renamed_values no_trees (more_trees other others) h = absurd h
-    renamed_values (more_trees first rest) no_trees h = absurd h
-    renamed_values (more_trees first rest) (more_trees other others) h =
-        ap (λ v. v ∷ constant_values change.old.table change.declared rest) (renamed_value first other h.0)
-        ∙ ap (λ l. constant_value change.old.table change.old.declared other ∷ l) (renamed_values rest others h.1)
-
-  renamed_constant : (tree other : Tree) → IsRenamed change tree other → constant_of (new_of change) tree ≡ constant_of change.old other
-  renamed_constant tree other h =
-      ap (λ b. if b then constant_value change.old.table change.declared tree else None) (renamed_form tree other h)
-      ∙ ap (λ v. if is_constant_form other then v else None) (renamed_value tree other h)
 
   listed_renamed : (trees others : Trees) → AreRenamed change trees others → Zipped (IsRenamed change) (listed trees) (listed others)
   listed_renamed no_trees no_trees h = tt
@@ -300,11 +209,11 @@ module _ (change : Named) (naming : IsNaming change) where
         let right = or_zero (constant_of change.old y') in
         let left = or_zero (constant_of change.old y) in
         ap (λ k. if is_pointer k then pointer_moved (new_of change) more kind (first_pointer ps) (move_of op (or_zero (constant_of (new_of change) x')))
-        else pointer_moved (new_of change) more kind (second_pointer ps) (or_zero (constant_of (new_of change) x))) (renamed_kind x y h.0)
+        else pointer_moved (new_of change) more kind (second_pointer ps) (or_zero (constant_of (new_of change) x))) (renamed_kind change naming.told x y h.0)
         ∙ if_alike (is_pointer (kind_of y)) _ _ _ _
-        (ap (λ o. pointer_moved (new_of change) more kind (first_pointer ps) (move_of op (or_zero o))) (renamed_constant x' y' h.1.0)
+        (ap (λ o. pointer_moved (new_of change) more kind (first_pointer ps) (move_of op (or_zero o))) (renamed_constant change naming.told x' y' h.1.0)
         ∙ moved_alike kind (first_pointer ps) (move_of op right) (first_avoids n ps a))
-        (ap (λ o. pointer_moved (new_of change) more kind (second_pointer ps) (or_zero o)) (renamed_constant x y h.0)
+        (ap (λ o. pointer_moved (new_of change) more kind (second_pointer ps) (or_zero o)) (renamed_constant change naming.told x y h.0)
         ∙ moved_alike kind (second_pointer ps) left (second_avoids n ps a))
     plus_alike op kind (x ∷ x' ∷ []) (y ∷ y' ∷ y'' ∷ ys) ps h a = absurd h.1.1
     plus_alike op kind (x ∷ x' ∷ x'' ∷ xs) (y ∷ y' ∷ []) ps h a = absurd h.1.1
@@ -349,7 +258,7 @@ module _ (change : Named) (naming : IsNaming change) where
     scalar_alike : (kind : CType) (tree other : Tree) → IsRenamed change tree other → static_scalar (new_of change) news more kind tree ≡ static_scalar change.old objects memory kind other
     scalar_alike void tree other h = refl
     scalar_alike (integer kind) tree other h =
-        ap (λ o. integer_value kind (kinds.convert kind (number_or o (address_of (new_of change) news more tree)))) (renamed_constant tree other h)
+        ap (λ o. integer_value kind (kinds.convert kind (number_or o (address_of (new_of change) news more tree)))) (renamed_constant change naming.told tree other h)
         ∙ ap (λ p. integer_value kind (kinds.convert kind (number_or (constant_of change.old other) p))) (address_alike tree other h)
     scalar_alike (pointer target) tree other h = ap pointer_value (address_alike tree other h)
     scalar_alike (array element length_known) tree other h = ap (array_of (array element length_known)) (characters_alike tree other h)
