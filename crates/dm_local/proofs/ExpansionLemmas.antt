@@ -1,6 +1,6 @@
 -- What an expansion makes stands where its tokens and its macros stand. Where these files have the same names, it is the same.
 use Rattle.std.proofs.Common.{◌≡◌, ℕ, zero, suc, ◌+◌, ◌-◌, Bool, true, false, cond, ◌&&◌, ◌||◌, List, [], ◌∷◌, ◌++◌, length, map, Option, Some, None, Result, Ok, Err, refl, sym, ap, ◌∙◌}
-use Rattle.std.specs.Prelude.{IfSome, option_and_then, codes, nat_lt, nat_le, eqb, slice_get, slice_index_or, ◌==◌}
+use Rattle.std.specs.Prelude.{IfSome, option_and_then, codes, nat_lt, nat_le, slice_get, slice_index_or, ◌==◌}
 use Rattle.std.specs.List.{AllByRecursion, list_any}
 use Rattle.dm_token.specs.declared.place.Place.{Place}
 use Rattle.dm_token.specs.declared.stop.Stop.{Stop}
@@ -11,7 +11,6 @@ use Rattle.dm_token.specs.declared.expansion.Definition.{Definition}
 use Rattle.dm_token.specs.declared.expansion.Expansion as made_of
 use Rattle.dm_token.specs.declared.expansion.Mark.{Mark}
 use Rattle.dm_token.specs.declared.expansion.Mark.TheVariants.{Expansion, Argument}
-use Rattle.dm_lex.specs.Classes.{class_of}
 use Rattle.dm_macro.specs.Bodies.{Part, plain, hash, beside, whole, paste, part_of, other_part, parameter_part, token_part, parts_behind, parts_of, places_of, parameter_of, parameters_of, is_last, is_first, first_parameter, named_parameters}
 use Rattle.dm_macro.specs.Signs.{is_hash, is_hash_hash, is_identifier, is_word}
 use Rattle.dm_macro.specs.Tables.{Table, number_of}

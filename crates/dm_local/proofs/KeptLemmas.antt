@@ -1,5 +1,5 @@
 -- Readings that stay: what the laws say.
-use Rattle.std.proofs.Common.{◌≡◌, ℕ, ◌+◌, ◌<◌, ◌≤◌, Bool, true, false, ◌||◌, ◌⊎◌, inl, inr, List, [], ◌∷◌, ◌++◌, length, map, get_or, Option, None, Some, Result, Ok, Err, is_some, refl, sym, ap, ◌∙◌, subst, arith, true≢false}
+use Rattle.std.proofs.Common.{◌≡◌, ℕ, ◌<◌, ◌≤◌, Bool, true, false, ◌||◌, ◌⊎◌, inl, inr, List, [], ◌++◌, length, Option, None, Some, Ok, is_some, refl, sym, ap, ◌∙◌, subst, arith, true≢false}
 use Rattle.std.proofs.Math.ListN.{get_or-map}
 use Rattle.std.proofs.lemmas.Bool.{cases_lt, cases_eq, or_cases}
 use Rattle.std.proofs.lemmas.List.{append-nil, length-map, get_or_past}
@@ -12,9 +12,9 @@ use Rattle.dm_search.specs.Loaded.{Loaded, name_of, number_of, held_at, is_held,
 use Rattle.dm_unit.specs.Loaders.{Grows, is_known, shown}
 use Rattle.dm_unit.specs.Outcomes.{IsLike}
 use Rattle.dm_unit.specs.States.{Setting, Catalogue, State}
-use Rattle.dm_unit.specs.Includes.{number_in, numbered, is_found}
+use Rattle.dm_unit.specs.Includes.{number_in, is_found}
 use Rattle.dm_unit.specs.Readings.{is_among, ReadsUnit}
-use Rattle.dm_unit.specs.Units.{setting_of, first_files, state_with, finished, AreNumbered, HasOutcome, IsReadAs}
+use Rattle.dm_unit.specs.Units.{setting_of, first_files, state_with, AreNumbered, HasOutcome, IsReadAs}
 use Rattle.dm_unit.proofs.FileLemmas.{header-held}
 use Rattle.dm_unit.proofs.GrowLemmas.{known-grows, held-now, held-other}
 use Rattle.dm_unit.proofs.OutcomeLemmas.{one-outcome}

@@ -1,6 +1,7 @@
-mod CatalogueLemmas
-mod ExpansionLemmas
+pub mod CatalogueLemmas
+mod ExampleLemmas
+pub mod ExpansionLemmas
 mod KeptLemmas
 mod OrderLemmas
 mod StayLemmas
-mod TokenLemmas
+pub mod TokenLemmas

@@ -1,11 +1,11 @@
 -- The expansions of a unit ascend.
-use Rattle.std.proofs.Common.{◌≡◌, ℕ, suc, ◌+◌, ◌<◌, ◌≤◌, List, [], ◌∷◌, ◌++◌, length, map, Result, Ok, Err, refl, sym, ap, ◌∙◌, subst, arith}
+use Rattle.std.proofs.Common.{◌≡◌, ℕ, suc, ◌+◌, ◌≤◌, List, [], ◌∷◌, ◌++◌, length, map, Result, Ok, Err, refl, ap, ◌∙◌, subst, arith}
 use Rattle.dm_token.specs.Limits.{most_work}
 use Rattle.dm_token.specs.declared.stop.Stop.{Stop}
 use Rattle.dm_token.specs.declared.token.PpToken.{PpToken}
 use Rattle.dm_token.specs.declared.expansion.Expansion.{Expansion}
-use Rattle.dm_expand.specs.Items.{Item, of_source}
-use Rattle.dm_expand.specs.Steps.{Output, Progress, ◌>>=◌, greatest_work, at_start}
+use Rattle.dm_expand.specs.Items.{of_source}
+use Rattle.dm_expand.specs.Steps.{Output, ◌>>=◌, greatest_work, at_start}
 use Rattle.dm_expand.specs.Expansion.{Macros, Answer, answer_of, expanded, expansion_of}
 use Rattle.dm_expand.specs.Laws.{AreNumbered, Follows, Each}
 use Rattle.dm_expand.specs.AnswerViews.{looked_up}

@@ -37,7 +37,7 @@ use Rattle.dm_unit.specs.Sections.{is_read, after_else, after_skipped_elif, afte
 use Rattle.dm_unit.specs.Includes.{Sought, sought, Searches, SearchesFor, LooksAt, number_in, numbered, is_found, with_found, found_as, first_found, found_files, if_readable, is_header_kind, is_quoted, header_name}
 use Rattle.dm_unit.specs.Definitions.{CannotDefine, DefinesLine, DoesDefine, with_definition, begins_with_name, origin_of, is_plain_head, with_undefined, after_undef, use_of, define_line, define_text, DefinesText, DoesManifest}
 use Rattle.dm_unit.specs.Conditions.{Tested, tested, with_uses, no_condition, Judged, JudgesExpanded, Evaluates, defined_test, names_asked, replaced, is_defined, is_defined_word}
-use Rattle.dm_unit.specs.Readings.{is_among, with_text, after_expansion, after_text, within, pushed, opens, Opens, lost, DoesElifAt, DoesElif, else_in, endif_in, end_in, is_once, with_number, after_pragma, counted, Includes, DoesInclude, DoesRead, DoesDirective, ReadsPart, ReadsParts, begun, ReadsFile, is_passed, Enters, most_nested, DoesManifests, absent_place, ReadsFound, ReadsMain, ReadsUnit}
+use Rattle.dm_unit.specs.Readings.{is_among, with_text, after_expansion, after_text, within, pushed, opens, Opens, lost, DoesElifAt, DoesElif, else_in, endif_in, end_in, is_once, with_number, after_pragma, counted, Includes, DoesInclude, DoesRead, DoesDirective, ReadsPart, ReadsParts, begun, ReadsFile, is_passed, Enters, most_nested, DoesManifests, ReadsFound, ReadsMain, ReadsUnit}
 use Rattle.dm_unit.specs.Views.{AreIn}
 use Rattle.dm_local.proofs.CatalogueLemmas.{called, IsThere, Grown, grown-itself, grown-trans, grown-over, grown-again, longer, called-kept, number-kept, own-kept, there-kept, own-numbered, called-numbered, number-numbered, grown-numbered, numbered-known, slots-numbered, grown-found, found-now, slots-found, among-more, among-last, among-cases}
 use Rattle.dm_local.proofs.ExpansionLemmas.{DefinitionsIn, TokensIn, expansion-alike}

@@ -1,5 +1,5 @@
 -- Where the tokens of files, of their parts and of macros' bodies stand.
-use Rattle.std.proofs.Common.{◌≡◌, ℕ, zero, suc, ◌<◌, Bool, true, false, cond, ◌&&◌, ◌⊎◌, inl, inr, List, [], ◌∷◌, ◌++◌, drop, map, Result, Ok, Err, refl, sym, ap, ◌∙◌, subst}
+use Rattle.std.proofs.Common.{ℕ, zero, suc, ◌<◌, Bool, true, false, cond, ◌&&◌, ◌⊎◌, inl, inr, List, [], ◌∷◌, ◌++◌, drop, map, Result, Ok, Err, refl, sym, subst}
 use Rattle.std.specs.List.{AllByRecursion, after_first, list_any}
 use Rattle.std.specs.Result.{result_unwrap_or}
 use Rattle.dm_token.specs.declared.place.Place.{Place}
@@ -15,11 +15,11 @@ use Rattle.dm_lex.specs.Cuts.{Piece, token, blank, comment, first_state, state_b
 use Rattle.dm_lex.specs.Tokens.{tokens_of}
 use Rattle.dm_lex.proofs.ExistLemmas.{cut_exists}
 use Rattle.dm_macro.specs.Signs.{is_hash, is_punctuator, is_identifier, is_right_parenthesis}
-use Rattle.dm_macro.specs.Forms.{Gives, is_function_like, replacement_list}
+use Rattle.dm_macro.specs.Forms.{Gives, is_function_like}
 use Rattle.dm_macro.specs.Tables.{Table, Defines}
 use Rattle.dm_unit.specs.Sources.{reading_of, tokens_of_flat, tokens_or_open}
 use Rattle.dm_unit.specs.Definitions.{at_start, one_token, implied_body, is_equals_sign, define_line}
-use Rattle.dm_unit.specs.Conditions.{Item, plain, defined, Measured, measured, is_defined_word, parenthesized_item, defined_item, first_item, items, token_for, replaced, is_defined, truth_token}
+use Rattle.dm_unit.specs.Conditions.{Item, plain, defined, measured, is_defined_word, parenthesized_item, defined_item, first_item, items, token_for, replaced}
 use Rattle.dm_unit.specs.Lines.{Part, directive, text, lines_of, in_first_line, is_line_start, parts_in, parts_of, with_text}
 use Rattle.dm_unit.specs.Views.{AreIn}
 use Rattle.dm_local.proofs.ExpansionLemmas.{TokensIn, DefinitionsIn, all-append}
