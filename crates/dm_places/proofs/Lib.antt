@@ -1,0 +1,4 @@
+mod LayerLemmas
+mod PartLemmas
+mod PlaceLemmas
+mod TextLemmas
