@@ -1,5 +1,5 @@
 -- The refusals of the tokens of phase 7, and of their syntax, stand at preprocessing tokens.
-use Rattle.std.proofs.Common.{◌≡◌, ℕ, zero, suc, Bool, true, false, cond, ◌&&◌, List, [], ◌∷◌, Option, None, Some, Result, Ok, Err, sym, ap, ◌∙◌, subst}
+use Rattle.std.proofs.Common.{◌≡◌, ℕ, zero, suc, Bool, true, false, cond, ◌&&◌, List, [], ◌∷◌, Option, None, Some, Result, Ok, Err, sym, subst}
 use Rattle.std.specs.Prelude.{MatchOption, slice_get, position, bytes_eq, option_map, nat_lt, ℤ, pos}
 use Rattle.std.specs.List.{AllByRecursion}
 use Rattle.dm_token.specs.declared.place.Place.{Place}

@@ -1,5 +1,5 @@
 -- Each refusal of a unit's reading lies in the file that it names, and so does each token.
-use Rattle.std.proofs.Common.{◌≡◌, ℕ, zero, suc, ◌+◌, ◌<◌, ◌≤◌, Bool, true, false, cond, ◌⊎◌, inl, inr, List, [], ◌∷◌, ◌++◌, length, drop, map, get_or, Option, None, Some, Result, Ok, Err, MatchBool, IfErr, nat_lt, refl, sym, ap, ◌∙◌, subst, arith, append_assoc}
+use Rattle.std.proofs.Common.{◌≡◌, ℕ, zero, suc, ◌<◌, Bool, true, false, cond, ◌⊎◌, inl, inr, List, [], ◌∷◌, ◌++◌, length, drop, map, get_or, Option, None, Some, Result, Ok, Err, MatchBool, IfErr, nat_lt, refl, sym, ap, ◌∙◌, subst, arith, append_assoc}
 use Rattle.std.specs.Prelude.{not, nat_le, unwrap_or, if◌then◌else◌}
 use Rattle.std.specs.List.{list_any, AllByRecursion}
 use Rattle.std.specs.Result.{result_unwrap_or}
@@ -39,8 +39,8 @@ use Rattle.dm_unit.specs.Directives.{directive_of}
 use Rattle.dm_unit.specs.Sections.{is_read, after_else, after_skipped_elif, after_elif}
 use Rattle.dm_unit.specs.Includes.{Sought, sought, Searches, SearchesFor, LooksAt, number_in, numbered, is_found, with_found, found_as, first_found, found_files, if_readable, is_header_kind, is_quoted, header_name}
 use Rattle.dm_unit.specs.Definitions.{CannotDefine, DefinesLine, DoesDefine, with_definition, begins_with_name, origin_of, is_plain_head, with_undefined, after_undef, use_of, define_line, define_text, DefinesText, DoesManifest, first_place, at_start, one_token, implied_body, is_equals_sign}
-use Rattle.dm_unit.specs.Conditions.{Tested, tested, with_uses, no_condition, Judged, JudgesExpanded, Evaluates, defined_test, names_asked, replaced, is_defined, is_defined_word}
-use Rattle.dm_unit.specs.Readings.{is_among, with_text, after_expansion, after_text, within, pushed, opens, Opens, lost, DoesElifAt, DoesElif, else_in, endif_in, end_in, is_once, with_number, after_pragma, counted, Includes, DoesInclude, DoesRead, DoesDirective, ReadsPart, ReadsParts, begun, ReadsFile, is_passed, Enters, most_nested, DoesManifests, absent_place, ReadsFound, ReadsMain, ReadsUnit}
+use Rattle.dm_unit.specs.Conditions.{Tested, tested, no_condition, Judged, JudgesExpanded, Evaluates, defined_test, names_asked, replaced, is_defined, is_defined_word}
+use Rattle.dm_unit.specs.Readings.{with_text, after_expansion, after_text, within, pushed, opens, Opens, lost, DoesElifAt, DoesElif, else_in, endif_in, end_in, is_once, with_number, after_pragma, counted, Includes, DoesInclude, DoesRead, DoesDirective, ReadsPart, ReadsParts, begun, ReadsFile, is_passed, Enters, most_nested, DoesManifests, absent_place, ReadsFound, ReadsMain, ReadsUnit}
 use Rattle.dm_unit.specs.Loaders.{shown}
 use Rattle.dm_unit.specs.Units.{setting_of, first_files, state_with, AreNumbered}
 use Rattle.dm_unit.proofs.FileLemmas.{header-held}

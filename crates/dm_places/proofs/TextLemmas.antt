@@ -1,12 +1,10 @@
 -- The tokens of a file and the refusals of its bytes stand at bytes that it has.
-use Rattle.std.proofs.Common.{◌≡◌, ℕ, zero, suc, ◌+◌, ◌<◌, ◌≤◌, Bool, true, false, cond, ◌&&◌, ◌||◌, ◌⊎◌, inl, inr, List, [], ◌∷◌, ◌++◌, length, Option, None, Some, IfSome, Result, Ok, Err, eqb, refl, sym, ap, ◌∙◌, subst, arith, true≢false}
+use Rattle.std.proofs.Common.{◌≡◌, ℕ, ◌+◌, ◌<◌, ◌≤◌, Bool, true, false, cond, ◌&&◌, ◌||◌, ◌⊎◌, inl, inr, List, [], ◌∷◌, ◌++◌, length, Option, None, Some, IfSome, Result, Ok, Err, eqb, refl, sym, ap, ◌∙◌, subst, arith, true≢false}
 use Rattle.std.specs.Prelude.{option_map}
 use Rattle.std.specs.Option.{option_map_or}
 use Rattle.std.specs.List.{AllByRecursion}
 use Rattle.std.proofs.lemmas.Bool.{cond_both, and_parts, eqb-true}
 use Rattle.dm_token.specs.Bytes.{newline, carriage_return, question_mark, backslash}
-use Rattle.dm_token.specs.Places.{place_of}
-use Rattle.dm_token.specs.declared.place.Place.{Place}
 use Rattle.dm_token.specs.declared.stop.Refusal.{Refusal}
 use Rattle.dm_token.specs.declared.token.PpKind.{PpKind}
 use Rattle.dm_token.specs.declared.token.PpToken.{PpToken}
@@ -16,7 +14,7 @@ use Rattle.dm_phase.specs.Answer.{flat_of, unless_refused}
 use Rattle.dm_lex.specs.Classes.{slash, asterisk, behind}
 use Rattle.dm_lex.specs.declared.state.State.{State as LexState}
 use Rattle.dm_lex.specs.Cuts.{Piece, token, blank, comment, characters_of, bytes_of, is_blank, opens_block, opens_blank, first_state, state_behind, allows_header, IsPiece, CutsTo, Cuts, OpensAt}
-use Rattle.dm_lex.specs.Tokens.{start_of, tokens_of, refusal_at}
+use Rattle.dm_lex.specs.Tokens.{start_of, tokens_of}
 use Rattle.dm_lex.proofs.ExistLemmas.{cut_exists}
 use Rattle.dm_lex.proofs.KindLemmas.{kind_of-empty}
 use Rattle.dm_unit.specs.Sources.{reading_of, tokens_of_flat, tokens_or_open}
