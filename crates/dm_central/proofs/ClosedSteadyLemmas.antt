@@ -17,7 +17,7 @@ use Rattle.dm_rewrite.specs.ClosedStates.{AreTasksClosed}
 use Rattle.dm_central.specs.Agreement.{Mode, outside, inside}
 use Rattle.dm_central.specs.Bodies.{closed_numbers}
 use Rattle.dm_central.specs.ClosedFrames.{CallersHave, AreClosedIn, AreAllClosed}
-use Rattle.dm_central.specs.ClosedPrograms.{known_closed}
+use Rattle.dm_central.specs.ClosedPrograms.{known_where}
 use Rattle.dm_central.specs.LeftAlone.{AreKept}
 use Rattle.dm_central.specs.StateAgreement.{FirstHasWaited, IsSteady}
 use Rattle.dm_central.specs.Waiting.{AreOwn, IsWaiting}
@@ -29,16 +29,16 @@ safe_in : Mode → Tree → Bool
 safe_in (outside safe) tree = safe tree
 safe_in (inside entries) tree = false
 
-pub steady_here : (change : Called) (closed : ℕ → Bool) (starts : List World) (other : State) (memory : Memory) → NamesKnown change.old other → IsWaiting starts (with_memory other memory)
+pub steady_here : (change : Called) (closed quiet : ℕ → Bool) (starts : List World) (other : State) (memory : Memory) → NamesKnown change.old other → IsWaiting starts (with_memory other memory)
     → ((entry : ℕ × ℕ) → IsAmong entry other.statics → closed entry.0 ≡ true → ⊥)
     → ((n : ℕ) → IsAmong n (closed_numbers closed other.frame.objects) → MemoryAvoids n memory) → AreAllClosed closed other
-    → AreKept change.old closed other.statics starts other.callers (with_memory other memory).world
+    → AreKept change.old quiet closed other.statics other.frame.function starts other.callers (with_memory other memory).world
     → ((place : Place) (tree : Tree) (use_of : Use) (rest : List Task) → unfolded other.frame.tasks ≡ evaluates place (begun tree) use_of ∷ rest → is_statement (label_of tree) ≡ false)
-    → IsSteady change (known_closed closed) starts (with_memory other memory)
+    → IsSteady change (known_where closed quiet) starts (with_memory other memory)
 unfolding safe_in
-steady_here change closed starts other memory names waiting none avoids all kept whole = record {
+steady_here change closed quiet starts other memory names waiting none avoids all kept whole = record {
   names = names;
-  named = named_once (known_closed closed) other.statics starts other.frame.objects waiting.frame.0 none;
+  named = named_once (known_where closed quiet) other.statics starts other.frame.objects waiting.frame.0 none;
   made = λ start l n k. (waiting.since start l).made n k;
   avoids = avoids;
   closed = λ place run use_of rest e n l.
@@ -50,7 +50,7 @@ steady_here change closed starts other memory names waiting none avoids all kept
 }
   where
     by_callers : (ws : List World) (callers : List Caller) → AreOwn other.statics ws other.frame.objects → CallersHave (AreClosedIn closed other) callers
-        → AreKept change.old closed other.statics ws callers (with_memory other memory).world → FirstHasWaited change (known_closed closed) ws (with_memory other memory) callers
+        → AreKept change.old quiet closed other.statics other.frame.function ws callers (with_memory other memory).world → FirstHasWaited change (known_where closed quiet) ws (with_memory other memory) callers
     by_callers [] callers own below k = tt
     by_callers (start ∷ more) [] own below k = tt
     by_callers (start ∷ more) (caller ∷ callers) own below k = record {

@@ -1,29 +1,33 @@
--- The closed objects of frames that wait hold what they held when the functions above were called.
+-- The closed objects of frames that wait hold what they held when the functions above were called, and all objects do where these are quiet.
 use Rattle.std.specs.Prelude.{◌≡◌, refl, ◌⊎◌, ℕ, ◌==◌, Bool, true, false, List, [], ◌∷◌, ◌++◌, Option, Some, None, if◌then◌else◌}
 use Rattle.std.proofs.Common.{true≢false, ap, sym, ◌∙◌, subst, inl, inr}
 use Rattle.dm_meaning.specs.Among.{IsAmong}
 use Rattle.dm_meaning.specs.Causes.{absence_causes}
+use Rattle.dm_meaning.specs.Lifetimes.{numbers_of}
 use Rattle.dm_meaning.specs.Memory.{Block, look_up, look, value_in, or_unset, contents_at}
 use Rattle.dm_meaning.specs.MoreObjects.{IsMade}
 use Rattle.dm_meaning.specs.Operations.{World, Objects}
 use Rattle.dm_meaning.specs.Programs.{Program}
-use Rattle.dm_meaning.specs.States.{Use, drops, chooses, selects, repeats, continues, returns, initialises, Task, begins, declares, initials, evaluates, again, tests, ends, ends_switch, leaves, skips, hands_back, Caller, State}
+use Rattle.dm_meaning.specs.States.{Use, drops, chooses, selects, repeats, continues, returns, initialises, Task, begins, declares, initials, evaluates, again, tests, ends, ends_switch, leaves, skips, hands_back, Frame, Caller, State}
 use Rattle.dm_meaning.specs.Statements.{unfolded}
 use Rattle.dm_meaning.specs.Steps.{Step}
 use Rattle.dm_meaning.specs.Values.{Name, numbered, literal_of, elsewhere, At, Value, part_value}
 use Rattle.dm_meaning.proofs.AmongLemmas.{among_either}
 use Rattle.dm_meaning.proofs.GrowLemmas.{equal_is, equal_of}
-use Rattle.dm_rewrite.specs.Effects.{Effect, on_others, by_name, effects_of, Hits, IsFree, ChangesOnly}
+use Rattle.dm_rewrite.specs.Effects.{Effect, on_others, Stage, call_effects, by_name, effects_of, Hits, IsFree, ChangesOnly}
 use Rattle.dm_rewrite.specs.KeptMemory.{HasSameObjects}
 use Rattle.dm_rewrite.specs.StepEffects.{use_effects, first_effects, StillHolds}
-use Rattle.dm_rewrite.proofs.FrameChangeLemmas.{usable_made, changes_opened}
+use Rattle.dm_rewrite.proofs.FrameChangeLemmas.{usable_made, changes_opened, changes_ended}
 use Rattle.dm_rewrite.proofs.StepEffectLemmas.{step_holds}
 use Rattle.dm_central.specs.Bodies.{closed_numbers}
 use Rattle.dm_central.specs.LeftAlone.{stage_with, AllUnnamed, IsOther, HasNoEffects, IsPickedIn, IsClosedBelow, AreLeftAlone, waiting_stage, AreKept}
+use Rattle.dm_central.specs.QuietFrames.{CallersAreQuiet, AreQuietFrames}
 use Rattle.dm_central.specs.StateAgreement.{worlds_after}
 use Rattle.dm_central.specs.Waiting.{UseHas, TasksKeep, HasLasted, IsWaiting, any_name, any_run}
+use Rattle.dm_central.proofs.BehindLemmas.{never_made}
 use Rattle.dm_central.proofs.LeftAloneLemmas.{named_other, begun_alone}
 use Rattle.dm_central.proofs.OutcomeLemmas.{changes_none}
+use Rattle.dm_central.proofs.QuietFrameLemmas.{QuietStep, quiet_step}
 use Rattle.dm_central.proofs.ShapeLemmas.{Shape, unfolded_has, objects_shape, tasks_any}
 use Rattle.dm_central.proofs.TopLemmas.{same_worlds, more_worlds, fewer_worlds}
 
@@ -128,19 +132,25 @@ closed_holds program test s t step k n b block e =
 -- ---- frames that wait
 
 -- what is known of the change of one world to another
-pub kept_by : (program : Program) (test : ℕ → Bool) (statics : Objects) (now later : World) (starts : List World) (callers : List Caller)
-    → ((caller : Caller) (start : World) → IsAmong start starts → ((n : ℕ) → IsPickedIn test caller.frame.objects n → IsClosedBelow test callers n)
-    → ChangesOnly (waiting_stage program test statics caller) (on_others ∷ []) start now → ChangesOnly (waiting_stage program test statics caller) (on_others ∷ []) start later)
-    → AreKept program test statics starts callers now → AreKept program test statics starts callers later
-kept_by program test statics now later [] [] change h = tt
-kept_by program test statics now later [] (caller ∷ callers) change h = absurd h
-kept_by program test statics now later (start ∷ starts) [] change h = absurd h
-kept_by program test statics now later (start ∷ starts) (caller ∷ callers) change h = (
-  change caller start (inl refl) (λ n l. inl l) h.0,
-  kept_by program test statics now later starts callers (λ other other_start l below k. change other other_start (inr l) (λ n m. inr (below n m)) k) h.1,
+pub kept_by : (program : Program) (quiet test : ℕ → Bool) (statics : Objects) (now later : World) (g : ℕ) (starts : List World) (callers : List Caller)
+    → ((stage : Stage) (effects : List Effect) (start : World) → IsAmong start starts → ChangesOnly stage effects start now → ChangesOnly stage effects start later)
+    → AreKept program quiet test statics g starts callers now → AreKept program quiet test statics g starts callers later
+kept_by program quiet test statics now later g [] [] change h = tt
+kept_by program quiet test statics now later g [] (caller ∷ callers) change h = absurd h
+kept_by program quiet test statics now later g (start ∷ starts) [] change h = absurd h
+kept_by program quiet test statics now later g (start ∷ starts) (caller ∷ callers) change h = (
+  change (waiting_stage program quiet test statics caller) (call_effects quiet (Some g)) start (inl refl) h.0,
+  kept_by program quiet test statics now later caller.frame.function starts callers (λ stage effects other l k. change stage effects other (inr l) k) h.1,
 )
 
-module _ (program : Program) (test : ℕ → Bool) (s t : State) (step : Step program s t) (k : AreLeftAlone program test s) where
+-- where memory is as it was
+changes_same : (stage : Stage) (effects : List Effect) (start world later : World) → later.memory ≡ world.memory → ChangesOnly stage effects start world → ChangesOnly stage effects start later
+changes_same stage effects start world later e k = record {
+  same_objects = subst (HasSameObjects start.memory) (sym e) k.same_objects;
+  same = λ at n f free there. ap (λ memory. contents_at memory at) e ∙ k.same at n f free there;
+}
+
+module _ (program : Program) (quiet test : ℕ → Bool) (s t : State) (step : Step program s t) (k : AreLeftAlone program test s) (q : AreQuietFrames program quiet s) where
   contents_kept : (at : At) (n : ℕ) → at.name ≡ numbered n → IsClosedBelow test s.callers n → IsMade s.world.memory n → contents_at t.world.memory at ≡ contents_at s.world.memory at
   contents_kept at n e b made =
       let holds = closed_holds program test s t step k n b made.0 made.1 in
@@ -150,10 +160,10 @@ module _ (program : Program) (test : ℕ → Bool) (s t : State) (step : Step pr
       ∙ sym (ap (λ o. or_unset (value_in at.path o)) made.1)
       ∙ sym (ap (λ name. or_unset (value_in at.path (look s.world.memory name))) e)
 
-  one_kept : (statics : Objects) (caller : Caller) (start : World) → HasLasted start s.world → HasSameObjects start.memory t.world.memory
-      → ((n : ℕ) → IsPickedIn test caller.frame.objects n → IsClosedBelow test s.callers n)
-      → ChangesOnly (waiting_stage program test statics caller) (on_others ∷ []) start s.world → ChangesOnly (waiting_stage program test statics caller) (on_others ∷ []) start t.world
-  one_kept statics caller start lasted same below h = record {
+  -- below a function that isn't quiet
+  loudly_kept : (caller : Caller) (start : World) → HasLasted start s.world → HasSameObjects start.memory t.world.memory → ((n : ℕ) → IsPickedIn test caller.frame.objects n → IsClosedBelow test s.callers n)
+      → ChangesOnly (waiting_stage program quiet test s.statics caller) (on_others ∷ []) start s.world → ChangesOnly (waiting_stage program quiet test s.statics caller) (on_others ∷ []) start t.world
+  loudly_kept caller start lasted same below h = record {
     same_objects = same;
     same = λ at n e free there.
         contents_kept at n e (below n (picked_from test caller.frame.objects n (closed_of_free (closed_numbers test caller.frame.objects) n free))) (lasted.made n (was_made n (ap (absence_causes start.memory) (sym e) ∙ there)))
@@ -167,49 +177,84 @@ module _ (program : Program) (test : ℕ → Bool) (s t : State) (step : Step pr
           by_option None e = absurd (usable_made start.memory n there e)
           by_option (Some block) e = (block, e)
 
+  -- and below one that is
+  quietly_kept : (stage : Stage) (start : World) → HasLasted start s.world → ((n : ℕ) → IsAmong n (numbers_of s.frame.objects) → look_up start.memory n ≡ None) → quiet s.frame.function ≡ true
+      → ChangesOnly stage [] start s.world → ChangesOnly stage [] start t.world
+  quietly_kept stage start lasted missing silent h = by_step (quiet_step program quiet s t step (q.frame silent))
+    where
+      by_step : QuietStep program quiet step.0 s t → ChangesOnly stage [] start t.world
+      by_step (inl c) = changes_same stage [] start s.world t.world c.memory h
+      by_step (inr (inl c)) =
+          subst (ChangesOnly stage [] start) (sym c.world)
+          (changes_opened stage [] start s.world program step.0 c.definition c.arguments (λ j. never_made start.memory s.world.memory (step.0 j) (lasted.made (step.0 j)) (step.1.1 j)) h)
+      by_step (inr (inr c)) = subst (ChangesOnly stage [] start) (sym c.world) (changes_ended stage [] start s.world (numbers_of s.frame.objects) missing h)
+
   module _ (starts : List World) (waiting : IsWaiting starts s) (later : IsWaiting (worlds_after starts s.world s.callers t.callers) t) where
+    one_kept : (g : ℕ) (caller : Caller) (start : World) → (quiet g ≡ true → quiet s.frame.function ≡ true) → IsAmong start starts → IsAmong start (worlds_after starts s.world s.callers t.callers)
+        → ((n : ℕ) → IsPickedIn test caller.frame.objects n → IsClosedBelow test s.callers n)
+        → ChangesOnly (waiting_stage program quiet test s.statics caller) (call_effects quiet (Some g)) start s.world → ChangesOnly (waiting_stage program quiet test s.statics caller) (call_effects quiet (Some g)) start t.world
+    one_kept g caller start up l l_later below h = by_quiet (quiet g) up h
+      where
+        by_quiet : (b : Bool) → (b ≡ true → quiet s.frame.function ≡ true) → ChangesOnly (waiting_stage program quiet test s.statics caller) (if b then [] else on_others ∷ []) start s.world
+            → ChangesOnly (waiting_stage program quiet test s.statics caller) (if b then [] else on_others ∷ []) start t.world
+        by_quiet true silent c = quietly_kept (waiting_stage program quiet test s.statics caller) start (waiting.since start l) (λ n m. waiting.frame.0.missing start l n m) (silent refl) c
+        by_quiet false silent c = loudly_kept caller start (waiting.since start l) (later.since start l_later).same below c
+
     -- likewise those further down
-    rest_kept : (fewer : List World) (callers : List Caller) → ((start : World) → IsAmong start fewer → IsAmong start starts)
-        → ((start : World) → IsAmong start fewer → IsAmong start (worlds_after starts s.world s.callers t.callers)) → ((n : ℕ) → IsClosedBelow test callers n → IsClosedBelow test s.callers n)
-        → AreKept program test s.statics fewer callers s.world → AreKept program test s.statics fewer callers t.world
-    rest_kept fewer callers among among_later below h =
-        kept_by program test s.statics s.world t.world fewer callers
-        (λ caller start l picked c. one_kept s.statics caller start (waiting.since start (among start l)) (later.since start (among_later start l)).same (λ n m. below n (picked n m)) c) h
+    rest_kept : (g : ℕ) (fewer : List World) (callers : List Caller) → (quiet g ≡ true → quiet s.frame.function ≡ true) → CallersAreQuiet program quiet s.statics g callers
+        → ((start : World) → IsAmong start fewer → IsAmong start starts) → ((start : World) → IsAmong start fewer → IsAmong start (worlds_after starts s.world s.callers t.callers))
+        → ((n : ℕ) → IsClosedBelow test callers n → IsClosedBelow test s.callers n)
+        → AreKept program quiet test s.statics g fewer callers s.world → AreKept program quiet test s.statics g fewer callers t.world
+    rest_kept g [] [] up chain among among_later below h = tt
+    rest_kept g [] (caller ∷ callers) up chain among among_later below h = absurd h
+    rest_kept g (start ∷ fewer) [] up chain among among_later below h = absurd h
+    rest_kept g (start ∷ fewer) (caller ∷ callers) up chain among among_later below h = (
+      one_kept g caller start up (among start (inl refl)) (among_later start (inl refl)) (λ n l. below n (inl l)) h.0,
+      rest_kept caller.frame.function fewer callers (λ e. up (chain.0 e).above) chain.1 (λ other l. among other (inr l)) (λ other l. among_later other (inr l)) (λ n l. below n (inr l)) h.1,
+    )
 
     -- frames that wait still do, and one that begins to wait does
-    pub kept_later : AreKept program test s.statics starts s.callers s.world → AreKept program test t.statics (worlds_after starts s.world s.callers t.callers) t.callers t.world
-    kept_later h =
-        by_shape (objects_shape program (λ objects. Unit {0}) (λ objects. Unit {0}) s t step (tt, tasks_any s.frame.tasks) (λ items q. tt) tt)
+    pub kept_later : AreKept program quiet test s.statics s.frame.function starts s.callers s.world
+        → AreKept program quiet test t.statics t.frame.function (worlds_after starts s.world s.callers t.callers) t.callers t.world
+    kept_later h = by_shape (objects_shape program (λ objects. Unit {0}) (λ objects. Unit {0}) s t step (tt, tasks_any s.frame.tasks) (λ items u. tt) tt)
       where
-        placed : (ws : List World) (callers : List Caller) → worlds_after starts s.world s.callers t.callers ≡ ws → t.callers ≡ callers → t.statics ≡ s.statics
-            → AreKept program test s.statics ws callers t.world → AreKept program test t.statics (worlds_after starts s.world s.callers t.callers) t.callers t.world
-        placed ws callers e f g kept =
-            subst (λ (os : Objects). AreKept program test os (worlds_after starts s.world s.callers t.callers) t.callers t.world) (sym g)
-            (subst (λ (cs : List Caller). AreKept program test s.statics (worlds_after starts s.world s.callers t.callers) cs t.world) (sym f)
-            (subst (λ (xs : List World). AreKept program test s.statics xs callers t.world) (sym e) kept))
+        placed : (g : ℕ) (ws : List World) (callers : List Caller) → t.frame.function ≡ g → worlds_after starts s.world s.callers t.callers ≡ ws → t.callers ≡ callers → t.statics ≡ s.statics
+            → AreKept program quiet test s.statics g ws callers t.world → AreKept program quiet test t.statics t.frame.function (worlds_after starts s.world s.callers t.callers) t.callers t.world
+        placed g ws callers d e f u kept =
+            subst (λ (os : Objects). AreKept program quiet test os t.frame.function (worlds_after starts s.world s.callers t.callers) t.callers t.world) (sym u)
+            (subst (λ f. AreKept program quiet test s.statics f (worlds_after starts s.world s.callers t.callers) t.callers t.world) (sym d)
+            (subst (λ (cs : List Caller). AreKept program quiet test s.statics g (worlds_after starts s.world s.callers t.callers) cs t.world) (sym f)
+            (subst (λ (xs : List World). AreKept program quiet test s.statics g xs callers t.world) (sym e) kept)))
 
-        by_starts : (caller : Caller) (behind : List Caller) → s.callers ≡ caller ∷ behind → t.callers ≡ behind → t.statics ≡ s.statics
-            → (ws : List World) → starts ≡ ws → AreKept program test s.statics ws (caller ∷ behind) s.world → AreKept program test t.statics (worlds_after starts s.world s.callers t.callers) t.callers t.world
-        by_starts caller behind was e g [] f kept = absurd kept
-        by_starts caller behind was e g (start ∷ more) f kept =
+        by_starts : (caller : Caller) (behind : List Caller) → s.callers ≡ caller ∷ behind → t.callers ≡ behind → t.frame.function ≡ caller.frame.function → t.statics ≡ s.statics
+            → (ws : List World) → starts ≡ ws → AreKept program quiet test s.statics s.frame.function ws (caller ∷ behind) s.world
+            → AreKept program quiet test t.statics t.frame.function (worlds_after starts s.world s.callers t.callers) t.callers t.world
+        by_starts caller behind was e d u [] f kept = absurd kept
+        by_starts caller behind was e d u (start ∷ more) f kept =
+            let chain = subst (CallersAreQuiet program quiet s.statics s.frame.function) was q.callers in
             let worlds =
-            ap (λ (ws : List World). worlds_after ws s.world s.callers t.callers) f
-            ∙ ap (λ (cs : List Caller). worlds_after (start ∷ more) s.world cs t.callers) was
-            ∙ ap (λ (cs : List Caller). worlds_after (start ∷ more) s.world (caller ∷ behind) cs) e
-            ∙ fewer_worlds start more s.world behind caller in
-            placed more behind worlds e g
-            (rest_kept more behind (λ one l. subst (IsAmong one) (sym f) (inr l)) (λ one l. subst (IsAmong one) (sym worlds) l) (λ n b. subst (λ (cs : List Caller). IsClosedBelow test cs n) (sym was) (inr b)) kept.1)
+                ap (λ (ws : List World). worlds_after ws s.world s.callers t.callers) f
+                ∙ ap (λ (cs : List Caller). worlds_after (start ∷ more) s.world cs t.callers) was
+                ∙ ap (λ (cs : List Caller). worlds_after (start ∷ more) s.world (caller ∷ behind) cs) e
+                ∙ fewer_worlds start more s.world behind caller in
+            placed caller.frame.function more behind d worlds e u
+            (rest_kept caller.frame.function more behind (λ loud. (chain.0 loud).above) chain.1 (λ one l. subst (IsAmong one) (sym f) (inr l)) (λ one l. subst (IsAmong one) (sym worlds) l)
+            (λ n b. subst (λ (cs : List Caller). IsClosedBelow test cs n) (sym was) (inr b)) kept.1)
 
-        by_shape : Shape program (λ objects. Unit {0}) any_name any_run step.0 s t → AreKept program test t.statics (worlds_after starts s.world s.callers t.callers) t.callers t.world
+        by_shape : Shape program (λ objects. Unit {0}) any_name any_run step.0 s t → AreKept program quiet test t.statics t.frame.function (worlds_after starts s.world s.callers t.callers) t.callers t.world
         by_shape (inl c) =
             let worlds = ap (λ (cs : List Caller). worlds_after starts s.world s.callers cs) c.callers ∙ same_worlds starts s.world s.callers in
-            placed starts s.callers worlds c.callers c.statics (rest_kept starts s.callers (λ one l. l) (λ one l. subst (IsAmong one) (sym worlds) l) (λ n b. b) h)
+            placed s.frame.function starts s.callers c.function worlds c.callers c.statics
+            (rest_kept s.frame.function starts s.callers (λ e. e) q.callers (λ one l. l) (λ one l. subst (IsAmong one) (sym worlds) l) (λ n b. b) h)
         by_shape (inr (inl c)) =
             let worlds = ap (λ (cs : List Caller). worlds_after starts s.world s.callers cs) c.callers ∙ more_worlds starts s.world s.callers c.caller in
-            placed (s.world ∷ starts) (c.caller ∷ s.callers) worlds c.callers c.statics (
-              subst (ChangesOnly (waiting_stage program test s.statics c.caller) (on_others ∷ []) s.world) (sym c.world)
-                  (changes_opened (waiting_stage program test s.statics c.caller) (on_others ∷ []) s.world s.world program step.0 c.definition c.arguments step.1.1
-                  (changes_none (waiting_stage program test s.statics c.caller) (on_others ∷ []) s.world)),
-              rest_kept starts s.callers (λ one l. l) (λ one l. subst (IsAmong one) (sym worlds) (inr l)) (λ n b. b) h,
+            let stage = waiting_stage program quiet test s.statics c.caller in
+            let effects = call_effects quiet (Some t.frame.function) in
+            placed t.frame.function (s.world ∷ starts) (c.caller ∷ s.callers) refl worlds c.callers c.statics (
+              subst (ChangesOnly stage effects s.world) (sym c.world) (changes_opened stage effects s.world s.world program step.0 c.definition c.arguments step.1.1 (changes_none stage effects s.world)),
+              subst (λ g. AreKept program quiet test s.statics g starts s.callers t.world) (sym c.function)
+                  (rest_kept s.frame.function starts s.callers (λ e. e) q.callers (λ one l. l) (λ one l. subst (IsAmong one) (sym worlds) (inr l)) (λ n b. b) h),
             )
-        by_shape (inr (inr c)) = by_starts c.caller c.behind c.was c.callers c.statics starts refl (subst (λ (cs : List Caller). AreKept program test s.statics starts cs s.world) c.was h)
+        by_shape (inr (inr c)) =
+            by_starts c.caller c.behind c.was c.callers (ap (λ (frame : Frame). frame.function) c.frame) c.statics starts refl
+            (subst (λ (cs : List Caller). AreKept program quiet test s.statics s.frame.function starts cs s.world) c.was h)

@@ -38,6 +38,7 @@ mod AroundExample
 mod ClosedFrameLemmas
 mod ClosedBeginLemmas
 mod LeftAloneLemmas
+mod QuietFrameLemmas
 mod KeptFrameLemmas
 mod ClosedSteadyLemmas
 mod NewProgramLemmas

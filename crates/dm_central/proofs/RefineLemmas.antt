@@ -34,14 +34,15 @@ use Rattle.dm_meaning.proofs.RunLemmas.{OptionAgrees, renamed_objects}
 use Rattle.dm_meaning.proofs.SpareStateLemmas.{unfolded_settled, spared_steps, settled_beginnings}
 use Rattle.dm_meaning.proofs.StartLemmas as plain
 use Rattle.dm_meaning.proofs.StaticLemmas.{statics_memory_same}
-use Rattle.dm_rewrite.specs.Effects.{on_others, Stage, ChangesOnly}
+use Rattle.dm_rewrite.specs.Effects.{Effect, on_others, Stage, ChangesOnly}
 use Rattle.dm_rewrite.specs.KeptMemory.{HasSameObjects, emptied}
 use Rattle.dm_rewrite.proofs.FrameChangeLemmas.{usable_made, changes_join}
 use Rattle.dm_rewrite.proofs.KeptLemmas.{same_absence}
 use Rattle.dm_central.specs.Bodies.{nothing_known, DefinitionAgrees, NoStatements, CallsInPlace}
 use Rattle.dm_central.specs.ClosedFrames.{AreAllClosed}
-use Rattle.dm_central.specs.ClosedPrograms.{known_closed, AreOnlyNamed}
-use Rattle.dm_central.specs.LeftAlone.{waiting_stage, AreLeftAlone, AreKept}
+use Rattle.dm_central.specs.ClosedPrograms.{known_where, known_closed, AreOnlyNamed}
+use Rattle.dm_central.specs.LeftAlone.{AreLeftAlone, AreKept}
+use Rattle.dm_central.specs.QuietFrames.{AreQuiet, AreQuietFrames}
 use Rattle.dm_central.specs.StateAgreement.{DefinitionFits, StateAgrees, Related, worlds_after, GoesWithin, Met}
 use Rattle.dm_central.specs.Waiting.{IsWaiting}
 use Rattle.dm_central.proofs.BeginLemmas.{made_killed, begins_waiting}
@@ -54,6 +55,7 @@ use Rattle.dm_central.proofs.ClosedSteadyLemmas.{steady_here}
 use Rattle.dm_central.proofs.KeptFrameLemmas.{kept_by, kept_later}
 use Rattle.dm_central.proofs.LeftAloneLemmas.{left_alone_later, begins_left_alone}
 use Rattle.dm_central.proofs.NewProgramLemmas.{same_world, related_made, IsClear, begins_clear, clear_later, clear_avoids}
+use Rattle.dm_central.proofs.QuietFrameLemmas.{quiet_later, begins_quiet}
 use Rattle.dm_central.proofs.ShapeLemmas.{same_statics as statics_stay}
 use Rattle.dm_central.proofs.StateStepLemmas.{step_met}
 use Rattle.dm_central.proofs.SteadyLemmas.{loose}
@@ -85,8 +87,8 @@ same_entered change entries memory fresh (literal_of bytes unit) there = refl
 same_entered change entries memory fresh (elsewhere identifier) there = refl
 
 -- to whoever waits, nothing happens when they are made
-entries_change : (change : Called) (entries : List Stored) (stage : Stage) (world : World) → AreFresh entries world.memory → ChangesOnly stage (on_others ∷ []) world (record world { memory = with_entries change entries world.memory })
-entries_change change entries stage world fresh = record {
+entries_change : (change : Called) (entries : List Stored) (stage : Stage) (effects : List Effect) (world : World) → AreFresh entries world.memory → ChangesOnly stage effects world (record world { memory = with_entries change entries world.memory })
+entries_change change entries stage effects world fresh = record {
   same_objects = same_entered change entries world.memory fresh;
   same = λ at n e free there. by_option at n e (look_up world.memory n) refl (ap (absence_causes world.memory) (sym e) ∙ there);
 }
@@ -99,7 +101,7 @@ entries_change change entries stage world fresh = record {
         ∙ ap (λ o. or_unset (value_in at.path o)) (entries_beside change entries world.memory n fresh (block, f))
         ∙ sym (ap (λ name. or_unset (value_in at.path (look world.memory name))) e)
 
-module _ (change : Called) (closed : ℕ → Bool) (calling : CallsInPlace change (known_closed closed)) (only : AreOnlyNamed change closed) where
+module _ (change : Called) (closed quiet : ℕ → Bool) (calling : CallsInPlace change (known_where closed quiet)) (only : AreOnlyNamed change closed) (silent : AreQuiet change.old quiet) where
   -- ---- objects of static storage duration
 
   same_statics : IsReplacement (statics_of change)
@@ -124,15 +126,15 @@ module _ (change : Called) (closed : ℕ → Bool) (calling : CallsInPlace chang
   arguments_agree n [] = refl
   arguments_agree n (d ∷ ds) = refl
 
-  other_main : (one other : Option Definition) (main : Definition) → OptionAgrees (DefinitionAgrees change (known_closed closed)) one other → one ≡ Some main → (m : Definition) × (other ≡ Some m) × DefinitionAgrees change (known_closed closed) main m
+  other_main : (one other : Option Definition) (main : Definition) → OptionAgrees (DefinitionAgrees change (known_where closed quiet)) one other → one ≡ Some main → (m : Definition) × (other ≡ Some m) × DefinitionAgrees change (known_where closed quiet) main m
   other_main None other main h e = absurd (none_is_some main e)
   other_main (Some one) None main h e = absurd h
-  other_main (Some one) (Some other) main h e = (other, refl, subst (λ d. DefinitionAgrees change (known_closed closed) d other) (some_is_some one main e) h)
+  other_main (Some one) (Some other) main h e = (other, refl, subst (λ d. DefinitionAgrees change (known_where closed quiet) d other) (some_is_some one main e) h)
 
   -- ---- beginnings
 
-  start_agrees : (names : ℕ → ℕ) (main other : Definition) (input : List ℕ) → DefinitionFits change (known_closed closed) main other
-      → StateAgrees change (known_closed closed) [] [] (start names (new_of change) main input) (start names change.old other input)
+  start_agrees : (names : ℕ → ℕ) (main other : Definition) (input : List ℕ) → DefinitionFits change (known_where closed quiet) main other
+      → StateAgrees change (known_where closed quiet) [] [] (start names (new_of change) main input) (start names change.old other input)
   start_agrees names main other input h =
       let count = same_count in
       let argv_block = record (new_block (layout change.old) argv_kind) { contents = all_zero (layout change.old) argv_kind } in
@@ -142,8 +144,8 @@ module _ (change : Called) (closed : ℕ → Bool) (calling : CallsInPlace chang
         function = h.0.0;
         objects =
             ap (λ n. (opened_frame (new_of change) (λ i. names (suc n + i)) main).objects) count
-            ∙ frame_objects change (known_closed closed) calling (λ i. names (suc (length change.old.statics) + i)) main other h;
-        tasks = top_begun change (known_closed closed) begun.statics begun.frame.objects begun.world _ _ (unfolded_agree change (likeness change (known_closed closed) calling) _ _ (frame_tasks change (known_closed closed) calling (λ i. names (suc (length change.old.statics) + i)) main other h));
+            ∙ frame_objects change (known_where closed quiet) calling (λ i. names (suc (length change.old.statics) + i)) main other h;
+        tasks = top_begun change (known_where closed quiet) begun.statics begun.frame.objects begun.world _ _ (unfolded_agree change (likeness change (known_where closed quiet) calling) _ _ (frame_tasks change (known_where closed quiet) calling (λ i. names (suc (length change.old.statics) + i)) main other h));
         callers = tt;
         statics = statics_agree names;
         world =
@@ -151,16 +153,16 @@ module _ (change : Called) (closed : ℕ → Bool) (calling : CallsInPlace chang
             ∙ ap (λ m. record { memory = opened_memory (new_of change) (λ i. names (suc (length change.old.statics) + i)) main (arguments_for (names (length change.old.statics)) main.parameters) ((names (length change.old.statics), argv_block) ∷ m); input = input; output = [] }) (memory_agrees names)
             ∙ ap (λ ps. record { memory = opened_memory (new_of change) (λ i. names (suc (length change.old.statics) + i)) main (arguments_for (names (length change.old.statics)) ps) ((names (length change.old.statics), argv_block) ∷ statics_memory change.old names (old_statics names)); input = input; output = [] }) h.0.1
             ∙ ap (λ vs. record { memory = opened_memory (new_of change) (λ i. names (suc (length change.old.statics) + i)) main vs ((names (length change.old.statics), argv_block) ∷ statics_memory change.old names (old_statics names)); input = input; output = [] }) (arguments_agree (names (length change.old.statics)) other.parameters)
-            ∙ ap (λ m. record { memory = m; input = input; output = [] }) (frame_memory change (known_closed closed) calling (λ i. names (suc (length change.old.statics) + i)) main other (arguments_for (names (length change.old.statics)) other.parameters) ((names (length change.old.statics), argv_block) ∷ statics_memory change.old names (old_statics names)) h);
+            ∙ ap (λ m. record { memory = m; input = input; output = [] }) (frame_memory change (known_where closed quiet) calling (λ i. names (suc (length change.old.statics) + i)) main other (arguments_for (names (length change.old.statics)) other.parameters) ((names (length change.old.statics), argv_block) ∷ statics_memory change.old names (old_statics names)) h);
       }
 
-  begins_agrees : (input : List ℕ) (state : State) → Begins (new_of change) input state → (other : State) × Begins change.old input other × StateAgrees change (known_closed closed) [] [] state other
+  begins_agrees : (input : List ℕ) (state : State) → Begins (new_of change) input state → (other : State) × Begins change.old input other × StateAgrees change (known_where closed quiet) [] [] state other
   begins_agrees input state (bytes, names, fresh, main, is_main_here, e) =
       let found = other_main (main_of (new_of change)) (main_of change.old) main calling.mains is_main_here in
       let small : IsSmall (limit change) (Some main) = subst (IsSmall (limit change)) is_main_here (main_small (new_of change) change.functions) in (
         start names change.old found.0 input,
         (bytes, names, fresh, found.0, found.1, refl),
-        subst (λ s. StateAgrees change (known_closed closed) [] [] s (start names change.old found.0 input)) (sym e) (start_agrees names main found.0 input (found.2, small)),
+        subst (λ s. StateAgrees change (known_where closed quiet) [] [] s (start names change.old found.0 input)) (sym e) (start_agrees names main found.0 input (found.2, small)),
       )
 
   -- ---- the old program beside the objects of the parameters
@@ -181,7 +183,8 @@ module _ (change : Called) (closed : ℕ → Bool) (calling : CallsInPlace chang
     pub own_ones : (entry : ℕ × ℕ) → IsAmong entry other.statics → closed entry.0 ≡ true → ⊥
     pub closed_ones : AreAllClosed closed other
     pub alone : AreLeftAlone change.old closed other
-    pub kept_ones : AreKept change.old closed other.statics starts other.callers (with_memory other more).world
+    pub quiet_ones : AreQuietFrames change.old quiet other
+    pub kept_ones : AreKept change.old quiet closed other.statics other.frame.function starts other.callers (with_memory other more).world
 
   goes_nothing : (program : Program) (t : State) → Goes (machine_of program) 0 t t
   unfolding Goes
@@ -253,7 +256,7 @@ module _ (change : Called) (closed : ℕ → Bool) (calling : CallsInPlace chang
           let waits_last = waiting_later change.old (with_memory other more) last step made starts h.waits own_made in
           let waits = subst (IsWaiting later) spared.is waits_last in
           let alone = left_alone_later change.old closed starts other spared.next spared.step h.waits.frame.0 h.closed_ones h.alone in
-          let still_kept = kept_later change.old closed (with_memory other more) last step (record { frame = h.alone.frame; callers = h.alone.callers }) starts h.waits waits_last h.kept_ones in
+          let still_kept = kept_later change.old quiet closed (with_memory other more) last step (record { frame = h.alone.frame; callers = h.alone.callers }) (record { frame = h.quiet_ones.frame; callers = h.quiet_ones.callers }) starts h.waits waits_last h.kept_ones in
           inr (record {
             next = spared.next;
             after = spared.after;
@@ -269,7 +272,8 @@ module _ (change : Called) (closed : ℕ → Bool) (calling : CallsInPlace chang
               own_ones = λ entry l picked. h.own_ones entry (subst (IsAmong entry) (statics_stay change.old other spared.next spared.step) l) picked;
               closed_ones = all_closed_later change.old closed only.old later other spared.next spared.step spared.grown.made waits.frame.0 spared.settled.frame.0 h.closed_ones;
               alone = alone;
-              kept_ones = subst (λ (s : State). AreKept change.old closed s.statics later s.callers s.world) spared.is still_kept;
+              quiet_ones = quiet_later change.old quiet silent other spared.next spared.step h.quiet_ones;
+              kept_ones = subst (λ (s : State). AreKept change.old quiet closed s.statics s.frame.function later s.callers s.world) spared.is still_kept;
               reached = (h.reached.0, suc h.reached.1, record { start = h.reached.2.start; begins = h.reached.2.begins; goes = goes_last change.old h.reached.1 h.reached.2.start other spared.next h.reached.2.goes spared.step });
             };
           })
@@ -310,16 +314,16 @@ module _ (change : Called) (closed : ℕ → Bool) (calling : CallsInPlace chang
       pub more : Memory
       pub spare : Spare
       pub starts : List World
-      pub related : Related change (known_closed closed) w spare starts state (with_memory other more)
+      pub related : Related change (known_where closed quiet) w spare starts state (with_memory other more)
       pub holds : Holds other more spare starts
       pub clear : IsClear change closed only.new state
 
-    same_standing : (w : ℕ) (spare : Spare) (starts : List World) (s t : State) → Related change (known_closed closed) w spare starts s t → s.standing ≡ t.standing
+    same_standing : (w : ℕ) (spare : Spare) (starts : List World) (s t : State) → Related change (known_where closed quiet) w spare starts s t → s.standing ≡ t.standing
     same_standing w spare starts s t (inl h) = h.1.standing
     same_standing w spare starts s t (inr (first, rest, is, inl h)) = h.standing
     same_standing w spare starts s t (inr (first, rest, is, inr h)) = h.standing
 
-    same_output : (w : ℕ) (spare : Spare) (starts : List World) (s t : State) → Related change (known_closed closed) w spare starts s t → t.world.output ≡ s.world.output
+    same_output : (w : ℕ) (spare : Spare) (starts : List World) (s t : State) → Related change (known_where closed quiet) w spare starts s t → t.world.output ≡ s.world.output
     same_output w spare starts s t (inl h) = ap (λ (world : World). world.output) (sym h.1.world)
     same_output w spare starts s t (inr (first, rest, is, inl h)) = ap (λ (world : World). world.output) (sym h.world)
     same_output w spare starts s t (inr (first, rest, is, inr h)) = ap (λ (world : World). world.output) (sym h.world)
@@ -341,7 +345,7 @@ module _ (change : Called) (closed : ℕ → Bool) (calling : CallsInPlace chang
     -- memory with the objects of the parameters, or without
     with_more : (other : State) (more : Memory) (spare : Spare) (starts : List World) → Holds other more spare starts → (memory : Memory) (later : Spare) → HasAll memory other.world.memory → AllSpare change memory other.world.memory (flat later)
         → ((n : ℕ) → IsMade more n → IsMade memory n) → ((start : World) → IsAmong start starts → HasSameObjects start.memory memory)
-        → ((stage : Stage) (start : World) → IsAmong start starts → ChangesOnly stage (on_others ∷ []) start (with_memory other more).world → ChangesOnly stage (on_others ∷ []) start (with_memory other memory).world)
+        → ((stage : Stage) (effects : List Effect) (start : World) → IsAmong start starts → ChangesOnly stage effects start (with_memory other more).world → ChangesOnly stage effects start (with_memory other memory).world)
         → Holds other memory later starts
     with_more other more spare starts h memory later has spares made same changes = record {
       settled = h.settled;
@@ -353,9 +357,8 @@ module _ (change : Called) (closed : ℕ → Bool) (calling : CallsInPlace chang
       own_ones = h.own_ones;
       closed_ones = h.closed_ones;
       alone = h.alone;
-      kept_ones =
-          kept_by change.old closed other.statics (with_memory other more).world (with_memory other memory).world starts other.callers
-          (λ caller start l below k. changes (waiting_stage change.old closed other.statics caller) start l k) h.kept_ones;
+      quiet_ones = h.quiet_ones;
+      kept_ones = kept_by change.old quiet closed other.statics (with_memory other more).world (with_memory other memory).world other.frame.function starts other.callers changes h.kept_ones;
     }
 
     abbrev no_stage : Stage
@@ -364,10 +367,10 @@ module _ (change : Called) (closed : ℕ → Bool) (calling : CallsInPlace chang
     -- what is known of the new program behind the step, where what was made beside the old one still is
     Clears : State → Memory → Type 0
     Clears s' more =
-        (w : ℕ) (t : State) (memory : Memory) (spare : Spare) (starts : List World) → Related change (known_closed closed) w spare starts s' (with_memory t memory) → Holds t memory spare starts
+        (w : ℕ) (t : State) (memory : Memory) (spare : Spare) (starts : List World) → Related change (known_where closed quiet) w spare starts s' (with_memory t memory) → Holds t memory spare starts
         → ((n : ℕ) → IsMade more n → IsMade memory n) → IsClear change closed only.new s'
 
-    met : (w : ℕ) (s' t : State) (more : Memory) (spare : Spare) (starts : List World) → Holds t more spare starts → Clears s' more → Met change (known_closed closed) w spare starts (with_memory t more) s' → Outcome w s' t
+    met : (w : ℕ) (s' t : State) (more : Memory) (spare : Spare) (starts : List World) → Holds t more spare starts → Clears s' more → Met change (known_where closed quiet) w spare starts (with_memory t more) s' → Outcome w s' t
     unfolding Outcome Clears
     met w s' t more spare starts h clears (inl (n, u, goes, cause, place, e)) = inl (wrong_without n change.old more t u h.settled h.has goes cause place e)
     met w s' t more spare starts h clears (inr (inl f)) = by_step (advance t more spare starts f.last h f.step)
@@ -375,7 +378,7 @@ module _ (change : Called) (closed : ℕ → Bool) (calling : CallsInPlace chang
         by_step : GoesWrong (machine_of change.old) t ⊎ Advanced t more f.last spare (worlds_after starts (with_memory t more).world t.callers f.last.callers) → Outcome w s' t
         by_step (inl wrong) = inl wrong
         by_step (inr a) =
-            let related = subst (Related change (known_closed closed) (most change) spare (worlds_after starts (with_memory t more).world t.callers f.last.callers) s') a.is f.related in
+            let related = subst (Related change (known_where closed quiet) (most change) spare (worlds_after starts (with_memory t more).world t.callers f.last.callers) s') a.is f.related in
             inr (
               1,
               most change,
@@ -396,7 +399,7 @@ module _ (change : Called) (closed : ℕ → Bool) (calling : CallsInPlace chang
         by_steps : GoesWrong (machine_of change.old) t ⊎ AdvancedWithin (suc f.count) t more f.last spare starts → Outcome w s' t
         by_steps (inl wrong) = inl wrong
         by_steps (inr a) =
-            let related = subst (Related change (known_closed closed) (most change) spare starts s') a.is f.related in
+            let related = subst (Related change (known_where closed quiet) (most change) spare starts s') a.is f.related in
             inr (
               suc f.count,
               most change,
@@ -412,7 +415,7 @@ module _ (change : Called) (closed : ℕ → Bool) (calling : CallsInPlace chang
         let holds =
         with_more t more spare starts h memory (f.entries ∷ spare) (has_entered change f.entries more t.world.memory f.fresh h.has) (spare_entered change f.entries (flat spare) more t.world.memory f.fresh h.has h.spares)
         made (λ start l. same_join start.memory more memory (h.waits.since start l).same (same_entered change f.entries more f.fresh))
-        (λ stage start l k. changes_join stage (on_others ∷ []) start (with_memory t more).world (with_memory t memory).world k (entries_change change f.entries stage (with_memory t more).world f.fresh)) in
+        (λ stage effects start l k. changes_join stage effects start (with_memory t more).world (with_memory t memory).world k (entries_change change f.entries stage effects (with_memory t more).world f.fresh)) in
         stays_met w f.left s' t f.less (record { more = memory; spare = f.entries ∷ spare; starts = starts; related = f.related; holds = holds; clear = clears f.left t memory (f.entries ∷ spare) starts f.related holds made })
     met w s' t more spare starts h clears (inr (inr (inr (inr (inr f))))) =
         let all = subst (λ s. AllSpare change more t.world.memory (flat s)) f.is h.spares in
@@ -421,28 +424,28 @@ module _ (change : Called) (closed : ℕ → Bool) (calling : CallsInPlace chang
         let holds =
         with_more t more spare starts h memory f.rest (has_left change f.first (flat f.rest) more t.world.memory h.has all) (spare_left change f.first (flat f.rest) more t.world.memory h.has all) made
         (λ start l. (changes_left no_stage (on_others ∷ []) start (with_memory t more).world f.first (f.below start l) (loose no_stage (λ n k. k) start (with_memory t more).world (h.waits.since start l).same)).same_objects)
-        (λ stage start l k. changes_left stage (on_others ∷ []) start (with_memory t more).world f.first (f.below start l) k) in
+        (λ stage effects start l k. changes_left stage effects start (with_memory t more).world f.first (f.below start l) k) in
         stays_met w f.left s' t f.less (record { more = memory; spare = f.rest; starts = starts; related = f.related; holds = holds; clear = clears f.left t memory f.rest starts f.related holds made })
 
     steps_met : (w : ℕ) (s s' t : State) → Relation w s t → Step (new_of change) s s' → Outcome w s' t
     unfolding Clears
     steps_met w s s' t h step =
         met w s' t h.more h.spare h.starts h.holds clears
-        (step_met change (known_closed closed) calling w h.spare h.starts s s' (with_memory t h.more) h.related t.world.memory h.holds.spares
+        (step_met change (known_where closed quiet) calling w h.spare h.starts s s' (with_memory t h.more) h.related t.world.memory h.holds.spares
         (unfolded_settled t.world.memory t.frame.tasks h.holds.settled.frame.1)
-        (steady_here change closed h.starts t h.more h.holds.names h.holds.waits h.holds.own_ones (clear_avoids change closed only.new (known_closed closed) w h.spare h.starts s (with_memory t h.more) h.related h.clear) h.holds.closed_ones h.holds.kept_ones
+        (steady_here change closed quiet h.starts t h.more h.holds.names h.holds.waits h.holds.own_ones (clear_avoids change closed only.new (known_where closed quiet) w h.spare h.starts s (with_memory t h.more) h.related h.clear) h.holds.closed_ones h.holds.kept_ones
         (λ place tree use_of rest e. no_statements h.holds.reached.0 h.holds.reached.1 t h.holds.reached.2 place tree use_of rest e)) step)
       where
         memory_is : s.world.memory ≡ h.more
-        memory_is = ap (λ (world : World). world.memory) (same_world change (known_closed closed) w h.spare h.starts s (with_memory t h.more) h.related)
+        memory_is = ap (λ (world : World). world.memory) (same_world change (known_where closed quiet) w h.spare h.starts s (with_memory t h.more) h.related)
 
-        clears : (v : ℕ) (u : State) (memory : Memory) (spare : Spare) (starts : List World) → Related change (known_closed closed) v spare starts s' (with_memory u memory) → Holds u memory spare starts
+        clears : (v : ℕ) (u : State) (memory : Memory) (spare : Spare) (starts : List World) → Related change (known_where closed quiet) v spare starts s' (with_memory u memory) → Holds u memory spare starts
             → ((n : ℕ) → IsMade h.more n → IsMade memory n) → IsClear change closed only.new s'
         clears v u memory spare starts related holds made =
-            let is = ap (λ (world : World). world.memory) (same_world change (known_closed closed) v spare starts s' (with_memory u memory) related) in
+            let is = ap (λ (world : World). world.memory) (same_world change (known_where closed quiet) v spare starts s' (with_memory u memory) related) in
             clear_later change closed only.new s s' step (λ n k. subst (λ m. IsMade m n) (sym is) (made n (subst (λ m. IsMade m n) memory_is k)))
-            (subst (λ m. ObjectsMade m s.frame.objects) (sym memory_is) (related_made change (known_closed closed) w h.spare h.starts s t h.more h.related h.holds.settled h.holds.has h.holds.spares))
-            (subst (λ m. ObjectsMade m s'.frame.objects) (sym is) (related_made change (known_closed closed) v spare starts s' u memory related holds.settled holds.has holds.spares)) h.clear
+            (subst (λ m. ObjectsMade m s.frame.objects) (sym memory_is) (related_made change (known_where closed quiet) w h.spare h.starts s t h.more h.related h.holds.settled h.holds.has h.holds.spares))
+            (subst (λ m. ObjectsMade m s'.frame.objects) (sym is) (related_made change (known_where closed quiet) v spare starts s' u memory related holds.settled holds.has holds.spares)) h.clear
 
     begins_own : (input : List ℕ) (state : State) → Begins change.old input state → (entry : ℕ × ℕ) → IsAmong entry state.statics → closed entry.0 ≡ true → ⊥
     begins_own input state (bytes, names, fresh, main, is_main_here, e) entry l picked =
@@ -453,8 +456,8 @@ module _ (change : Called) (closed : ℕ → Bool) (calling : CallsInPlace chang
         by_declared (inr k) = only.local entry.0 picked k
 
     -- when a run begins, no frame waits
-    begins_kept : (input : List ℕ) (state : State) → Begins change.old input state → AreKept change.old closed state.statics [] state.callers state.world
-    begins_kept input state (bytes, names, fresh, main, is_main_here, e) = subst (λ (s : State). AreKept change.old closed s.statics [] s.callers s.world) (sym e) tt
+    begins_kept : (input : List ℕ) (state : State) → Begins change.old input state → AreKept change.old quiet closed state.statics state.frame.function [] state.callers state.world
+    begins_kept input state (bytes, names, fresh, main, is_main_here, e) = subst (λ (s : State). AreKept change.old quiet closed s.statics s.frame.function [] s.callers s.world) (sym e) tt
 
     begins_related : (input : List ℕ) (s : State) → Begins (new_of change) input s → (w : ℕ) × (t : State) × (w ≤ most change) × Begins change.old input t × Relation w s t
     begins_related input s b =
@@ -467,7 +470,7 @@ module _ (change : Called) (closed : ℕ → Bool) (calling : CallsInPlace chang
             more = t.0.world.memory;
             spare = [];
             starts = [];
-            related = inl (top_enough change (known_closed closed) t.0.statics t.0.frame.objects t.0.world _ _ t.2.tasks, t.2);
+            related = inl (top_enough change (known_where closed quiet) t.0.statics t.0.frame.objects t.0.world _ _ t.2.tasks, t.2);
             holds = record {
               settled = settled_beginnings change.old input t.0 t.1;
               has = λ n block e. e;
@@ -477,6 +480,7 @@ module _ (change : Called) (closed : ℕ → Bool) (calling : CallsInPlace chang
               own_ones = begins_own input t.0 t.1;
               closed_ones = begins_all_closed change.old closed only.old input t.0 t.1;
               alone = begins_left_alone change.old closed input t.0 t.1;
+              quiet_ones = begins_quiet change.old quiet silent input t.0 t.1;
               kept_ones = begins_kept input t.0 t.1;
               reached = (input, 0, record { start = t.0; begins = t.1; goes = goes_nothing change.old t.0 });
             };
@@ -495,11 +499,16 @@ module _ (change : Called) (closed : ℕ → Bool) (calling : CallsInPlace chang
     }
 
 -- A program that calls the added function refines the program that has its expression in place, with the arguments in it.
-pub closed_calls_refine : (change : Called) (closed : ℕ → Bool) → CallsInPlace change (known_closed closed) → AreOnlyNamed change closed → NoStatements change.old → Refines (machine_of (new_of change)) (machine_of change.old)
-closed_calls_refine change closed calling only no_statements =
-    simulated (machine_of (new_of change)) (machine_of change.old) (Relates change closed calling only no_statements) (most change) (most change) (simulation change closed calling only no_statements)
+pub known_calls_refine : (change : Called) (closed quiet : ℕ → Bool) → CallsInPlace change (known_where closed quiet) → AreOnlyNamed change closed → AreQuiet change.old quiet → NoStatements change.old
+    → Refines (machine_of (new_of change)) (machine_of change.old)
+known_calls_refine change closed quiet calling only silent no_statements =
+    simulated (machine_of (new_of change)) (machine_of change.old) (Relates change closed quiet calling only silent no_statements) (most change) (most change) (simulation change closed quiet calling only silent no_statements)
 
--- So it does where nothing is known of closed objects.
+-- So it does where nothing is known of functions,
+pub closed_calls_refine : (change : Called) (closed : ℕ → Bool) → CallsInPlace change (known_closed closed) → AreOnlyNamed change closed → NoStatements change.old → Refines (machine_of (new_of change)) (machine_of change.old)
+closed_calls_refine change closed calling only no_statements = known_calls_refine change closed (λ f. false) calling only (λ definition l q. absurd (true≢false (sym q))) no_statements
+
+-- nor of objects.
 pub calls_refine : (change : Called) → CallsInPlace change nothing_known → NoStatements change.old → Refines (machine_of (new_of change)) (machine_of change.old)
 calls_refine change calling no_statements =
     closed_calls_refine change (λ d. false) calling (record { local = λ d e. absurd (true≢false (sym e)); old = λ d e. absurd (true≢false (sym e)); new = λ d e. absurd (true≢false (sym e)) }) no_statements

@@ -1,7 +1,7 @@
 -- What holds of the objects of each frame, and of those that its tasks save, still does after a step, where it holds of what a block adds; and so
 -- does what holds of the names that tasks initialise, and of full expressions, where it holds of those that begin, and behind each step.
 use Rattle.std.specs.Prelude.{◌≡◌, refl, ◌⊎◌, ℕ, suc, Bool, true, false, List, [], ◌∷◌, ◌++◌, map, drop, Option, Some, None, pos, if◌then◌else◌}
-use Rattle.std.proofs.Common.{sym, subst, inl, inr}
+use Rattle.std.proofs.Common.{ap, sym, subst, inl, inr}
 use Rattle.dm_token.specs.declared.place.Place.{Place}
 use Rattle.dm_int.specs.declared.Kind.TheVariants.{Int}
 use Rattle.dm_type.specs.CTypes.{CType}
@@ -15,13 +15,14 @@ use Rattle.dm_meaning.specs.Objects.{Layout}
 use Rattle.dm_meaning.specs.Operations.{Result, of_value, World, Objects, object_named, Truth, holds, untold, truth_of}
 use Rattle.dm_meaning.specs.Programs.{Program, Definition, layout, declaration_of, definition_of}
 use Rattle.dm_meaning.specs.Running.{Run, done, to_do, begun, Hole, filled_in, locks_in}
-use Rattle.dm_meaning.specs.States.{Loop, Use, drops, chooses, selects, repeats, continues, returns, initialises, Task, begins, declares, initials, evaluates, again, tests, ends, ends_switch, leaves, skips, hands_back, Caller, State}
+use Rattle.dm_meaning.specs.States.{Loop, Use, drops, chooses, selects, repeats, continues, returns, initialises, Task, begins, declares, initials, evaluates, again, tests, ends, ends_switch, leaves, skips, hands_back, Frame, Caller, State}
 use Rattle.dm_meaning.specs.Statements.{Turned, onward, refused, Local, with_expressions, is_automatic, type_declared, item_tasks_by, item_tasks, items_tasks, unlabelled, start_task, start_tasks, as_list, entered, begin_for, loop_with, returning, begin_form, begin_tree, initial_of, begin_declarator, part_tasks, begin_initialiser, selected_by, by_test, begins_one, concluded, tested, continued, unfolded, ended, after_break, after_continue}
 use Rattle.dm_meaning.specs.Steps.{opened_frame, opened_memory, opened, lacks_value, resumed, gone_back, handed_back, is_main, gives_nothing, body_place, no_place, closed, turned, moved, scene_of, expression_steps, task_steps, Step}
 use Rattle.dm_meaning.specs.Values.{Name, numbered, At, Value, integer_value, unset}
 use Rattle.dm_meaning.proofs.AmongLemmas.{among-map_from}
 use Rattle.dm_meaning.proofs.FormLemmas.{one_tree_has, first_tree_has, option_tree_has, if_tree_has}
 use Rattle.dm_meaning.proofs.StateLemmas.{from_steps}
+use Rattle.dm_central.proofs.TopLemmas.{found_among}
 use Rattle.dm_central.specs.Waiting.{UseHas, TaskKeeps, TasksKeep, FrameKeeps, any_name, any_run}
 
 -- where this is known of the objects that the frame has then
@@ -67,6 +68,7 @@ module _ (program : Program) (P : Objects → Type 0) (N : Name → Type 0) (R :
   -- what a step does to frames: it goes on in the one that runs, calls a function, or returns
   pub record Stays (state other : State) : Type 0 where
     pub callers : other.callers ≡ state.callers
+    pub function : other.frame.function ≡ state.frame.function
     pub frame : FrameKeeps P N R other.frame
     pub statics : other.statics ≡ state.statics
 
@@ -75,7 +77,9 @@ module _ (program : Program) (P : Objects → Type 0) (N : Name → Type 0) (R :
     pub definition : Definition
     pub arguments : List Value
     pub callers : other.callers ≡ caller ∷ state.callers
+    pub function : caller.frame.function ≡ state.frame.function
     pub objects : caller.frame.objects ≡ state.frame.objects
+    pub found : IsAmong definition program.functions
     pub waits : FrameKeeps P N R caller.frame
     pub use_of : UseHas N caller.use_of
     pub resumes : (value : Value) → R (filled_in caller.hole (done caller.kind (of_value value) []))
@@ -221,14 +225,14 @@ module _ (program : Program) (P : Objects → Type 0) (N : Name → Type 0) (R :
       Shaped other = Q other.frame.objects → Shape names state other
 
       as_before : (other : State) → other.callers ≡ state.callers → other.frame ≡ state.frame → other.statics ≡ state.statics → Shaped other
-      as_before other e f g q = inl (record { callers = e; frame = subst (FrameKeeps P N R) (sym f) has; statics = g })
+      as_before other e f g q = inl (record { callers = e; function = ap (λ (frame : Frame). frame.function) f; frame = subst (FrameKeeps P N R) (sym f) has; statics = g })
 
       turned_has : (t : Turned) → TurnedKeep P N R Q t → Shaped (turned state t)
-      turned_has (onward objects tasks memory) h q = inl (record { callers = refl; frame = h q; statics = refl })
+      turned_has (onward objects tasks memory) h q = inl (record { callers = refl; function = refl; frame = h q; statics = refl })
       turned_has (refused cause place) h q = as_before (turned state (refused cause place)) refl refl refl q
 
       with_tasks : (tasks : List Task) → TasksKeep P N R tasks → Shaped (record state { frame = record state.frame { tasks = tasks } })
-      with_tasks tasks h q = inl (record { callers = refl; frame = (has.0, h); statics = refl })
+      with_tasks tasks h q = inl (record { callers = refl; function = refl; frame = (has.0, h); statics = refl })
 
       either_has : (b : Bool) (s t : State) → Shaped s → Shaped t → Shaped (if b then s else t)
       either_has true s t h k = h
@@ -250,15 +254,17 @@ module _ (program : Program) (P : Objects → Type 0) (N : Name → Type 0) (R :
       module _ (rest : List Task) (behind : TasksKeep P N R rest) (place : Place) (use_of : Use) (used : UseHas N use_of) (run : Run) (so : R run)
           (evaluating : unfolded state.frame.tasks ≡ evaluates place run use_of ∷ rest) where
         opened_has : (kind : CType) (hole : Hole) (arguments : List Value) → ((value : Value) → R (filled_in hole (done kind (of_value value) []))) → (o : Option Definition)
-            → Shaped (opened program names state rest place use_of kind hole arguments o)
-        opened_has kind hole arguments resumes None = as_before (opened program names state rest place use_of kind hole arguments None) refl refl refl
-        opened_has kind hole arguments resumes (Some definition) =
+            → ((definition : Definition) → o ≡ Some definition → IsAmong definition program.functions) → Shaped (opened program names state rest place use_of kind hole arguments o)
+        opened_has kind hole arguments resumes None found = as_before (opened program names state rest place use_of kind hole arguments None) refl refl refl
+        opened_has kind hole arguments resumes (Some definition) found =
             λ q. inr (inl (record {
               caller = record { frame = record state.frame { tasks = rest }; place = place; kind = kind; hole = hole; use_of = use_of };
               definition = definition;
               arguments = arguments;
               callers = refl;
               objects = refl;
+              function = refl;
+              found = found definition refl;
               waits = (has.0, behind);
               use_of = used;
               resumes = resumes;
@@ -268,9 +274,10 @@ module _ (program : Program) (P : Objects → Type 0) (N : Name → Type 0) (R :
             }))
 
         moved_has : (m : Move Run Hole) → IsAmong m (moves (scene_of program state) state.world (locks_in run) run) → Shaped (moved program names state rest place use_of m)
-        moved_has (goes world later) l = λ q. inl (record { callers = refl; frame = (has.0, ((keep.goes_on place run later use_of rest world evaluating l so, used), behind)); statics = refl })
+        moved_has (goes world later) l = λ q. inl (record { callers = refl; function = refl; frame = (has.0, ((keep.goes_on place run later use_of rest world evaluating l so, used), behind)); statics = refl })
         moved_has (calls f arguments kind hole) l =
             opened_has kind hole arguments (keep.resumes place run use_of rest f arguments kind hole evaluating l so) (definition_of program f)
+            (λ definition e. found_among program.functions f definition e)
         moved_has (fails cause at) l = as_before (moved program names state rest place use_of (fails cause at)) refl refl refl
         moved_has (exits status) l = as_before (moved program names state rest place use_of (exits status)) refl refl refl
 

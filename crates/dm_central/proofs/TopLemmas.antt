@@ -2,6 +2,7 @@
 use Rattle.std.specs.Prelude.{◌≡◌, refl, ℕ, ◌≤◌, ◌+◌, ◌==◌, Bool, true, false, List, [], ◌∷◌, Some, if◌then◌else◌}
 use Rattle.std.proofs.Common.{arith, true≢false, ap, sym, ◌∙◌, subst, inl, inr}
 use Rattle.dm_tree.specs.Trees.{is_statement, Tree, node, label_of}
+use Rattle.dm_meaning.specs.Among.{IsAmong}
 use Rattle.dm_meaning.specs.Called.{Called}
 use Rattle.dm_meaning.specs.Operations.{World, Objects}
 use Rattle.dm_meaning.specs.Programs.{Definition, definition_in}
@@ -33,7 +34,16 @@ fewer_worlds start starts world (c ∷ cs) caller = fewer_worlds start starts wo
 
 -- ---- the first task
 
--- a function that is found has its number
+-- a function that is found is one of the program
+pub found_among : (functions : List Definition) (f : ℕ) (definition : Definition) → definition_in functions f ≡ Some definition → IsAmong definition functions
+found_among [] f definition e = absurd (none_is_some definition e)
+found_among (first ∷ functions) f definition e = by_name (first.function == f) e (found_among functions f definition)
+  where
+    by_name : (b : Bool) → (if b then Some first else definition_in functions f) ≡ Some definition → (definition_in functions f ≡ Some definition → IsAmong definition functions) → IsAmong definition (first ∷ functions)
+    by_name true g later = inl (sym (some_is_some first definition g))
+    by_name false g later = inr (later g)
+
+-- and has its number
 pub found_number : (definitions : List Definition) (g : ℕ) (definition : Definition) → definition_in definitions g ≡ Some definition → definition.function ≡ g
 found_number [] g definition e = absurd (none_is_some definition e)
 found_number (first ∷ rest) g definition e = by_case (first.function == g) refl e (found_number rest g definition)

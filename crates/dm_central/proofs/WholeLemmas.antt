@@ -26,6 +26,7 @@ use Rattle.dm_meaning.specs.Wholes.{is_expression, are_expressions, all_expressi
 use Rattle.dm_meaning.proofs.AmongLemmas.{among-map_from}
 use Rattle.dm_meaning.proofs.OptionLemmas.{none_is_some, some_is_some}
 use Rattle.dm_meaning.proofs.StateLemmas.{from_steps}
+use Rattle.dm_central.proofs.TopLemmas.{found_among}
 use Rattle.dm_central.specs.Bodies.{IsWholeProgram, NoStatements}
 use Rattle.dm_central.proofs.BodyLemmas.{both_true, not_true}
 
@@ -436,14 +437,6 @@ main_among program (first ∷ functions) main e = by_name (is_main (declaration_
     by_name false g later = inr (later g)
 
 module _ (program : Program) (bodies : IsWholeProgram program) where
-  found_among : (functions : List Definition) (f : ℕ) (definition : Definition) → definition_in functions f ≡ Some definition → IsAmong definition functions
-  found_among [] f definition e = absurd (none_is_some definition e)
-  found_among (first ∷ functions) f definition e = by_name (first.function == f) e (found_among functions f definition)
-    where
-      by_name : (b : Bool) → (if b then Some first else definition_in functions f) ≡ Some definition → (definition_in functions f ≡ Some definition → IsAmong definition functions) → IsAmong definition (first ∷ functions)
-      by_name true g later = inl (sym (some_is_some first definition g))
-      by_name false g later = inr (later g)
-
   frame_whole : (names : ℕ → ℕ) (definition : Definition) → IsAmong definition program.functions → TasksWhole (opened_frame program names definition).tasks
   frame_whole names definition h = items_whole (parts_of definition.body) (listed_whole (parts_of definition.body) (bodies definition h))
 

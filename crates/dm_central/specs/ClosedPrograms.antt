@@ -1,5 +1,5 @@
 -- Programs in which certain declarations are named only where they are read or written.
---     known_closed closed      what is known of the old program: that these declarations are of closed objects
+--     known_where closed quiet      what is known of the old program: that these declarations are of closed objects, and these functions quiet
 --     AreOnlyNamed change closed      all trees of both programs name what they declare only so, and that isn't of static storage duration
 use Rattle.std.specs.Prelude.{◌≡◌, ℕ, Bool, true, false}
 use Rattle.dm_meaning.specs.Among.{IsAmong}
@@ -8,8 +8,11 @@ use Rattle.dm_meaning.specs.Units.{static_numbers}
 use Rattle.dm_rewrite.specs.ClosedStates.{ProgramNamesOnly}
 use Rattle.dm_central.specs.Bodies.{Known}
 
+abbrev pub known_where : (ℕ → Bool) → (ℕ → Bool) → Known
+known_where closed quiet = record { closed = closed; quiet = quiet; safe = λ tree. false }
+
 abbrev pub known_closed : (ℕ → Bool) → Known
-known_closed closed = record { closed = closed; quiet = λ f. false; safe = λ tree. false }
+known_closed closed = known_where closed (λ f. false)
 
 pub record AreOnlyNamed (change : Called) (closed : ℕ → Bool) : Type 0 where
   pub local : (d : ℕ) → closed d ≡ true → IsAmong d (static_numbers change.old.statics) → ⊥

@@ -4,15 +4,15 @@
 --     FrameLeaves program B statics frame, CallerLeaves program B statics caller      the frame leaves these objects alone
 --     IsClosedBelow test callers n      an object of one of these frames, of a declaration that the test picks out
 --     AreLeftAlone program test state      each frame leaves those of the frames below it alone
---     AreKept program test statics starts callers now      they hold what they held when the functions above were called
-use Rattle.std.specs.Prelude.{◌≡◌, ◌⊎◌, ℕ, Bool, true, false, List, [], ◌∷◌, ◌++◌}
+--     AreKept program quiet test statics g starts callers now      at most what the functions above may write has changed since they were called
+use Rattle.std.specs.Prelude.{◌≡◌, ◌⊎◌, ℕ, Bool, true, false, List, [], ◌∷◌, ◌++◌, Some}
 use Rattle.dm_meaning.specs.Among.{IsAmong}
 use Rattle.dm_meaning.specs.Operations.{of_value, World, Objects}
 use Rattle.dm_meaning.specs.Programs.{Program}
 use Rattle.dm_meaning.specs.Running.{Run, done, filled_in}
 use Rattle.dm_meaning.specs.States.{Frame, Caller, State}
 use Rattle.dm_meaning.specs.Values.{Name, numbered, Value}
-use Rattle.dm_rewrite.specs.Effects.{on_others, Stage, effects_of, IsFree, ChangesOnly}
+use Rattle.dm_rewrite.specs.Effects.{Stage, call_effects, effects_of, IsFree, ChangesOnly}
 use Rattle.dm_central.specs.Bodies.{closed_numbers}
 use Rattle.dm_central.specs.Waiting.{UseHas, FrameKeeps}
 
@@ -67,12 +67,14 @@ pub record AreLeftAlone (program : Program) (test : ℕ → Bool) (state : State
 
 -- ---- what the objects hold
 
-abbrev pub waiting_stage : Program → (ℕ → Bool) → Objects → Caller → Stage
-waiting_stage program test statics caller = stage_with program (statics ++ caller.frame.objects) (closed_numbers test caller.frame.objects)
+abbrev pub waiting_stage : Program → (ℕ → Bool) → (ℕ → Bool) → Objects → Caller → Stage
+waiting_stage program quiet test statics caller =
+    record { scene = record { program = program; objects = statics ++ caller.frame.objects }; closed = closed_numbers test caller.frame.objects; quiet = quiet }
 
--- at most what isn't closed has changed since the functions above were called, in these worlds
-abbrev pub AreKept : Program → (ℕ → Bool) → Objects → List World → List Caller → World → Type 0
-AreKept program test statics [] [] now = Unit {0}
-AreKept program test statics (start ∷ starts) (caller ∷ callers) now =
-    ChangesOnly (waiting_stage program test statics caller) (on_others ∷ []) start now × AreKept program test statics starts callers now
-AreKept program test statics starts callers now = ⊥
+-- Since the functions above were called, in these worlds, at most what they may write has changed: nothing where they are quiet, else what isn't
+-- closed. The first caller waits for g.
+abbrev pub AreKept : Program → (ℕ → Bool) → (ℕ → Bool) → Objects → ℕ → List World → List Caller → World → Type 0
+AreKept program quiet test statics g [] [] now = Unit {0}
+AreKept program quiet test statics g (start ∷ starts) (caller ∷ callers) now =
+    ChangesOnly (waiting_stage program quiet test statics caller) (call_effects quiet (Some g)) start now × AreKept program quiet test statics caller.frame.function starts callers now
+AreKept program quiet test statics g starts callers now = ⊥

@@ -13,3 +13,4 @@ pub mod Examples
 pub mod ClosedFrames
 pub mod LeftAlone
 pub mod ClosedPrograms
+pub mod QuietFrames

@@ -32,8 +32,9 @@ ghost use Rattle.dm_meaning.proofs.LikenessLemmas.{Likeness};
 ghost use Rattle.dm_central.specs.Added.{IsAdded};
 ghost use Rattle.dm_central.specs.Bodies.{Known, nothing_known, IsWholeProgram, CallsInPlace};
 ghost use Rattle.dm_central.specs.ClosedFrames.{AreAllClosed};
-ghost use Rattle.dm_central.specs.ClosedPrograms.{known_closed, AreOnlyNamed};
+ghost use Rattle.dm_central.specs.ClosedPrograms.{known_where, known_closed, AreOnlyNamed};
 ghost use Rattle.dm_central.specs.LeftAlone.{AreLeftAlone, AreKept};
+ghost use Rattle.dm_central.specs.QuietFrames.{AreQuiet, AreQuietFrames};
 ghost use Rattle.dm_central.specs.Waiting.{AreOwn, IsWaiting};
 ghost use Rattle.dm_central.specs.StateAgreement.{TreeFits, RunFits, Related, worlds_after, Met as StateMet, IsSteady};
 ghost use Rattle.dm_central.specs.Agreement.{Entry, Mode, outside, inside, is_inside, IsReading, AreUnbegun, open_effects, beside_first, before_rest, BegunOutside, IsPassed, RunAgrees, RunsAgree};
@@ -247,15 +248,30 @@ pub fn closed_objects_stay()
 {}
 
 /// Frames above leave these objects alone: no name stands for them there, no initialiser is one of theirs, and no full expression has an effect on
-/// them. So they hold what they held when the functions above were called.
+/// them.
 pub fn closed_objects_are_left_alone()
     ensures begins { (program : Program) (test : ℕ → Bool) (input : List ℕ) (state : State) → Begins program input state → AreLeftAlone program test state }
     ensures steps { (program : Program) (test : ℕ → Bool) (starts : List World) (state other : State) → Step program state other
         → AreOwn state.statics starts state.frame.objects → AreAllClosed test state → AreLeftAlone program test state → AreLeftAlone program test other }
-    ensures kept { (program : Program) (test : ℕ → Bool) (state other : State) → Step program state other → AreLeftAlone program test state
-        → (starts : List World) → IsWaiting starts state → IsWaiting (worlds_after starts state.world state.callers other.callers) other
-        → AreKept program test state.statics starts state.callers state.world
-        → AreKept program test other.statics (worlds_after starts state.world state.callers other.callers) other.callers other.world }
+{}
+
+/// A function whose body is one `return` of a tree that neither stores nor calls others than such functions writes nothing that was there when it was
+/// called. In its frame no other tree is evaluated, and the frames above it are such too.
+pub fn quiet_functions_stay_quiet()
+    ensures begins { (program : Program) (quiet : ℕ → Bool) → AreQuiet program quiet → (input : List ℕ) (state : State) → Begins program input state
+        → AreQuietFrames program quiet state }
+    ensures steps { (program : Program) (quiet : ℕ → Bool) → AreQuiet program quiet → (state other : State) → Step program state other
+        → AreQuietFrames program quiet state → AreQuietFrames program quiet other }
+{}
+
+/// So what a frame that waits knows of memory stays: closed objects hold what they held when the function above was called, and all objects do where
+/// that is quiet.
+pub fn waiting_frames_are_kept()
+    ensures { (program : Program) (quiet test : ℕ → Bool) (state other : State) → Step program state other → AreLeftAlone program test state
+        → AreQuietFrames program quiet state → (starts : List World) → IsWaiting starts state
+        → IsWaiting (worlds_after starts state.world state.callers other.callers) other
+        → AreKept program quiet test state.statics state.frame.function starts state.callers state.world
+        → AreKept program quiet test other.statics other.frame.function (worlds_after starts state.world state.callers other.callers) other.callers other.world }
 {}
 
 /// A program that calls an added function in place of its expression refines the program with the expression, with the arguments in it. An argument is
@@ -271,4 +287,11 @@ pub fn calls_refine()
 pub fn closed_calls_refine()
     ensures { (change : Called) (closed : ℕ → Bool) → CallsInPlace change (known_closed closed) → AreOnlyNamed change closed → IsWholeProgram change.old
         → Refines (machine_of (new_of change)) (machine_of change.old) }
+{}
+
+/// And where certain functions are known to write nothing that was there when they were called: an argument that reads any objects may be read behind
+/// calls of these.
+pub fn known_calls_refine()
+    ensures { (change : Called) (closed quiet : ℕ → Bool) → CallsInPlace change (known_where closed quiet) → AreOnlyNamed change closed
+        → AreQuiet change.old quiet → IsWholeProgram change.old → Refines (machine_of (new_of change)) (machine_of change.old) }
 {}

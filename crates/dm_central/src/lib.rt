@@ -11,6 +11,7 @@ pub use examples::{
 pub use laws::{
     agreement_beside_less, agreement_kept, argument_places, argument_steps, begun_agreement,
     bodies_alike, call_steps, calls_refine, closed_calls_refine, closed_objects_are_left_alone,
-    closed_objects_stay, common_facts, entered_expressions, moved_operands, named_reads_are_apart,
-    node_steps, state_steps, tree_steps,
+    closed_objects_stay, common_facts, entered_expressions, known_calls_refine, moved_operands,
+    named_reads_are_apart, node_steps, quiet_functions_stay_quiet, state_steps, tree_steps,
+    waiting_frames_are_kept,
 };

@@ -1,4 +1,3 @@
-use Rattle.dm_central.proofs.KeptFrameLemmas.{kept_later}
 use Rattle.dm_central.proofs.LeftAloneLemmas.{begins_left_alone, left_alone_later}
 use Rattle.dm_central.proofs.laws.closed_objects_are_left_alone.Goals as goal
 
@@ -7,6 +6,3 @@ returns-clause-begins c = begins_left_alone
 
 pub returns-clause-steps : goal.returns-clause-steps
 returns-clause-steps c = left_alone_later
-
-pub returns-clause-kept : goal.returns-clause-kept
-returns-clause-kept c = kept_later
