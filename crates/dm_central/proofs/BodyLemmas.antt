@@ -84,7 +84,7 @@ module _ (change : Called) (gives : Gives change.body) (stage : Stage) (safe : T
       by_stands (inr (inr s)) = by_body change.body (given_may change.body gives) s
 
   mutual
-    gives_label : (beside : List Effect) (tree other : Tree) → BegunOutside change stage safe beside tree other → may_give (label_of tree) ≡ true → may_give (label_of other) ≡ true
+    pub gives_label : (beside : List Effect) (tree other : Tree) → BegunOutside change stage safe beside tree other → may_give (label_of tree) ≡ true → may_give (label_of other) ≡ true
     gives_label beside (node label kind spans parts) other (inl h) g = sym (relabelled_gives change.rename (label_of other)) ∙ sym (ap may_give h.0) ∙ g
     gives_label beside (node label kind spans parts) other (inr h) g = whole_label beside label kind other h.0 (passes_labels beside h.1.kinds parts h.0 h.2) h.1
 
@@ -112,7 +112,7 @@ abbrev calls_added : Called → Label → Trees → Bool
 calls_added change call parts = names_added change parts
 calls_added change label parts = false
 
-named_runs : (trees : Trees) → all_begun trees ≡ no_runs → trees ≡ no_trees
+pub named_runs : (trees : Trees) → all_begun trees ≡ no_runs → trees ≡ no_trees
 named_runs no_trees e = refl
 named_runs (more_trees first rest) e = absurd (not_none e)
   where

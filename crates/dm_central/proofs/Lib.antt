@@ -38,7 +38,9 @@ mod AroundExample
 mod ClosedFrameLemmas
 mod ClosedBeginLemmas
 mod LeftAloneLemmas
+mod QuietTreeLemmas
 mod QuietFrameLemmas
 mod KeptFrameLemmas
 mod ClosedSteadyLemmas
 mod NewProgramLemmas
+mod NewNamesLemmas

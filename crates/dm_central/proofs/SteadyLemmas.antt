@@ -27,7 +27,7 @@ named_among (entry ∷ entries) c n e = by_case (entry.0 == c) refl e (named_amo
     by_case true f g later = inl (λ i. (sym (equal_of entry.0 c f) i, sym (some_is_some entry.1 n g) i))
     by_case false f g later = inr (later g)
 
-closed_among : (test : ℕ → Bool) (objects : Objects) (d n : ℕ) → test d ≡ true → IsAmong (d, n) objects → IsAmong n (closed_numbers test objects)
+pub closed_among : (test : ℕ → Bool) (objects : Objects) (d n : ℕ) → test d ≡ true → IsAmong (d, n) objects → IsAmong n (closed_numbers test objects)
 closed_among test [] d n picked l = absurd l
 closed_among test (entry ∷ entries) d n picked (inl e) = among_left n (if test entry.0 then entry.1 ∷ [] else []) (closed_numbers test entries) (by_test (test entry.0) (sym (ap (λ (x : ℕ × ℕ). test x.0) e) ∙ picked))
   where

@@ -1,11 +1,12 @@
 -- Functions that write nothing that was there when they were called, and the frames in which they run.
 --     IsQuietRun program quiet objects run      the tree under evaluation writes nothing
+--     WritesNothing quiet tree      the tree neither stores nor calls others than these functions
 --     AreQuiet program quiet      each body of these functions is one `return` of such a tree
 --     AreQuietFrames program quiet state      their frames evaluate it, and what a frame of theirs calls is one of them
-use Rattle.std.specs.Prelude.{◌≡◌, ◌⊎◌, ℕ, Bool, true, List, [], ◌∷◌, ◌++◌}
+use Rattle.std.specs.Prelude.{◌≡◌, ◌⊎◌, ℕ, Bool, true, false, List, [], ◌∷◌, ◌++◌}
 use Rattle.dm_token.specs.declared.place.Place.{Place}
 use Rattle.dm_type.specs.CTypes.{CType}
-use Rattle.dm_tree.specs.Trees.{return, Spans, Tree, node, no_trees, more_trees, parts_of}
+use Rattle.dm_tree.specs.Trees.{Label, function, store, update, count, call, return, Spans, Tree, Trees, node, no_trees, more_trees, parts_of}
 use Rattle.dm_meaning.specs.Among.{IsAmong}
 use Rattle.dm_meaning.specs.Operations.{of_value, Objects}
 use Rattle.dm_meaning.specs.Programs.{Program, Definition}
@@ -20,6 +21,26 @@ quiet_stage program quiet objects = record { scene = record { program = program;
 
 abbrev pub IsQuietRun : Program → (ℕ → Bool) → Objects → Run → Type 0
 IsQuietRun program quiet objects run = (effect : Effect) → IsAmong effect (effects_of (quiet_stage program quiet objects) run) → ⊥
+
+-- ---- trees of which nothing is evaluated
+
+-- the node stores nothing, and calls such functions alone, by their names
+abbrev pub is_quiet_node : (ℕ → Bool) → Label → Trees → Bool
+is_quiet_node quiet store parts = false
+is_quiet_node quiet (update op works) parts = false
+is_quiet_node quiet (count plus before) parts = false
+is_quiet_node quiet call (more_trees (node (function g) kind spans no_trees) rest) = quiet g
+is_quiet_node quiet call parts = false
+is_quiet_node quiet label parts = true
+
+-- no node does otherwise, also where it isn't evaluated
+abbrev mutual
+  pub WritesNothing : (ℕ → Bool) → Tree → Type 0
+  WritesNothing quiet (node label kind spans parts) = (is_quiet_node quiet label parts ≡ true) × AllWriteNothing quiet parts
+
+  pub AllWriteNothing : (ℕ → Bool) → Trees → Type 0
+  AllWriteNothing quiet no_trees = Unit {0}
+  AllWriteNothing quiet (more_trees first rest) = WritesNothing quiet first × AllWriteNothing quiet rest
 
 -- ---- programs
 

@@ -1,6 +1,6 @@
 //! A small program that meets the premises of the laws.
 
-ghost use Rattle.std.specs.Prelude.{◌≡◌, ℕ, ◌==◌, true, List, []};
+ghost use Rattle.std.specs.Prelude.{◌≡◌, ℕ, ◌==◌, true, false, List, []};
 ghost use Rattle.dm_meaning.specs.Among.{IsAmong};
 ghost use Rattle.dm_meaning.specs.Called.{new_of};
 ghost use Rattle.dm_meaning.specs.Examples.{nested_call};
@@ -17,10 +17,11 @@ ghost use Rattle.dm_central.specs.Added.{IsAdded};
 ghost use Rattle.dm_central.specs.Agreement.{BegunOutside, RunAgrees};
 ghost use Rattle.dm_central.specs.Bodies.{nothing_known, CallsInPlace, IsWholeProgram};
 ghost use Rattle.dm_central.specs.ClosedFrames.{AreAllClosed};
-ghost use Rattle.dm_central.specs.ClosedPrograms.{known_closed, AreOnlyNamed};
+ghost use Rattle.dm_central.specs.ClosedPrograms.{known_where, known_closed, AreOnlyNamed};
 ghost use Rattle.dm_central.specs.Examples as examples;
 ghost use Rattle.dm_central.specs.NodeSteps.{new_scene};
 ghost use Rattle.dm_central.specs.Outcomes.{Met};
+ghost use Rattle.dm_central.specs.QuietFrames.{AreQuiet};
 ghost use Rattle.dm_central.specs.Waiting.{AreOwn};
 
 /// `twice(y)`, where `int twice(int x) { return x + x; }`, agrees with `y + y`, in which y stands untouched until it is read, twice.
@@ -56,5 +57,13 @@ pub fn an_argument_is_read_behind_a_call()
     ensures calls { CallsInPlace examples.calling_around (known_closed (λ d. d == 1)) }
     ensures named { AreOnlyNamed examples.calling_around (λ d. d == 1) }
     ensures whole { IsWholeProgram examples.calling_around.old }
+    ensures refines { Refines (machine_of (new_of examples.calling_around)) (machine_of examples.calling_around.old) }
+{}
+
+/// It refines it also where nothing is known of y, since `int g(void) { return 3; }` writes nothing.
+pub fn an_argument_is_read_behind_a_quiet_call()
+    ensures calls { CallsInPlace examples.calling_around (known_where (λ d. false) (λ f. f == 2)) }
+    ensures named { AreOnlyNamed examples.calling_around (λ d. false) }
+    ensures quiet { AreQuiet examples.calling_around.old (λ f. f == 2) }
     ensures refines { Refines (machine_of (new_of examples.calling_around)) (machine_of examples.calling_around.old) }
 {}

@@ -24,7 +24,7 @@ ghost use Rattle.dm_meaning.proofs.MatchLemmas.{may_stand};
 ghost use Rattle.dm_meaning.proofs.PassRunLemmas.{AllYield, MoveYieldsAll};
 ghost use Rattle.dm_meaning.proofs.RunLemmas.{redone};
 ghost use Rattle.dm_rewrite.specs.Closed.{MemoryAvoids, IsClosedIn};
-ghost use Rattle.dm_rewrite.specs.ClosedStates.{ProgramNamesOnly};
+ghost use Rattle.dm_rewrite.specs.ClosedStates.{NamesOnly, ProgramNamesOnly};
 ghost use Rattle.dm_rewrite.specs.Computed.{Computed, computed, IsPure};
 ghost use Rattle.dm_rewrite.specs.Effects.{Effect, Stage, effects_of, ChangesOnly, IsNoMore};
 ghost use Rattle.dm_rewrite.specs.PureSteps.{Meets};
@@ -32,9 +32,9 @@ ghost use Rattle.dm_meaning.proofs.LikenessLemmas.{Likeness};
 ghost use Rattle.dm_central.specs.Added.{IsAdded};
 ghost use Rattle.dm_central.specs.Bodies.{Known, nothing_known, IsWholeProgram, CallsInPlace};
 ghost use Rattle.dm_central.specs.ClosedFrames.{AreAllClosed};
-ghost use Rattle.dm_central.specs.ClosedPrograms.{known_where, known_closed, AreOnlyNamed};
+ghost use Rattle.dm_central.specs.ClosedPrograms.{known_where, known_closed, AreOnlyNamed, AreListed};
 ghost use Rattle.dm_central.specs.LeftAlone.{AreLeftAlone, AreKept};
-ghost use Rattle.dm_central.specs.QuietFrames.{AreQuiet, AreQuietFrames};
+ghost use Rattle.dm_central.specs.QuietFrames.{WritesNothing, IsQuietTree, AreQuiet, AreQuietFrames};
 ghost use Rattle.dm_central.specs.Waiting.{AreOwn, IsWaiting};
 ghost use Rattle.dm_central.specs.StateAgreement.{TreeFits, RunFits, Related, worlds_after, Met as StateMet, IsSteady};
 ghost use Rattle.dm_central.specs.Agreement.{Entry, Mode, outside, inside, is_inside, IsReading, AreUnbegun, open_effects, beside_first, before_rest, BegunOutside, IsPassed, RunAgrees, RunsAgree};
@@ -258,6 +258,7 @@ pub fn closed_objects_are_left_alone()
 /// A function whose body is one `return` of a tree that neither stores nor calls others than such functions writes nothing that was there when it was
 /// called. In its frame no other tree is evaluated, and the frames above it are such too.
 pub fn quiet_functions_stay_quiet()
+    ensures trees { (program : Program) (quiet : ℕ → Bool) (tree : Tree) → WritesNothing quiet tree → IsQuietTree program quiet tree }
     ensures begins { (program : Program) (quiet : ℕ → Bool) → AreQuiet program quiet → (input : List ℕ) (state : State) → Begins program input state
         → AreQuietFrames program quiet state }
     ensures steps { (program : Program) (quiet : ℕ → Bool) → AreQuiet program quiet → (state other : State) → Step program state other
@@ -280,6 +281,12 @@ pub fn waiting_frames_are_kept()
 pub fn calls_refine()
     ensures { (change : Called) → CallsInPlace change nothing_known → IsWholeProgram change.old
         → Refines (machine_of (new_of change)) (machine_of change.old) }
+{}
+
+/// In the new program such objects are only named too, where the added function's expression doesn't name them otherwise.
+pub fn new_programs_only_name()
+    ensures { (change : Called) (known : Known) → CallsInPlace change known → (d : ℕ) → known.closed d ≡ true → AreListed change
+        → ProgramNamesOnly d change.old → NamesOnly (change.rename d) change.body → ProgramNamesOnly (change.rename d) (new_of change) }
 {}
 
 /// So it does where certain local objects are known to be closed: what declares them is named only where it is read or written, in both programs. Then

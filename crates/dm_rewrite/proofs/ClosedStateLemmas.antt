@@ -272,7 +272,7 @@ module _ (n d : ℕ) where
     first_closed unseen first later h = tt
 
     mutual
-      begun_closed : (tree : Tree) → NamesOnly d tree → IsClosedIn n objects (begun tree)
+      pub begun_closed : (tree : Tree) → NamesOnly d tree → IsClosedIn n objects (begun tree)
       begun_closed (node label kind spans parts) h = (not_named label h.0, all_begun_closed (names_first (evaluates_label label)) parts h.1)
 
       all_begun_closed : (may : May) (parts : Trees) → AllNameOnly d may parts → IsClosedInAll n objects may (all_begun parts)

@@ -2,7 +2,7 @@ use Rattle.dm_central.proofs.AroundExample as around
 use Rattle.dm_central.proofs.examples.an_argument_is_read_behind_a_call.Goals as goal
 
 pub returns-clause-calls : goal.returns-clause-calls
-returns-clause-calls c = around.in_place
+returns-clause-calls c = around.closed_in_place
 
 pub returns-clause-named : goal.returns-clause-named
 returns-clause-named c = around.only_named
@@ -11,4 +11,4 @@ pub returns-clause-whole : goal.returns-clause-whole
 returns-clause-whole c = around.whole_program
 
 pub returns-clause-refines : goal.returns-clause-refines
-returns-clause-refines c = around.refines
+returns-clause-refines c = around.closed_refines
