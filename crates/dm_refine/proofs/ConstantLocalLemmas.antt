@@ -35,7 +35,7 @@ integer_void : (kind : CType) (k : _) → kind ≡ integer k → kind ≡ void �
 integer_void kind k e f = absurd (cc)
 
 -- what is no statement declares nothing
-no_locals : (label : Label) (trees : List Tree) (below : List Local) → is_statement label ≡ false → locals_by label trees below ≡ []
+pub no_locals : (label : Label) (trees : List Tree) (below : List Local) → is_statement label ≡ false → locals_by label trees below ≡ []
 no_locals (declare lengths declarators) trees below e = absurd (true≢false e)
 no_locals label trees below e = ap (λ b. if b then below else []) e
 
@@ -46,6 +46,14 @@ fixed_sort Function e = absurd (false≢true e)
 fixed_sort Typedef e = absurd (false≢true e)
 fixed_sort (Enumerator value) e = absurd (false≢true e)
 fixed_sort Tag e = absurd (false≢true e)
+
+-- a declarator that defines an object of static storage duration
+pub static_sort_fixed : (declared : List Declaration) (scene : Scene) → scene.declared ≡ declared → (local : Local) → is_static declared local ≡ true
+    → (entry : Declaration) → slice_get scene.declared local.declarator.declared ≡ Some entry → is_fixed entry.sort ≡ true
+static_sort_fixed declared scene e local static entry found =
+    fixed_sort entry.sort
+    (sym (ap is_static_declaration (ap (λ (ds : List Declaration). slice_get ds local.declarator.declared) (sym e) ∙ found))
+    ∙ and_right local.declarator.defines (is_static_declaration (declaration_at declared local.declarator.declared)) static)
 
 -- all typed trees of a list
 pub all_typed : (scene : Scene) (trees : Trees) → AreWellTyped scene trees → All (IsWellTyped scene) (listed trees)
@@ -66,19 +74,11 @@ module _ (change : Named) (told : (d : ℕ) → option_map facts_of (declaration
   all_inert_renamed (tree ∷ trees) (other ∷ others) h inert =
       (renamed change told tree other h.0 (All-head IsInert tree trees inert), all_inert_renamed trees others h.1 (All-tail IsInert tree trees inert))
 
-  -- a declarator that defines an object of static storage duration
-  static_fixed : (scene : Scene) → scene.declared ≡ change.declared → (local : Local) → is_static change.declared local ≡ true
-      → (entry : Declaration) → slice_get scene.declared local.declarator.declared ≡ Some entry → is_fixed entry.sort ≡ true
-  static_fixed scene e local static entry found =
-      fixed_sort entry.sort
-      (sym (ap is_static_declaration (ap (λ (ds : List Declaration). slice_get ds local.declarator.declared) (sym e) ∙ found))
-      ∙ and_right local.declarator.defines (is_static_declaration (declaration_at change.declared local.declarator.declared)) static)
-
   local_same : (scene place_scene : Scene) → place_scene.declared ≡ change.declared → (one other : Declarator) (trees others : List Tree) → All (IsWellTyped scene) trees → DeclaratorFits place_scene one trees
       → Zipped (named.Agrees change) trees others → SameIfStatic change (record { declarator = one; expressions = trees }) (record { declarator = other; expressions = others })
   local_same scene place_scene e one other trees others t fits h static =
       all_inert_renamed trees others h
-      (declarator_inert scene place_scene one (λ entry found defines object. static_fixed place_scene e (record { declarator = one; expressions = trees }) static entry found) trees t fits)
+      (declarator_inert scene place_scene one (λ entry found defines object. static_sort_fixed change.declared place_scene e (record { declarator = one; expressions = trees }) static entry found) trees t fits)
 
   declarators_same : (scene place_scene : Scene) → place_scene.declared ≡ change.declared → (declarators : List Declarator) (trees others : List Tree) → All (IsWellTyped scene) trees
       → DeclaratorsFit place_scene (map (renamed_declarator change.rename) declarators) trees → Zipped (named.Agrees change) trees others

@@ -13,3 +13,11 @@ mod ConstantEntryLemmas
 mod ConstantLocalLemmas
 mod ConstantUnitLemmas
 mod ConstantExample
+mod CallTreeLemmas
+mod CallBodyLemmas
+mod CallGivesLemmas
+mod CallPutLemmas
+mod CallStaticLemmas
+mod CallLocalLemmas
+mod CallUnitLemmas
+mod CallExample

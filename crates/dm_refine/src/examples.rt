@@ -9,6 +9,8 @@ ghost use Rattle.dm_effect.specs.Scoped.{IsScopedUnit};
 ghost use Rattle.dm_sound.specs.TypedTrees.{IsSoundTable};
 ghost use Rattle.dm_align.specs.Examples as examples;
 ghost use Rattle.dm_align.specs.Units.{AreAligned};
+ghost use Rattle.dm_refine.specs.Calls.{HasNoLengths, HasResult, IsCalledEvaluated};
+ghost use Rattle.dm_refine.specs.Examples as calls;
 
 /// `int f(void) { return TWO; }` with `enum { TWO = (1+1) };` in place of `#define TWO (1+1)` refines the unit with the macro. That unit and
 /// itself meet the premises where nothing is put in.
@@ -27,4 +29,16 @@ pub fn a_constant_refines()
     ensures scoped { IsScopedUnit examples.ten_new }
     ensures table { IsSoundTable no_type }
     ensures aligned { AreAligned no_type no_type examples.ten_old examples.ten_new (examples.run_of_ten ∷ []) (Some examples.ten_put) }
+{}
+
+/// `int f(void) { return LATEST(); }` with `static inline int LATEST(void) { return n; }` in place of `#define LATEST() n`, where `int n;` stands in
+/// front, refines the unit with the macro.
+pub fn a_function_refines()
+    ensures old_typed { IsWellTypedUnit no_type calls.old }
+    ensures new_typed { IsWellTypedUnit no_type calls.new }
+    ensures scoped { IsScopedUnit calls.new }
+    ensures aligned { AreAligned no_type no_type calls.old calls.new (calls.run ∷ []) (Some calls.put) }
+    ensures result { HasResult calls.new 1 }
+    ensures lengths { HasNoLengths (calls.value_at 12) }
+    ensures evaluated { IsCalledEvaluated 1 calls.new }
 {}

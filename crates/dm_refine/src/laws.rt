@@ -1,16 +1,18 @@
 //! What follows for the programs of aligned units.
 
-ghost use Rattle.std.specs.Prelude.{◌≡◌, ℕ, List, Option, None, Some, ℤ};
+ghost use Rattle.std.specs.Prelude.{◌≡◌, ℕ, List, [], Option, None, Some, ℤ};
 ghost use Rattle.dm_runs.specs.declared.run.Run.{Run};
 ghost use Rattle.dm_type.specs.Tables.{Table};
+ghost use Rattle.dm_tree.specs.Trees.{Tree};
 ghost use Rattle.dm_tree.specs.Typing.{IsWellTypedUnit};
 ghost use Rattle.dm_tree.specs.Units.{TypedUnit};
 ghost use Rattle.dm_meaning.specs.Refinement.{Refines};
 ghost use Rattle.dm_meaning.specs.Units.{machine_of, program_of};
 ghost use Rattle.dm_effect.specs.Scoped.{IsScopedUnit};
 ghost use Rattle.dm_sound.specs.TypedTrees.{IsSoundTable};
-ghost use Rattle.dm_agree.specs.Agreement.{added_constant, added_enumerator};
+ghost use Rattle.dm_agree.specs.Agreement.{added_constant, added_enumerator, added_function};
 ghost use Rattle.dm_align.specs.Units.{Insertion, AreAligned, added_by};
+ghost use Rattle.dm_refine.specs.Calls.{HasNoLengths, HasResult, IsCalledEvaluated};
 
 use dm_rewrite::named_units_refine;
 
@@ -44,3 +46,14 @@ pub fn named_constant_units_refine()
     // The law on which its proof rests.
     named_units_refine();
 }
+
+/// Where a function without parameters is put in, which is called in place of the runs, the new program refines the old one. The function has a
+/// result, no type name in its expression has an array length or an enumerator's value, and no operand of sizeof calls it. The expression may
+/// have effects, and calls in it; that each function means the same by its names follows from their scopes.
+pub fn calling_units_refine()
+    ensures { (old_types new_types : Table) (old new : TypedUnit) (runs : List Run) (put : Insertion) (f : ℕ) (body : Tree)
+        → IsWellTypedUnit old_types old → IsWellTypedUnit new_types new → IsScopedUnit new
+        → AreAligned old_types new_types old new runs (Some put) → put.added ≡ added_function f [] body
+        → HasResult new f → HasNoLengths body → IsCalledEvaluated f new
+        → Refines (machine_of (program_of new_types new)) (machine_of (program_of old_types old)) }
+{}

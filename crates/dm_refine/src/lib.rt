@@ -4,5 +4,7 @@
 mod examples;
 mod laws;
 
-pub use examples::{a_constant_refines, an_enumerator_refines};
-pub use laws::{enumerated_units_refine, named_constant_units_refine, unread_units_refine};
+pub use examples::{a_constant_refines, a_function_refines, an_enumerator_refines};
+pub use laws::{
+    calling_units_refine, enumerated_units_refine, named_constant_units_refine, unread_units_refine,
+};

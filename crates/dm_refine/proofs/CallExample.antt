@@ -1,0 +1,98 @@
+-- The premises of the law, for a unit with a macro that becomes a function without parameters.
+use Rattle.std.specs.Prelude.{nat_eq, refl, length, All, [], ◌∷◌}
+use Rattle.std.specs.List.{IsDistinct}
+use Rattle.std.proofs.Common.{arith, ap}
+use Rattle.std.proofs.lemmas.List.Elements.{All-nil, All-from_recursion}
+use Rattle.dm_type.specs.Tables.{no_type}
+use Rattle.dm_tree.specs.Scenes.{IsStatement}
+use Rattle.dm_tree.specs.Trees.{Tree}
+use Rattle.dm_tree.specs.Typing.{IsEntry, ExternalFits, IsWellTypedUnit, file_scene}
+use Rattle.dm_refine.specs.Examples.{old, new}
+
+one_statement : (tree : Tree) → IsStatement tree → All IsStatement (tree ∷ [])
+one_statement tree h = All-from_recursion IsStatement (tree ∷ []) (h, tt)
+
+pub old_typed : IsWellTypedUnit no_type old
+unfolding IsDistinct
+old_typed = record {
+  entries = All-from_recursion IsEntry old.declared ((refl, λ linked. refl), ((refl, refl), tt));
+  externals = All-from_recursion (ExternalFits (file_scene no_type old.declared)) old.externals (
+    (All-nil _, All-nil _, (All-nil _, ((((λ defines. (refl, refl)), refl), refl), refl))),
+    (
+      (
+        All-nil _,
+        All-nil _,
+        (
+          (
+            refl,
+            (
+              tt,
+              refl,
+              (
+                (one_statement _ refl, refl),
+                ((((refl, refl, refl), refl), (((refl, refl, refl), (((refl, refl), tt), tt)), tt)), tt),
+              ),
+            ),
+            λ e. absurd (omega (arith, ap length e)),
+          ),
+          refl,
+        ),
+      ),
+      tt,
+    ),
+  );
+  once = (tt, tt);
+}
+
+pub new_typed : IsWellTypedUnit no_type new
+unfolding IsDistinct
+new_typed = record {
+  entries = All-from_recursion IsEntry new.declared ((refl, λ linked. refl), ((refl, refl), ((refl, refl), tt)));
+  externals = All-from_recursion (ExternalFits (file_scene no_type new.declared)) new.externals (
+    (All-nil _, All-nil _, (All-nil _, ((((λ defines. (refl, refl)), refl), refl), refl))),
+    (
+      (
+        All-nil _,
+        All-nil _,
+        (
+          (
+            refl,
+            (
+              tt,
+              refl,
+              (
+                (one_statement _ refl, refl),
+                ((((refl, refl, refl), refl), (((refl, refl, refl), (((refl, refl), tt), tt)), tt)), tt),
+              ),
+            ),
+            λ e. absurd (omega (arith, ap length e)),
+          ),
+          refl,
+        ),
+      ),
+      (
+        (
+          All-nil _,
+          All-nil _,
+          (
+            (
+              refl,
+              (
+                tt,
+                refl,
+                (
+                  (one_statement _ refl, refl),
+                  ((((refl, refl, refl), refl), (((tt, refl), (((refl, refl), tt), tt)), tt)), tt),
+                ),
+              ),
+              λ e. absurd (omega (arith, ap length e)),
+            ),
+            refl,
+          ),
+        ),
+        tt,
+      ),
+    ),
+  );
+  once = ((refl, tt), (tt, tt));
+}

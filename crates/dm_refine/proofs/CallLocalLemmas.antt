@@ -1,0 +1,126 @@
+-- Declarations in functions, in units of which one calls the added function.
+--     locals_agree      they agree, and initialisers of objects of static storage duration call it nowhere
+use Rattle.std.specs.Prelude.{◌≡◌, refl, ℕ, Bool, true, false, not, ◌&&◌, All, List, [], ◌∷◌, ◌++◌, map, take, drop, Option, Some, None, slice_get, if◌then◌else◌}
+use Rattle.std.proofs.Common.{ap, sym, ◌∙◌, subst, inl, inr}
+use Rattle.std.proofs.lemmas.Bool.{false≢true, true≢false}
+use Rattle.std.proofs.lemmas.List.Elements.{All-head, All-tail, All-nil, All-cons, All-take, All-drop}
+use Rattle.dm_type.specs.CTypes.{CType}
+use Rattle.dm_tree.specs.Initialisers.{DeclaratorFits, DeclaratorsFit, is_fixed}
+use Rattle.dm_tree.specs.Scenes.{Scene}
+use Rattle.dm_tree.specs.Trees.{Label, enumerator, object, function, declare, is_statement, Declarator, Tree, Trees, node, no_trees, more_trees, label_of, trees_of, listed}
+use Rattle.dm_tree.specs.Typing.{Fits, inside, IsWellTyped, AreWellTyped}
+use Rattle.dm_tree.specs.Units.{Declaration}
+use Rattle.dm_meaning.specs.Called as called
+use Rattle.dm_meaning.specs.Called.{Called}
+use Rattle.dm_meaning.specs.Programs.{Static}
+use Rattle.dm_meaning.specs.Replaced as replaced
+use Rattle.dm_meaning.specs.Replaced.{Zipped, relabelled, renamed_declarator}
+use Rattle.dm_meaning.specs.Statements.{Local, with_expressions, expressions_of}
+use Rattle.dm_meaning.specs.Units.{is_static, locals_by, locals_in, locals_in_all}
+use Rattle.dm_meaning.proofs.StatementLemmas.{zipped_take, zipped_drop, zipped_append}
+use Rattle.dm_sound.proofs.LocalLemmas.{same_count}
+use Rattle.dm_refine.specs.Calls.{IsEvaluated, AreEvaluated}
+use Rattle.dm_refine.proofs.CallStaticLemmas.{LocalAgrees}
+use Rattle.dm_refine.proofs.CallTreeLemmas.{bare, plain}
+use Rattle.dm_refine.proofs.ConstantLocalLemmas.{no_locals, static_sort_fixed, all_typed}
+use Rattle.dm_refine.proofs.ConstantTreeLemmas.{inside_declared}
+use Rattle.dm_refine.proofs.InertLemmas.{IsInert}
+use Rattle.dm_refine.proofs.StaticLemmas.{declarator_inert}
+
+pub all_evaluated : (f : ℕ) (trees : Trees) → AreEvaluated f trees → All (IsEvaluated f) (listed trees)
+all_evaluated f no_trees h = All-nil (IsEvaluated f)
+all_evaluated f (more_trees first rest) h = All-cons (IsEvaluated f) first (listed rest) h.0 (all_evaluated f rest h.1)
+
+-- a label with other numbers is a statement as before
+pub same_statement : (rename : ℕ → ℕ) (label : Label) → is_statement (relabelled rename label) ≡ is_statement label
+same_statement rename (enumerator d) = refl
+same_statement rename (object d) = refl
+same_statement rename (function d) = refl
+same_statement rename (declare lengths declarators) = refl
+same_statement rename label = refl
+
+module _ (change : Called) (statics old_statics : List Static) (expression : is_statement (label_of change.body) ≡ false) where
+  abbrev f : ℕ
+  f = change.added.function
+
+  listed_agree : (trees others : Trees) → called.AllAgree change trees others → Zipped (called.Agrees change) (listed trees) (listed others)
+  listed_agree no_trees no_trees h = tt
+  listed_agree no_trees (more_trees other others) h = absurd h
+  listed_agree (more_trees first rest) no_trees h = absurd h
+  listed_agree (more_trees first rest) (more_trees other others) h = (h.0, listed_agree rest others h.1)
+
+  pub all_plain : (trees others : List Tree) → Zipped (called.Agrees change) trees others → All IsInert trees → All (IsEvaluated f) trees
+      → Zipped (replaced.Agrees (bare change statics old_statics)) trees others
+  all_plain [] [] h inert evaluated = tt
+  all_plain [] (other ∷ others) h inert evaluated = absurd h
+  all_plain (tree ∷ trees) [] h inert evaluated = absurd h
+  all_plain (tree ∷ trees) (other ∷ others) h inert evaluated = (
+    plain change statics old_statics tree other h.0 (All-head IsInert tree trees inert) (All-head (IsEvaluated f) tree trees evaluated),
+    all_plain trees others h.1 (All-tail IsInert tree trees inert) (All-tail (IsEvaluated f) tree trees evaluated),
+  )
+
+  abbrev Same : Local → Local → Type 0
+  Same local other = LocalAgrees (bare change statics old_statics) local other
+
+  pub declarators_agree : (scene place_scene : Scene) → place_scene.declared ≡ change.declared → (declarators : List Declarator) (trees others : List Tree) → All (IsWellTyped scene) trees
+      → All (IsEvaluated f) trees → DeclaratorsFit place_scene (map (renamed_declarator change.rename) declarators) trees → Zipped (called.Agrees change) trees others
+      → Zipped Same (with_expressions (map (renamed_declarator change.rename) declarators) trees) (with_expressions declarators others)
+  declarators_agree scene place_scene e [] trees others t evaluated fits h = tt
+  declarators_agree scene place_scene e (one ∷ more) trees others t evaluated fits h =
+      let n = expressions_of one.initialiser in
+      let renamed = renamed_declarator change.rename one in
+      let first = subst (λ k. DeclaratorFits place_scene (renamed_declarator change.rename one) (take k trees)) (same_count one.initialiser) fits.0 in
+      let rest = subst (λ k. DeclaratorsFit place_scene (map (renamed_declarator change.rename) more) (drop k trees)) (same_count one.initialiser) fits.1 in (
+        (
+          refl,
+          λ static. all_plain (take n trees) (take n others) (zipped_take (called.Agrees change) n trees others h)
+              (declarator_inert scene place_scene renamed
+              (λ entry found defines object. static_sort_fixed change.declared place_scene e (record { declarator = renamed; expressions = take n trees }) static entry found)
+              (take n trees) (All-take (IsWellTyped scene) n trees t) first)
+              (All-take (IsEvaluated f) n trees evaluated),
+        ),
+        declarators_agree scene place_scene e more (drop n trees) (drop n others) (All-drop (IsWellTyped scene) n trees t) (All-drop (IsEvaluated f) n trees evaluated) rest
+            (zipped_drop (called.Agrees change) n trees others h),
+      )
+
+  if_agree : (b : Bool) (locals others : List Local) → Zipped Same locals others → Zipped Same (if b then locals else []) (if b then others else [])
+  if_agree true locals others h = h
+  if_agree false locals others h = tt
+
+  label_agrees : (scene : Scene) → scene.declared ≡ change.declared → (label : Label) (kind : CType) (trees others : Trees) → Fits scene (relabelled change.rename label) kind (listed trees)
+      → AreWellTyped (inside scene (relabelled change.rename label) (listed trees)) trees → AreEvaluated f trees → called.AllAgree change trees others
+      → (below other_below : List Local) → Zipped Same below other_below
+      → Zipped Same (locals_by (relabelled change.rename label) (listed trees) below) (locals_by label (listed others) other_below)
+  label_agrees scene e (declare lengths declarators) kind trees others fits typed evaluated h below other_below k =
+      let inner = inside scene (declare lengths (map (renamed_declarator change.rename) declarators)) (listed trees) in
+      declarators_agree inner scene e declarators (drop lengths (listed trees)) (drop lengths (listed others))
+      (All-drop (IsWellTyped inner) lengths (listed trees) (all_typed inner trees typed)) (All-drop (IsEvaluated f) lengths (listed trees) (all_evaluated f trees evaluated)) fits.0.2
+      (zipped_drop (called.Agrees change) lengths (listed trees) (listed others) (listed_agree trees others h))
+  label_agrees scene e (enumerator d) kind trees others fits typed evaluated h below other_below k = tt
+  label_agrees scene e label kind trees others fits typed evaluated h below other_below k = if_agree (is_statement label) below other_below k
+
+  mutual
+    pub locals_agree : (scene : Scene) → scene.declared ≡ change.declared → (tree other : Tree) → IsWellTyped scene tree → IsEvaluated f tree → called.Agrees change tree other
+        → Zipped Same (locals_in tree) (locals_in other)
+    locals_agree scene e (node label kind spans parts) (node other other_kind other_spans others) t evaluated (inl h) =
+        subst (λ (l : Label). Zipped Same (locals_by l (listed parts) (locals_in_all parts)) (locals_by other (listed others) (locals_in_all others))) (sym h.0)
+        (label_agrees scene e other kind parts others (subst (λ (l : Label). Fits scene l kind (listed parts)) h.0 t.0)
+        (subst (λ (l : Label). AreWellTyped (inside scene l (listed parts)) parts) h.0 t.1) evaluated.1 h.3 (locals_in_all parts) (locals_in_all others)
+        (all_locals_agree (inside scene label (listed parts)) (inside_declared scene label (listed parts) ∙ e) parts others t.1 evaluated.1 h.3))
+    locals_agree scene e (node label kind spans parts) (node other other_kind other_spans others) t evaluated (inr h) =
+        subst (λ (l : Label). Zipped Same (locals_by l (listed parts) (locals_in_all parts)) (locals_by other (listed others) (locals_in_all others))) (sym h.is)
+        (subst (λ ls. Zipped Same [] ls)
+        (sym (no_locals other (listed others) (locals_in_all others)
+        (sym (same_statement change.rename other) ∙ (ap is_statement (sym (body_label change.body (node other other_kind other_spans others) h.same)) ∙ expression)))) tt)
+      where
+        body_label : (body was : Tree) → called.IsSame change body was → label_of body ≡ relabelled change.rename (label_of was)
+        body_label (node l k s ps) was same = same.0
+
+    all_locals_agree : (scene : Scene) → scene.declared ≡ change.declared → (trees others : Trees) → AreWellTyped scene trees → AreEvaluated f trees → called.AllAgree change trees others
+        → Zipped Same (locals_in_all trees) (locals_in_all others)
+    all_locals_agree scene e no_trees no_trees t evaluated h = tt
+    all_locals_agree scene e no_trees (more_trees other others) t evaluated h = absurd h
+    all_locals_agree scene e (more_trees first rest) no_trees t evaluated h = absurd h
+    all_locals_agree scene e (more_trees first rest) (more_trees other others) t evaluated h =
+        zipped_append Same (locals_in first) (locals_in other) (locals_in_all rest) (locals_in_all others) (locals_agree scene e first other t.0 evaluated.0 h.0)
+        (all_locals_agree scene e rest others t.1 evaluated.1 h.1)

@@ -1,0 +1,66 @@
+-- Which added functions the law on calls speaks of today, and where their calls stand.
+--     HasResult unit f      the function has a result
+--     HasNoLengths tree      no type name in a tree has an array length or an enumerator's value
+--     IsCalledEvaluated f unit      no operand of sizeof in a unit names the function
+use Rattle.std.specs.Prelude.{◌≡◌, ℕ, Bool, false, ◌||◌, ◌==◌, List, Some, slice_get}
+use Rattle.std.specs.List.{AllByRecursion}
+use Rattle.std.specs.Option.{IsSomeAnd}
+use Rattle.dm_type.specs.CTypes.{CType}
+use Rattle.dm_tree.specs.Scenes.{is_void, is_function as is_function_type}
+use Rattle.dm_tree.specs.Trees.{Label, function, convert, sizeof_tree, sizeof_kind, Tree, Trees, node, no_trees, more_trees}
+use Rattle.dm_tree.specs.Units.{Declaration, External, TypedUnit}
+use Rattle.dm_effect.specs.Entities.{trees_in_form}
+use Rattle.dm_align.specs.Units.{result_of}
+
+-- a function returns an object type, and here one other than void (6.7.6.3p1, 6.9.1p3)
+abbrev pub HasResult : TypedUnit → ℕ → Type 0
+HasResult one f =
+    IsSomeAnd (slice_get one.declared f) (λ (entry : Declaration). (is_void (result_of entry.kind) ≡ false) × (is_function_type (result_of entry.kind) ≡ false))
+
+-- ---- type names
+
+-- the operand of a conversion is its only part, and sizeof of a type has none
+abbrev pub HasNone : Label → Trees → Type 0
+HasNone convert (more_trees operand no_trees) = Unit {0}
+HasNone convert parts = ⊥
+HasNone (sizeof_kind type) no_trees = Unit {0}
+HasNone (sizeof_kind type) (more_trees first rest) = ⊥
+HasNone label parts = Unit {0}
+
+abbrev mutual
+  pub HasNoLengths : Tree → Type 0
+  HasNoLengths (node label kind spans parts) = HasNone label parts × HaveNoLengths parts
+
+  pub HaveNoLengths : Trees → Type 0
+  HaveNoLengths no_trees = Unit {0}
+  HaveNoLengths (more_trees first rest) = HasNoLengths first × HaveNoLengths rest
+
+-- ---- operands of sizeof
+
+abbrev pub is_name_of : ℕ → Label → Bool
+is_name_of f (function d) = d == f
+is_name_of f label = false
+
+abbrev mutual
+  -- the tree names the function
+  pub names : ℕ → Tree → Bool
+  names f (node label kind spans parts) = is_name_of f label || any_names f parts
+
+  pub any_names : ℕ → Trees → Bool
+  any_names f no_trees = false
+  any_names f (more_trees first rest) = names f first || any_names f rest
+
+abbrev pub NotInSizeof : Label → Bool → Type 0
+NotInSizeof sizeof_tree named = named ≡ false
+NotInSizeof label named = Unit {0}
+
+abbrev mutual
+  pub IsEvaluated : ℕ → Tree → Type 0
+  IsEvaluated f (node label kind spans parts) = NotInSizeof label (any_names f parts) × AreEvaluated f parts
+
+  pub AreEvaluated : ℕ → Trees → Type 0
+  AreEvaluated f no_trees = Unit {0}
+  AreEvaluated f (more_trees first rest) = IsEvaluated f first × AreEvaluated f rest
+
+abbrev pub IsCalledEvaluated : ℕ → TypedUnit → Type 0
+IsCalledEvaluated f one = AllByRecursion (λ (external : External). AllByRecursion (IsEvaluated f) (trees_in_form external.form)) one.externals
