@@ -1,1 +1,3 @@
+mod LeaveLemmas
 mod SiteLemmas
+mod UnitLemmas

@@ -1,3 +1,5 @@
+pub mod Again
 pub mod Definitions
+pub mod Leaves
 pub mod Sites
 pub mod Units

@@ -1,6 +1,9 @@
-//! The macro definitions in files that the readings of a project's units have (ISO/IEC 9899:2011, 6.10.3), and their keys.
+//! The reading of a project's units (ISO/IEC 9899:2011, 5.1.1.2), the macro definitions in files that they have (6.10.3), and the
+//! keys of these.
 #![tactic(auto)]
 
 mod distinct;
+mod units;
 
 pub use distinct::{Key, definitions, key_of};
+pub use units::read_units;
