@@ -1,4 +1,4 @@
-ghost use Rattle.std.specs.Prelude.{◌≡◌, IfOk, IsSome, Some};
+ghost use Rattle.std.specs.Prelude.{◌≡◌, ◌↔◌, IfOk, IsSome, IsTrue, Some};
 ghost use Rattle.std.specs.List.{prefix_len};
 ghost use Rattle.dm_edit.specs.Cuts.{is_blank, body_end, LiesIn};
 ghost use Rattle.dm_edit.specs.Edits.{IsEdited};
@@ -24,6 +24,34 @@ pub fn edit(alloc: Global, bytes: &[u8], change: &Change) -> Result<List<u8>, Me
     edited.extend_from_slice(change.tail.bytes())?;
     edited.extend_from_slice(rest)?;
     Ok(List::from_vec(edited))
+}
+
+/// Whether a definition lies in these bytes, and has a body.
+pub fn lies_in(bytes: &[u8], definition: &Definition) -> bool
+    ensures { IsTrue result ↔ LiesIn bytes.now definition.now }
+{
+    let Some(last_end) = last_end(definition) else {
+        return false;
+    };
+    let hash = definition.hash as usize;
+    let head_end = definition.head_end as usize;
+    let end = last_end as usize;
+    if hash > head_end || head_end > end || end > bytes.len() {
+        return false;
+    }
+    let (through_body, _) = bytes.split_at(end);
+    let (_, behind_head) = through_body.split_at(head_end);
+    blank_count(behind_head) < behind_head.len()
+}
+
+/// The offset behind the body's last token, if there is one.
+fn last_end(definition: &Definition) -> Option<u32>
+    ensures { result ≡ body_end definition.now }
+{
+    match definition.body.items().last() {
+        Some(last) => Some(last.end),
+        None => None,
+    }
 }
 
 /// The bytes that stay: those before the `#`, those of the body, and those behind it.

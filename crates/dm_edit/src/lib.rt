@@ -8,6 +8,6 @@ mod laws;
 mod plan;
 
 pub use change::{As, Change};
-pub use editing::edit;
+pub use editing::{edit, lies_in};
 pub use laws::{a_definition_lies, edits_commute, lines_stay, one_edit, places_move};
 pub use plan::{Changed, Entry, Fate, Plan};
