@@ -1,0 +1,160 @@
+-- What becomes of the definitions of a project, one after the other, each in the project as edited so far.
+--     Edits told units before change entry after      the edit of a definition stands, or the definition stays
+--     Judges told units before subject entry after      what is judged of one definition, and the project then
+--     JudgesAll told units before subjects entries after      the same for all, from the last to the first
+use Rattle.std.specs.Prelude.{◌≡◌, ◌⊎◌, ℕ, ◌+◌, Bool, ◌&&◌, ◌==◌, List, [], ◌∷◌, find, Option, Some, IfSome, unwrap_or, Result, Ok, Err}
+use Rattle.std.specs.List.{flat_map}
+use Rattle.dm_token.specs.Places.{line_at}
+use Rattle.dm_token.specs.declared.stop.Stop.{Stop}
+use Rattle.dm_token.specs.declared.stop.Stop.TheVariants.{Memory, Refused, Limit, ReadFault}
+use Rattle.dm_token.specs.declared.expansion.Definition.{Definition}
+use Rattle.dm_token.specs.declared.unit.Unit.{Unit as Source}
+use Rattle.dm_definitions.specs.Counts.{is_in_file}
+use Rattle.dm_io.specs.Files.{Files}
+use Rattle.dm_search.specs.Loaded.{Loaded, held_at, with_bytes}
+use Rattle.dm_search.specs.Loading.{StopsReplacing}
+use Rattle.dm_search.specs.Readable.{IsReadable}
+use Rattle.dm_meaning.specs.Replaced.{Zipped}
+use Rattle.dm_reading.specs.declared.reading.Reading.{Reading}
+use Rattle.dm_edit.specs.declared.change.Change.{Change}
+use Rattle.dm_edit.specs.declared.plan.Entry.{Entry}
+use Rattle.dm_edit.specs.declared.plan.Fate.{Fate}
+use Rattle.dm_edit.specs.declared.plan.Fate.TheVariants.{Rewritten, Kept}
+use Rattle.dm_edit.specs.Cuts.{LiesIn}
+use Rattle.dm_edit.specs.Edits.{IsEdited}
+use Rattle.dm_project.specs.declared.distinct.Key.{Key}
+use Rattle.dm_project.specs.Definitions.{key_of}
+use Rattle.dm_project.specs.Again.{IsReadAgain, put_in, reader_count}
+use Rattle.dm_project.specs.Leaves.{StaysKnown}
+use Rattle.dm_judge.specs.declared.proposal.Proposal.{Proposal}
+use Rattle.dm_judge.specs.declared.proposal.Proposal.TheVariants as proposal
+use Rattle.dm_judge.specs.Proposals.{definitions_in, proposed}
+use Rattle.dm_alignment.specs.Readings.{AreAlignedReadings}
+use Rattle.dm_planning.specs.declared.subject.Subject.{Subject}
+
+-- a project as edited so far: what the loader knows, the readings of the units, and how many readings there were
+pub record Project : Type 0 where
+  pub loaded : Loaded
+  pub readings : List Reading
+  pub count : ℕ
+
+-- what is held of a file
+abbrev pub bytes_at : Loaded → ℕ → List ℕ
+bytes_at loaded file = unwrap_or (held_at loaded file) []
+
+abbrev pub file_of : Change → ℕ
+file_of change = change.definition.place.file
+
+-- ---- an edit
+
+abbrev pub entry_with : Definition → Fate → Entry
+entry_with definition fate = record { definition = definition; outcome = fate }
+
+-- The definition stays by rule 15, at its name.
+abbrev pub reread_rule : ℕ
+reread_rule = 15
+
+abbrev pub IsKept : Change → Entry → Project → Project → Type 0
+IsKept change entry stands after =
+    (entry ≡ entry_with change.definition (Kept reread_rule change.definition.place)) × (after ≡ stands)
+
+abbrev pub IsRewritten : Change → Entry → Project → Project → Type 0
+IsRewritten change entry stands after = (entry ≡ entry_with change.definition (Rewritten change.kind)) × (after ≡ stands)
+
+-- neither want of memory nor a fault of the folder, of which no definition is the cause
+abbrev pub IsOfSource : Stop → Type 0
+IsOfSource Memory = ⊥
+IsOfSource (Refused refusal) = Unit {0}
+IsOfSource (Limit limit) = Unit {0}
+IsOfSource (ReadFault file) = ⊥
+
+-- This comes of reading again each unit that reads a file: its new reading, or the first stop. What the loader holds stays.
+abbrev pub Rereads : Option Files → ℕ → List Source → List Reading → Loaded → Result (List (Option Reading)) Stop → Loaded → Type 0
+Rereads told file units kept old result new =
+    StaysKnown old new × ((files : Files) → told ≡ Some files → IsReadAgain files file units kept old result new)
+
+-- the units that are read again are the old ones but for the change
+abbrev pub IsAligned : Change → Reading → Option Reading → Type 0
+IsAligned change old new = IfSome new (λ reading. AreAlignedReadings old reading change)
+
+abbrev pub AreAllAligned : Change → List Reading → List (Option Reading) → Type 0
+AreAllAligned change kept news = Zipped (IsAligned change) kept news
+
+-- after so many readings more
+abbrev pub read_again : Change → Project → ℕ
+read_again change before = before.count + reader_count (file_of change) before.readings
+
+-- the new readings stand for the old ones
+abbrev pub rewritten : Change → Project → Loaded → List (Option Reading) → Project
+rewritten change before known news =
+    record { loaded = known; readings = put_in before.readings news; count = read_again change before }
+
+-- the old readings stay, and the old bytes are put back
+abbrev pub restored : Change → Project → Loaded → Project
+restored change before known = record {
+  loaded = with_bytes known (file_of change) (bytes_at before.loaded (file_of change));
+  readings = before.readings;
+  count = read_again change before;
+}
+
+-- The edit stands where all units are read within the limits, and are aligned.
+abbrev pub EndsBy : Change → Project → Result (List (Option Reading)) Stop → Loaded → Entry → Project → Type 0
+EndsBy change before (Err stop) known entry after = IsOfSource stop × IsKept change entry (restored change before known) after
+EndsBy change before (Ok news) known entry after =
+    (AreAllAligned change before.readings news × IsRewritten change entry (rewritten change before known news) after)
+    ⊎ ((¬ AreAllAligned change before.readings news) × IsKept change entry (restored change before known) after)
+
+-- New bytes may be refused before any unit is read. Else each unit that reads the file is read again.
+abbrev pub HoldsEdited : Option Files → List Source → Project → Change → List ℕ → Entry → Project → Type 0
+HoldsEdited told units before change edited entry after =
+    ((stop : Stop) × IsOfSource stop × StopsReplacing (file_of change) edited stop × IsKept change entry before after)
+    ⊎ (IsReadable (file_of change) edited × (result : Result (List (Option Reading)) Stop) × (known : Loaded)
+    × Rereads told (file_of change) units before.readings (with_bytes before.loaded (file_of change) edited) result known
+    × EndsBy change before result known entry after)
+
+-- A definition that doesn't lie in the bytes of its file can't be edited.
+abbrev pub Edits : Option Files → List Source → Project → Change → Entry → Project → Type 0
+Edits told units before change entry after =
+    ((¬ LiesIn (bytes_at before.loaded (file_of change)) change.definition) × IsKept change entry before after)
+    ⊎ ((edited : List ℕ) × IsEdited (bytes_at before.loaded (file_of change)) change edited × HoldsEdited told units before change edited entry after)
+
+-- ---- one definition
+
+-- By its key a definition is found again: its file, and the line of its `#`, which edits keep.
+abbrev pub has_key : Loaded → Key → Definition → Bool
+has_key loaded key one = is_in_file one.origin && ((one.place.file == key.file) && (line_at (bytes_at loaded key.file) one.hash == key.line))
+
+-- as the first unit that reads it has it
+abbrev pub definition_at : Loaded → List Reading → Key → Option Definition
+definition_at loaded readings key = find (has_key loaded key) (flat_map definitions_in readings)
+
+-- a definition of the project as it was read first
+abbrev pub subject_of : Loaded → Definition → Subject
+subject_of loaded definition = record { key = key_of loaded definition; definition = definition }
+
+-- One that no unit reads any more is judged as it was.
+abbrev pub definition_over : Loaded → List Reading → Subject → Definition
+definition_over loaded readings subject = unwrap_or (definition_at loaded readings subject.key) subject.definition
+
+abbrev pub definition_in : Project → Subject → Definition
+definition_in project subject = definition_over project.loaded project.readings subject
+
+-- One that breaks a rule stays. Another is edited at once.
+abbrev pub JudgesBy : Option Files → List Source → Project → Definition → Proposal → Entry → Project → Type 0
+JudgesBy told units before definition (proposal.Broken rule place) entry after =
+    (entry ≡ entry_with definition (Kept rule place)) × (after ≡ before)
+JudgesBy told units before definition (proposal.Change change) entry after = Edits told units before change entry after
+
+abbrev pub Judges : Option Files → List Source → Project → Subject → Entry → Project → Type 0
+Judges told units before subject entry after =
+    (answer : Proposal) × (proposed before.readings (definition_in before subject) ≡ Some answer)
+    × JudgesBy told units before (definition_in before subject) answer entry after
+
+-- ---- all of them
+
+-- The last is judged first.
+abbrev pub JudgesAll : Option Files → List Source → Project → List Subject → List Entry → Project → Type 0
+JudgesAll told units before [] entries after = (entries ≡ []) × (after ≡ before)
+JudgesAll told units before (subject ∷ subjects) entries after =
+    (others : List Entry) × (middle : Project) × JudgesAll told units before subjects others middle
+    × (entry : Entry) × Judges told units middle subject entry after × (entries ≡ entry ∷ others)
