@@ -233,10 +233,10 @@ module _ (program : Program) (quiet test : ℕ → Bool) (s t : State) (step : S
         by_starts caller behind was e d u (start ∷ more) f kept =
             let chain = subst (CallersAreQuiet program quiet s.statics s.frame.function) was q.callers in
             let worlds =
-                ap (λ (ws : List World). worlds_after ws s.world s.callers t.callers) f
-                ∙ ap (λ (cs : List Caller). worlds_after (start ∷ more) s.world cs t.callers) was
-                ∙ ap (λ (cs : List Caller). worlds_after (start ∷ more) s.world (caller ∷ behind) cs) e
-                ∙ fewer_worlds start more s.world behind caller in
+            ap (λ (ws : List World). worlds_after ws s.world s.callers t.callers) f
+            ∙ ap (λ (cs : List Caller). worlds_after (start ∷ more) s.world cs t.callers) was
+            ∙ ap (λ (cs : List Caller). worlds_after (start ∷ more) s.world (caller ∷ behind) cs) e
+            ∙ fewer_worlds start more s.world behind caller in
             placed caller.frame.function more behind d worlds e u
             (rest_kept caller.frame.function more behind (λ loud. (chain.0 loud).above) chain.1 (λ one l. subst (IsAmong one) (sym f) (inr l)) (λ one l. subst (IsAmong one) (sym worlds) l)
             (λ n b. subst (λ (cs : List Caller). IsClosedBelow test cs n) (sym was) (inr b)) kept.1)

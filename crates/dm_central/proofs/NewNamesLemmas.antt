@@ -1,15 +1,14 @@
 -- Where all trees of the old program name what a declaration declares only where it is read or written, so do those of the new program.
 use Rattle.std.specs.Prelude.{◌≡◌, refl, ◌⊎◌, ℕ, ◌==◌, Bool, true, false, List, [], ◌∷◌, Option, Some, None, if◌then◌else◌}
 use Rattle.std.proofs.Common.{true≢false, ap, sym, ◌∙◌, subst, inl, inr}
-use Rattle.dm_token.specs.declared.place.Place.{Place}
 use Rattle.dm_type.specs.CTypes.{CType}
-use Rattle.dm_tree.specs.Trees.{Label, object, function, read, store, update, count, call, sizeof_tree, is_statement, Spans, Tree, Trees, node, no_trees, more_trees, label_of, trees_of, listed, parts_of}
+use Rattle.dm_tree.specs.Trees.{Label, object, function, read, store, update, count, call, sizeof_tree, is_statement, Spans, Tree, Trees, node, no_trees, more_trees, trees_of, listed, parts_of}
 use Rattle.dm_meaning.specs.Among.{IsAmong}
-use Rattle.dm_meaning.specs.Called.{Called, new_of, Gives}
+use Rattle.dm_meaning.specs.Called.{Called, new_of}
 use Rattle.dm_meaning.specs.Operations.{designates, Objects, object_named, whole}
 use Rattle.dm_meaning.specs.Programs.{Definition, definition_of}
 use Rattle.dm_meaning.specs.Replaced.{relabelled}
-use Rattle.dm_meaning.specs.Running.{evaluates, Run, done, to_do, no_runs, begun, all_begun, Open, every}
+use Rattle.dm_meaning.specs.Running.{evaluates, done, to_do, no_runs, begun, all_begun, Open, every}
 use Rattle.dm_meaning.specs.Values.{numbered}
 use Rattle.dm_meaning.proofs.GrowLemmas.{equal_is, equal_of}
 use Rattle.dm_meaning.proofs.MatchLemmas.{IsNamedRun}
@@ -21,7 +20,7 @@ use Rattle.dm_rewrite.specs.ClosedStates.{IsOther, IsName, NamesOnly, AllNameOnl
 use Rattle.dm_rewrite.specs.Effects.{Effect, Stage}
 use Rattle.dm_rewrite.proofs.ClosedStateLemmas.{begun_closed}
 use Rattle.dm_central.specs.Agreement.{beside_first, before_rest, BegunOutside, AllBegun, BegunPasses}
-use Rattle.dm_central.specs.Bodies.{Known, closed_numbers, frame_stage, AreNamedOnce, Agrees, AllAgree, DefinitionAgrees, CallsInPlace}
+use Rattle.dm_central.specs.Bodies.{Known, frame_stage, AreNamedOnce, Agrees, AllAgree, DefinitionAgrees, CallsInPlace}
 use Rattle.dm_central.specs.ClosedPrograms.{AreListed}
 use Rattle.dm_central.proofs.BodyLemmas.{gives_label, named_runs}
 use Rattle.dm_central.proofs.SteadyLemmas.{closed_among}

@@ -4,27 +4,26 @@ use Rattle.std.specs.Prelude.{◌≡◌, refl, ◌⊎◌, ℕ, Bool, true, false
 use Rattle.std.proofs.Common.{true≢false, ap, sym, ◌∙◌, subst, inl, inr}
 use Rattle.dm_token.specs.declared.place.Place.{Place}
 use Rattle.dm_type.specs.CTypes.{CType}
-use Rattle.dm_tree.specs.Trees.{return, Spans, Tree, node, no_trees, more_trees, parts_of}
 use Rattle.dm_meaning.specs.declared.cause.Cause.TheVariants.{NoValue}
 use Rattle.dm_meaning.specs.Among.{IsAmong}
 use Rattle.dm_meaning.specs.Expressions.{Move, goes, calls, fails, exits, value_of, moves}
 use Rattle.dm_meaning.specs.Lifetimes.{numbers_of}
 use Rattle.dm_meaning.specs.Machines.{Standing, undefined}
-use Rattle.dm_meaning.specs.Memory.{Memory, written, killed}
+use Rattle.dm_meaning.specs.Memory.{written, killed}
 use Rattle.dm_meaning.specs.Operations.{of_value, World, Objects}
 use Rattle.dm_meaning.specs.Programs.{Program, Definition, definition_of}
 use Rattle.dm_meaning.specs.Running.{Run, done, to_do, begun, Hole, filled_in, locks_in}
-use Rattle.dm_meaning.specs.States.{returns, Task, begins, evaluates, hands_back, Frame, Caller, State}
+use Rattle.dm_meaning.specs.States.{returns, Task, evaluates, hands_back, Frame, Caller, State}
 use Rattle.dm_meaning.specs.Statements.{unfolded, items_tasks}
 use Rattle.dm_meaning.specs.Steps.{opened_frame, opened_memory, opened, lacks_value, resumed, gone_back, handed_back, moved, scene_of, expression_steps, task_steps, Step}
 use Rattle.dm_meaning.specs.Units.{start, Begins}
 use Rattle.dm_meaning.specs.Values.{Name, numbered, literal_of, elsewhere, At, Value}
 use Rattle.dm_meaning.proofs.AmongLemmas.{among-map_from}
 use Rattle.dm_meaning.proofs.StateLemmas.{from_steps}
-use Rattle.dm_rewrite.specs.Effects.{Effect, on_object, on_others, Stage, call_effects, effects_of, LeavesNoMore, Writes, IsFree}
+use Rattle.dm_rewrite.specs.Effects.{Effect, on_object, on_others, Stage, effects_of, LeavesNoMore, Writes, IsFree}
 use Rattle.dm_rewrite.proofs.EffectLemmas.{step_writes}
 use Rattle.dm_rewrite.proofs.ShrinkEffectLemmas.{run_calm}
-use Rattle.dm_central.specs.QuietFrames.{quiet_stage, IsQuietRun, IsQuietTree, ReturnsQuietly, AreQuiet, QuietTasks, FrameIsQuiet, CallerIsQuiet, CallersAreQuiet, AreQuietFrames}
+use Rattle.dm_central.specs.QuietFrames.{quiet_stage, IsQuietRun, AreQuiet, QuietTasks, FrameIsQuiet, CallerIsQuiet, CallersAreQuiet, AreQuietFrames}
 use Rattle.dm_central.specs.Waiting.{any_name, any_run}
 use Rattle.dm_central.proofs.ShapeLemmas.{Shape, tasks_any, objects_shape}
 use Rattle.dm_central.proofs.TopLemmas.{found_among, found_number}
@@ -51,9 +50,12 @@ module _ (program : Program) (quiet : ℕ → Bool) (objects : Objects) (world :
   -- it calls such functions alone
   pub calls_quiet : (f : ℕ) (arguments : List Value) (kind : CType) (hole : Hole) → IsAmong (calls f arguments kind hole) (moves stage.scene world (locks_in run) run)
       → (quiet f ≡ true) × ((value : Value) → IsQuietRun program quiet objects (filled_in hole (done kind (of_value value) [])))
-  calls_quiet f arguments kind hole k = (by_quiet (quiet f) refl, λ value.
-      none_of_free (effects_of stage (filled_in hole (done kind (of_value value) [])))
-      (λ n. calm.1 value [] (λ m free effect none. absurd none) n (still_free n)))
+  calls_quiet f arguments kind hole k = (
+    by_quiet (quiet f) refl,
+    λ value.
+        none_of_free (effects_of stage (filled_in hole (done kind (of_value value) [])))
+        (λ n. calm.1 value [] (λ m free effect none. absurd none) n (still_free n)),
+  )
     where
       calm : LeavesNoMore stage (effects_of stage run) (calls f arguments kind hole)
       calm = run_calm stage world (locks_in run) (λ m l. absurd l) run (λ m l. absurd l) (calls f arguments kind hole) k
@@ -240,13 +242,15 @@ module _ (program : Program) (quiet : ℕ → Bool) (all : AreQuiet program quie
           (subst (λ g. CallersAreQuiet program quiet s.statics g t.callers) (sym c.function) (subst (CallersAreQuiet program quiet s.statics s.frame.function) (sym c.callers) h.callers));
     }
     by_step (inr (inl c)) =
-        placed t s.statics (opened_frame program step.0 c.definition) (c.caller ∷ s.callers) c.statics c.frame c.callers (opened_quiet step.0 s.statics c.definition c.found)
-        ((λ q. record {
-          above = c.above;
-          tasks = c.tasks;
-          use_of = c.use_of;
-          resumes = λ value. subst (λ (os : Objects). IsQuietRun program quiet (s.statics ++ os) (filled_in c.caller.hole (done c.caller.kind (of_value value) []))) (sym c.objects) (c.resumes value);
-        }), subst (λ g. CallersAreQuiet program quiet s.statics g s.callers) (sym c.function) h.callers)
+        placed t s.statics (opened_frame program step.0 c.definition) (c.caller ∷ s.callers) c.statics c.frame c.callers (opened_quiet step.0 s.statics c.definition c.found) (
+          (λ q. record {
+            above = c.above;
+            tasks = c.tasks;
+            use_of = c.use_of;
+            resumes = λ value. subst (λ (os : Objects). IsQuietRun program quiet (s.statics ++ os) (filled_in c.caller.hole (done c.caller.kind (of_value value) []))) (sym c.objects) (c.resumes value);
+          }),
+          subst (λ g. CallersAreQuiet program quiet s.statics g s.callers) (sym c.function) h.callers,
+        )
     by_step (inr (inr c)) = returned_quiet c.caller c.value c.behind c.was c.callers c.frame c.statics
 
     pub quiet_later : AreQuietFrames program quiet t

@@ -1,6 +1,6 @@
 -- Where the bodies of a program are whole, no full expression is a statement in any run.
 use Rattle.std.specs.List.{list_all}
-use Rattle.std.specs.Prelude.{◌≡◌, refl, ℕ, zero, suc, ◌+◌, ◌==◌, Bool, true, false, not, List, [], ◌∷◌, ◌++◌, map, length, take, drop, Option, Some, None, if◌then◌else◌}
+use Rattle.std.specs.Prelude.{◌≡◌, refl, ℕ, zero, suc, ◌+◌, Bool, true, false, not, List, [], ◌∷◌, ◌++◌, map, length, take, drop, Option, Some, None, if◌then◌else◌}
 use Rattle.std.proofs.Common.{sym, ◌∙◌, subst, inl, inr}
 use Rattle.dm_token.specs.declared.place.Place.{Place}
 use Rattle.dm_type.specs.CTypes.{CType}
@@ -15,7 +15,7 @@ use Rattle.dm_meaning.specs.Memory.{Memory}
 use Rattle.dm_meaning.specs.Objects.{Layout}
 use Rattle.dm_meaning.specs.Operations.{of_value, Result, Operand, World, Objects, Scene, Did, gives, breaks, ends_with, object_named, Truth, holds, untold, truth_of, operate}
 use Rattle.dm_meaning.specs.Primitives.{Answer, answers, stops, refuses, Prim}
-use Rattle.dm_meaning.specs.Programs.{Program, Definition, layout, declaration_of, definition_in, definition_of}
+use Rattle.dm_meaning.specs.Programs.{Program, Definition, layout, declaration_of, definition_of}
 use Rattle.dm_meaning.specs.Running.{Doing, evaluates as evaluates_label, gives_truth, gives_value, Run, done, to_do, Runs, begun, open_parts, operands_in, Hole, here, within, Holes, filled_in, locks_in, locks_in_all}
 use Rattle.dm_meaning.specs.States.{Loop, Use, drops, chooses, selects, repeats, continues, returns, initialises, Task, begins, declares, initials, evaluates, again, tests, ends, ends_switch, leaves, skips, hands_back, Caller, State}
 use Rattle.dm_meaning.specs.Statements.{Turned, onward, refused, evaluation, expressions_of, is_automatic, type_declared, declarator_tasks, item_tasks, items_tasks, unlabelled, start_tasks, begin_for, loop_with, begin_form, begin_tree, initial_of, begin_declarator, part_tasks, begin_initialiser, has_case, has_default, from_first, or_items, on_one_tree, on_tree_if, selected_by, by_test, begins_one, concluded, tested, continued, unfolded, ended, after_break, after_continue}
