@@ -19,8 +19,8 @@ returns c =
     let behind : seen ≡ drop definition.head_end (take end bytes) = c.split_at-2.ensures.back ∙ ap (drop definition.head_end) c.split_at.ensures.front in
     let count = c.blank_count.ensures in (
       λ some.
-      lies-between bytes definition end ends (omega (arith, c.if-hash-head_end.false)) (omega (arith, c.if-head_end-end.false)) (omega (arith, c.if-end-bytes.false))
-      (visible-behind (drop definition.head_end (take end bytes)) (subst ShowsSome behind (subst (λ (n : ℕ). n < length seen) count (ltb-true c.blank_count.result (length seen) some)))),
+          lies-between bytes definition end ends (omega (arith, c.if-hash-head_end.false)) (omega (arith, c.if-head_end-end.false)) (omega (arith, c.if-end-bytes.false))
+          (visible-behind (drop definition.head_end (take end bytes)) (subst ShowsSome behind (subst (λ (n : ℕ). n < length seen) count (ltb-true c.blank_count.result (length seen) some)))),
       λ lies.
-      lt-ltb c.blank_count.result (length seen) (subst (λ (n : ℕ). n < length seen) (sym count) (subst ShowsSome (sym behind) (not-blank bytes definition end lies ends))),
+          lt-ltb c.blank_count.result (length seen) (subst (λ (n : ℕ). n < length seen) (sym count) (subst ShowsSome (sym behind) (not-blank bytes definition end lies ends))),
     )
