@@ -96,7 +96,7 @@ or_last : (a : Bool) → (a || false) ≡ true → a ≡ true
 or_last true e = refl
 or_last false e = e
 
-not_true : (a : Bool) → not a ≡ true → a ≡ false
+pub not_true : (a : Bool) → not a ≡ true → a ≡ false
 not_true true e = absurd (false≢true e)
 not_true false e = refl
 

@@ -8,9 +8,7 @@ use Rattle.dm_tree.specs.Scenes.{IsStatement}
 use Rattle.dm_tree.specs.Trees.{Tree}
 use Rattle.dm_tree.specs.Typing.{IsEntry, ExternalFits, IsWellTypedUnit, file_scene}
 use Rattle.dm_refine.specs.Examples.{old, new}
-
-one_statement : (tree : Tree) → IsStatement tree → All IsStatement (tree ∷ [])
-one_statement tree h = All-from_recursion IsStatement (tree ∷ []) (h, tt)
+use Rattle.dm_refine.proofs.ExampleLemmas.{one_statement}
 
 pub old_typed : IsWellTypedUnit no_type old
 unfolding IsDistinct

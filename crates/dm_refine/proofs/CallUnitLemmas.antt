@@ -38,7 +38,7 @@ use Rattle.dm_agree.specs.Standing.{runs_at}
 use Rattle.dm_align.specs.Units as aligned
 use Rattle.dm_align.specs.Units.{Insertion, moved, other_externals, FormAdds, rewriting_of, AreAligned}
 use Rattle.dm_refine.specs.Calls.{HasResult, HasNoLengths, IsEvaluated, IsCalledEvaluated}
-use Rattle.dm_refine.proofs.CallBodyLemmas.{nowhere_local, body_same}
+use Rattle.dm_refine.proofs.CallBodyLemmas.{nowhere_local, not_true, body_same}
 use Rattle.dm_refine.proofs.CallGivesLemmas.{gives}
 use Rattle.dm_refine.proofs.CallLocalLemmas.{declarators_agree, locals_agree}
 use Rattle.dm_refine.proofs.CallPutLemmas.{IsFunctionPut, function_put, IsReturned, returned, single_tree, scoped_body}
@@ -129,10 +129,6 @@ no_function whole type h e = by_bool (is_function_type type) refl
     by_bool : (b : Bool) → is_function_type type ≡ b → is_function_type type ≡ false
     by_bool false n = n
     by_bool true n = absurd (true≢false (sym (covers_function whole type h n) ∙ e))
-
-not_true : (b : Bool) → not b ≡ true → b ≡ false
-not_true true e = absurd (false≢true e)
-not_true false e = refl
 
 -- ---- units
 

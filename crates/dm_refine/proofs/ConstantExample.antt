@@ -10,9 +10,7 @@ use Rattle.dm_tree.specs.Trees.{Tree}
 use Rattle.dm_tree.specs.Typing.{IsEntry, ExternalFits, IsWellTyped, IsWellTypedUnit, file_scene}
 use Rattle.dm_tree.specs.Units.{External, ExternalForm, declares, defines_function}
 use Rattle.dm_align.specs.Examples.{ten_old, ten_new}
-
-one_statement : (tree : Tree) → IsStatement tree → All IsStatement (tree ∷ [])
-one_statement tree h = All-from_recursion IsStatement (tree ∷ []) (h, tt)
+use Rattle.dm_refine.proofs.ExampleLemmas.{one_statement}
 
 -- the expressions of the first initialisers
 abbrev initial_trees : ExternalForm → List Tree

@@ -11,9 +11,7 @@ use Rattle.dm_tree.specs.Typing.{IsEntry, ExternalFits, IsWellTyped, IsWellTyped
 use Rattle.dm_tree.specs.Units.{External}
 use Rattle.dm_align.specs.Examples.{run_of_two, two_old, two_new, two_put}
 use Rattle.dm_align.specs.Units.{AreAligned}
-
-one_statement : (tree : Tree) → IsStatement tree → All IsStatement (tree ∷ [])
-one_statement tree h = All-from_recursion IsStatement (tree ∷ []) (h, tt)
+use Rattle.dm_refine.proofs.ExampleLemmas.{one_statement}
 
 -- the value of the first enumerator
 abbrev first_constants : List External → List Tree

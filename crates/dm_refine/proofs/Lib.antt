@@ -4,6 +4,7 @@ mod TypedLemmas
 mod EnumeratorTreeLemmas
 mod EnumeratorUnitLemmas
 mod BackLemmas
+mod ExampleLemmas
 mod EnumeratorExample
 mod InertLemmas
 mod RangeLemmas

@@ -13,6 +13,7 @@ ghost use Rattle.dm_sound.specs.TypedTrees.{IsSoundTable};
 ghost use Rattle.dm_agree.specs.Agreement.{added_constant, added_enumerator, added_function};
 ghost use Rattle.dm_align.specs.Units.{Insertion, AreAligned, added_by};
 ghost use Rattle.dm_refine.specs.Calls.{HasNoLengths, HasResult, IsCalledEvaluated};
+ghost use Rattle.dm_refine.specs.Kinds.{IsNoFunction};
 
 use dm_rewrite::named_units_refine;
 
@@ -45,6 +46,18 @@ pub fn named_constant_units_refine()
 {
     // The law on which its proof rests.
     named_units_refine();
+}
+
+/// So the new program refines the old one wherever the macro has no parameter list, and nothing, an enumerator or a const object is put in. That
+/// the table is sound, and the units well typed and scoped, each reading gives.
+pub fn object_like_macros_refine()
+    ensures { (old_types new_types : Table) (old new : TypedUnit) (runs : List Run) (put : Option Insertion)
+        → IsSoundTable new_types → IsWellTypedUnit old_types old → IsWellTypedUnit new_types new → IsScopedUnit new
+        → AreAligned old_types new_types old new runs put → IsNoFunction (added_by put)
+        → Refines (machine_of (program_of new_types new)) (machine_of (program_of old_types old)) }
+{
+    // The law on which its proof rests.
+    named_constant_units_refine();
 }
 
 /// Where a function without parameters is put in, which is called in place of the runs, the new program refines the old one. The function has a
