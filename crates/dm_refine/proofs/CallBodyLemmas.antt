@@ -2,30 +2,27 @@
 --     nowhere_local      an object that isn't automatic is no parameter of a function
 --     body_same      the expression is that of a run, and each function means the same by the names in it
 --     gives      a value is one of an object type
-use Rattle.std.specs.Prelude.{◌≡◌, refl, ℕ, Bool, true, false, not, ◌&&◌, ◌||◌, ◌==◌, IsTrue, IfSome, IsSome, All, List, [], ◌∷◌, ◌++◌, map, Option, Some, None, option_map, slice_get}
+use Rattle.std.specs.Prelude.{◌≡◌, refl, ℕ, Bool, true, false, not, ◌&&◌, ◌||◌, ◌==◌, IfSome, IsSome, All, List, [], ◌∷◌, ◌++◌, Option, Some, None, slice_get}
 use Rattle.std.specs.List.{list_any}
-use Rattle.std.proofs.Common.{ap, sym, ◌∙◌, subst, inl, inr}
+use Rattle.std.proofs.Common.{ap, sym, ◌∙◌}
 use Rattle.std.proofs.lemmas.Bool.{true≢false, false≢true}
 use Rattle.std.proofs.lemmas.List.Elements.{All-head, All-tail}
 use Rattle.dm_runs.specs.declared.run.Occurrence.{Occurrence}
 use Rattle.dm_runs.specs.declared.run.Run.{Run}
 use Rattle.dm_type.specs.CTypes.{CType, CTypes, void, integer, pointer, array, struct, function as function_type, const, no_types, more_types}
 use Rattle.dm_type.specs.Tables.{Table}
-use Rattle.dm_tree.specs.declared.unit.Sort.{Sort}
-use Rattle.dm_tree.specs.declared.unit.Sort.TheVariants.{Object}
-use Rattle.dm_tree.specs.Scenes.{Scene, Names}
-use Rattle.dm_tree.specs.Trees.{Label, enumerator, object, function, convert, sizeof_kind, block, declare, for_loop, is_statement, Spans, Tree, Trees, node, no_trees, more_trees, label_of, kind_of, trees_of, listed}
+use Rattle.dm_tree.specs.Trees.{Label, object, convert, sizeof_kind, block, declare, for_loop, is_statement, Spans, Tree, Trees, node, no_trees, more_trees}
 use Rattle.dm_tree.specs.Typing.{ParameterFits, ParametersFit, DefinitionFits, FunctionFits, FormFits, ExternalFits, IsWellTypedUnit, file_scene}
 use Rattle.dm_tree.specs.Units.{Declaration, External, ExternalForm, declares, defines_function, TypedUnit}
 use Rattle.dm_meaning.specs.Called.{Called, IsSame, AreSame, means_the_same, is_static_number, is_parameter, is_nowhere_local}
-use Rattle.dm_meaning.specs.Programs.{Definition, declaration_of}
+use Rattle.dm_meaning.specs.Programs.{Definition}
 use Rattle.dm_meaning.specs.Replaced.{relabelled}
 use Rattle.dm_meaning.specs.Statements.{is_automatic_declaration, is_automatic_sort}
 use Rattle.dm_meaning.specs.Units.{definitions_by, definitions_in, program_of}
 use Rattle.dm_meaning.specs.Wholes.{is_expression, are_expressions}
 use Rattle.dm_meaning.proofs.GrowLemmas.{equal_of}
 use Rattle.dm_meaning.proofs.OptionLemmas.{and_left, and_right}
-use Rattle.dm_effect.specs.Scoped.{Scope, is_in_scope, names_in_scope, scopes_of, same_scopes, is_scoped, are_scoped}
+use Rattle.dm_effect.specs.Scoped.{names_in_scope, scopes_of, same_scopes, is_scoped, are_scoped}
 use Rattle.dm_agree.specs.Agreement.{Rewriting, Here, here_below, BodyBy, SameNode, SameBody, SameBodies}
 use Rattle.dm_refine.specs.Calls.{HasNone, HasNoLengths, HaveNoLengths}
 

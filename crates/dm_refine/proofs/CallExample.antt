@@ -1,11 +1,9 @@
 -- The premises of the law, for a unit with a macro that becomes a function without parameters.
-use Rattle.std.specs.Prelude.{nat_eq, refl, length, All, [], ◌∷◌}
+use Rattle.std.specs.Prelude.{refl, length}
 use Rattle.std.specs.List.{IsDistinct}
 use Rattle.std.proofs.Common.{arith, ap}
 use Rattle.std.proofs.lemmas.List.Elements.{All-nil, All-from_recursion}
 use Rattle.dm_type.specs.Tables.{no_type}
-use Rattle.dm_tree.specs.Scenes.{IsStatement}
-use Rattle.dm_tree.specs.Trees.{Tree}
 use Rattle.dm_tree.specs.Typing.{IsEntry, ExternalFits, IsWellTypedUnit, file_scene}
 use Rattle.dm_refine.specs.Examples.{old, new}
 use Rattle.dm_refine.proofs.ExampleLemmas.{one_statement}

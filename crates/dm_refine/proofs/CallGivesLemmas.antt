@@ -2,20 +2,19 @@
 use Rattle.std.specs.Prelude.{◌≡◌, refl, ℕ, Bool, true, false, not, ◌&&◌, IsTrue, IfSome, IsSome, All, List, [], ◌∷◌, Option, Some, None, slice_get}
 use Rattle.std.proofs.Common.{ap, sym, ◌∙◌, subst, inl, inr}
 use Rattle.std.proofs.lemmas.Bool.{true≢false, false≢true}
-use Rattle.dm_type.specs.CTypes.{CType, CTypes, void, integer, pointer, array, struct, function as function_type, const}
+use Rattle.dm_type.specs.CTypes.{CType, void, integer, pointer, array, struct, function as function_type, const}
 use Rattle.dm_type.specs.Tables.{Table}
 use Rattle.dm_tree.specs.declared.unit.Sort.{Sort}
 use Rattle.dm_tree.specs.declared.unit.Sort.TheVariants.{Object, Function, Typedef, Enumerator, Tag}
 use Rattle.dm_tree.specs.Composites.{covers}
 use Rattle.dm_tree.specs.Initialisers.{is_function_sort}
 use Rattle.dm_tree.specs.Operands.{FitsMember}
-use Rattle.dm_tree.specs.Scenes.{Scene, Names, is_function, is_lvalue, IsValue, member_type}
-use Rattle.dm_tree.specs.Trees.{Label, number, enumerator, literal, object, function, read, decay, convert, address, follow, member, unary, binary, both, either, choose, comma, store, update, count, call, sizeof_tree, sizeof_kind, is_statement, Tree, Trees, node, no_trees, more_trees, kind_of, listed}
-use Rattle.dm_tree.specs.Typing.{Fits, FitsSort, has_linkage, inside, IsEntry, IsWellTyped}
+use Rattle.dm_tree.specs.Scenes.{Scene, is_function, is_lvalue, IsValue, member_type}
+use Rattle.dm_tree.specs.Trees.{number, enumerator, literal, object, function, read, decay, convert, address, follow, member, unary, binary, both, either, choose, comma, store, update, count, call, sizeof_tree, sizeof_kind, Tree, node, no_trees, more_trees, kind_of}
+use Rattle.dm_tree.specs.Typing.{FitsSort, has_linkage, inside, IsEntry, IsWellTyped}
 use Rattle.dm_tree.specs.Units.{Declaration}
 use Rattle.dm_meaning.specs.Called.{Gives}
 use Rattle.dm_meaning.proofs.OptionLemmas.{and_left, and_right}
-use Rattle.dm_refine.proofs.ConstantTreeLemmas.{inside_declared}
 use Rattle.dm_refine.proofs.PutLemmas.{all_there}
 
 -- what covers a function type

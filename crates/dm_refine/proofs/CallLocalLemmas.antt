@@ -1,22 +1,20 @@
 -- Declarations in functions, in units of which one calls the added function.
 --     locals_agree      they agree, and initialisers of objects of static storage duration call it nowhere
-use Rattle.std.specs.Prelude.{◌≡◌, refl, ℕ, Bool, true, false, not, ◌&&◌, All, List, [], ◌∷◌, ◌++◌, map, take, drop, Option, Some, None, slice_get, if◌then◌else◌}
+use Rattle.std.specs.Prelude.{◌≡◌, refl, ℕ, Bool, true, false, All, List, [], ◌∷◌, map, take, drop, if◌then◌else◌}
 use Rattle.std.proofs.Common.{ap, sym, ◌∙◌, subst, inl, inr}
-use Rattle.std.proofs.lemmas.Bool.{false≢true, true≢false}
 use Rattle.std.proofs.lemmas.List.Elements.{All-head, All-tail, All-nil, All-cons, All-take, All-drop}
 use Rattle.dm_type.specs.CTypes.{CType}
-use Rattle.dm_tree.specs.Initialisers.{DeclaratorFits, DeclaratorsFit, is_fixed}
+use Rattle.dm_tree.specs.Initialisers.{DeclaratorFits, DeclaratorsFit}
 use Rattle.dm_tree.specs.Scenes.{Scene}
-use Rattle.dm_tree.specs.Trees.{Label, enumerator, object, function, declare, is_statement, Declarator, Tree, Trees, node, no_trees, more_trees, label_of, trees_of, listed}
+use Rattle.dm_tree.specs.Trees.{Label, enumerator, object, function, declare, is_statement, Declarator, Tree, Trees, node, no_trees, more_trees, label_of, listed}
 use Rattle.dm_tree.specs.Typing.{Fits, inside, IsWellTyped, AreWellTyped}
-use Rattle.dm_tree.specs.Units.{Declaration}
 use Rattle.dm_meaning.specs.Called as called
 use Rattle.dm_meaning.specs.Called.{Called}
 use Rattle.dm_meaning.specs.Programs.{Static}
 use Rattle.dm_meaning.specs.Replaced as replaced
 use Rattle.dm_meaning.specs.Replaced.{Zipped, relabelled, renamed_declarator}
 use Rattle.dm_meaning.specs.Statements.{Local, with_expressions, expressions_of}
-use Rattle.dm_meaning.specs.Units.{is_static, locals_by, locals_in, locals_in_all}
+use Rattle.dm_meaning.specs.Units.{locals_by, locals_in, locals_in_all}
 use Rattle.dm_meaning.proofs.StatementLemmas.{zipped_take, zipped_drop, zipped_append}
 use Rattle.dm_sound.proofs.LocalLemmas.{same_count}
 use Rattle.dm_refine.specs.Calls.{IsEvaluated, AreEvaluated}

@@ -1,24 +1,24 @@
 -- The function that is put in, where it has no parameters (6.9.1).
 --     IsFunctionPut types new put f body external      its definition
-use Rattle.std.specs.Prelude.{◌≡◌, refl, ℕ, Bool, true, false, not, ◌&&◌, IsTrue, IfSome, IsSome, codes, List, [], ◌∷◌, Option, Some, None, slice_get}
+use Rattle.std.specs.Prelude.{◌≡◌, refl, ℕ, Bool, true, false, ◌&&◌, IfSome, codes, List, [], ◌∷◌, Option, Some, None, slice_get}
 use Rattle.std.specs.Option.{IsSomeAnd}
 use Rattle.std.specs.Str.{bytes_eq}
 use Rattle.std.proofs.Common.{ap, sym, ◌∙◌, subst}
-use Rattle.std.proofs.lemmas.Bool.{true≢false, false≢true}
+use Rattle.std.proofs.lemmas.Bool.{true≢false}
 use Rattle.std.proofs.lemmas.Slice.Eq.{bytes_eq-Decides}
-use Rattle.dm_type.specs.CTypes.{CType, CTypes, void, integer, pointer, array, struct, function as function_type, const, no_types, more_types, bare}
+use Rattle.dm_type.specs.CTypes.{CType, void, integer, pointer, array, struct, function as function_type, const, no_types, more_types, bare}
 use Rattle.dm_type.specs.Tables.{Table}
 use Rattle.dm_tree.specs.declared.unit.Linkage.{Linkage}
 use Rattle.dm_tree.specs.declared.unit.Linkage.TheVariants.{Internal, External as Outer}
 use Rattle.dm_tree.specs.declared.unit.Sort.TheVariants.{Function}
 use Rattle.dm_tree.specs.Composites.{covers}
 use Rattle.dm_tree.specs.Scenes.{Scene, IsValue, is_void, is_function as is_function_type}
-use Rattle.dm_tree.specs.Trees.{Label, switch, case, default, while_loop, do_loop, for_loop, block, return, full, Spans, Tree, Trees, node, no_trees, more_trees, label_of, kind_of, trees_of, parts_of, listed}
-use Rattle.dm_tree.specs.Typing.{Fits, FitsStatement, FitsExpression, FitsReturn, inside, IsWellTyped, AreWellTyped, DefinitionFits, FunctionFits, FormFits, ExternalFits, file_scene, body_scene}
+use Rattle.dm_tree.specs.Trees.{Label, switch, case, default, while_loop, do_loop, for_loop, block, return, full, Spans, Tree, Trees, node, no_trees, more_trees, label_of, kind_of, parts_of, listed}
+use Rattle.dm_tree.specs.Typing.{inside, IsWellTyped, AreWellTyped, DefinitionFits, FunctionFits, FormFits, ExternalFits, file_scene, body_scene}
 use Rattle.dm_tree.specs.Units.{Declaration, External, ExternalForm, declares, defines_function, TypedUnit}
 use Rattle.dm_meaning.specs.Steps.{is_main}
 use Rattle.dm_effect.specs.Scoped.{is_scoped}
-use Rattle.dm_meaning.proofs.OptionLemmas.{and_left, and_right}
+use Rattle.dm_meaning.proofs.OptionLemmas.{and_left}
 use Rattle.dm_align.specs.Units.{Insertion, IsPut, IsBodyOf, DefinesAdded, result_of}
 use Rattle.dm_refine.specs.Calls.{HasResult}
 use Rattle.dm_refine.proofs.ConstantTreeLemmas.{inside_declared}

@@ -2,29 +2,29 @@
 --     AddsFunction change added      what is put in is the function, without parameters
 --     plain      where the new tree is that of a constant, both are the same
 --     tree_called      trees that agree are the same but for such calls
-use Rattle.std.specs.Prelude.{◌≡◌, refl, ◌⊎◌, ℕ, Bool, true, false, ◌||◌, ◌&&◌, ◌==◌, IsTrue, IfSome, All, List, [], ◌∷◌, Option, Some, None, option_map, slice_get}
+use Rattle.std.specs.Prelude.{◌≡◌, refl, ◌⊎◌, ℕ, Bool, true, false, ◌||◌, ◌&&◌, ◌==◌, IsTrue, IfSome, List, [], ◌∷◌, Option, Some, option_map, slice_get}
 use Rattle.std.proofs.Common.{ap, sym, ◌∙◌, subst, inl, inr}
 use Rattle.std.proofs.lemmas.Bool.{true≢false, false≢true}
 use Rattle.dm_runs.specs.declared.run.Run.{Run}
-use Rattle.dm_type.specs.CTypes.{CType, CTypes, void, integer, pointer, array, struct, function as function_type, const, no_types, more_types}
-use Rattle.dm_tree.specs.Composites.{covers, cover_parameters}
+use Rattle.dm_type.specs.CTypes.{CType, void, integer, pointer, array, struct, function as function_type, const, no_types, more_types}
+use Rattle.dm_tree.specs.Composites.{covers}
 use Rattle.dm_tree.specs.Constants.{constant}
 use Rattle.dm_tree.specs.Initialisers.{is_function_sort}
 use Rattle.dm_tree.specs.Operands.{FitsCall}
 use Rattle.dm_tree.specs.Scenes.{Scene, Names}
-use Rattle.dm_tree.specs.Trees.{Label, function, object, enumerator, declare, call, case, sizeof_tree, Spans, Tree, Trees, node, no_trees, more_trees, label_of, kind_of, trees_of, listed}
+use Rattle.dm_tree.specs.Trees.{Label, function, call, case, sizeof_tree, Spans, Tree, Trees, node, no_trees, more_trees, trees_of, listed}
 use Rattle.dm_tree.specs.Typing.{Fits, FitsExpression, inside, IsWellTyped, AreWellTyped}
 use Rattle.dm_tree.specs.Units.{Declaration}
 use Rattle.dm_meaning.specs.Called as called
 use Rattle.dm_meaning.specs.Called.{Called, new_of, IsCall, IsSame, SameCase}
-use Rattle.dm_meaning.specs.Programs.{Definition, Static, declaration_of, declaration_at}
+use Rattle.dm_meaning.specs.Programs.{Static, declaration_of}
 use Rattle.dm_meaning.specs.Replaced as replaced
 use Rattle.dm_meaning.specs.Replaced.{Replaced, relabelled, facts_of}
 use Rattle.dm_meaning.proofs.GrowLemmas.{equal_is}
 use Rattle.dm_meaning.proofs.OptionLemmas.{none_is_some, some_is_some, and_right}
 use Rattle.dm_meaning.proofs.StatementLemmas.{agreeing_constant}
 use Rattle.dm_effect.specs.Entities.{function_first}
-use Rattle.dm_agree.specs.Standing.{runs_at, runs_below}
+use Rattle.dm_agree.specs.Standing.{runs_below}
 use Rattle.dm_agree.specs.Agreement.{Added, nothing, added_function, added_enumerator, added_constant, Rewriting, Here, here_at, SameBody, Agrees, AllAgree, AtRun}
 use Rattle.dm_refine.specs.Calls.{is_name_of, names, any_names, NotInSizeof, IsEvaluated, AreEvaluated}
 use Rattle.dm_refine.proofs.ConstantTreeLemmas.{inside_declared}

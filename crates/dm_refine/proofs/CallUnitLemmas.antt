@@ -1,13 +1,13 @@
 -- Aligned units, where a function without parameters is put in.
 --     calling_units      the new program refines the old one
-use Rattle.std.specs.Prelude.{◌≡◌, refl, ℕ, ◌+◌, Bool, true, false, not, ◌&&◌, IsTrue, All, List, [], ◌∷◌, ◌++◌, take, drop, Option, Some, None, option_map, slice_get}
+use Rattle.std.specs.Prelude.{◌≡◌, refl, ℕ, ◌+◌, Bool, true, false, not, IsTrue, All, List, [], ◌∷◌, ◌++◌, take, drop, Option, Some, None, option_map, slice_get}
 use Rattle.std.specs.List.{AllByRecursion}
 use Rattle.std.specs.Option.{IsSomeAnd}
 use Rattle.std.proofs.Common.{ap, sym, ◌∙◌, subst, inl, inr}
 use Rattle.std.proofs.lemmas.Bool.{true≢false, false≢true}
 use Rattle.std.proofs.lemmas.List.Elements.{All-head, All-tail, All-from_recursion}
 use Rattle.dm_runs.specs.declared.run.Run.{Run}
-use Rattle.dm_type.specs.CTypes.{CType, CTypes, void, integer, pointer, array, struct, function as function_type, const, bare}
+use Rattle.dm_type.specs.CTypes.{CType, void, integer, pointer, array, struct, function as function_type, const, bare}
 use Rattle.dm_type.specs.Tables.{Table}
 use Rattle.dm_tree.specs.declared.unit.Sort.{Sort}
 use Rattle.dm_tree.specs.Composites.{covers}
@@ -19,14 +19,13 @@ use Rattle.dm_tree.specs.Units.{Declaration, External, ExternalForm, declares, d
 use Rattle.dm_meaning.specs.Called as called
 use Rattle.dm_meaning.specs.Called.{Called, IsSame, statics_of, is_nowhere_local}
 use Rattle.dm_meaning.specs.CalledUnits.{change_of, FormAgrees, ExternalAgrees, IsAdded, ExternalsAgree, IsUnitCalling}
-use Rattle.dm_meaning.specs.Programs.{Definition, declaration_at}
+use Rattle.dm_meaning.specs.Programs.{declaration_at}
 use Rattle.dm_meaning.specs.Refinement.{Refines, refines_through}
-use Rattle.dm_meaning.specs.Replaced.{Zipped, renamed_declarator, facts_of}
+use Rattle.dm_meaning.specs.Replaced.{Zipped, facts_of}
 use Rattle.dm_meaning.specs.Statements.{Local, is_automatic_declaration, is_automatic_sort, with_expressions}
 use Rattle.dm_meaning.specs.Steps.{is_main}
 use Rattle.dm_meaning.specs.Units.{locals_by, locals_in, locals_in_all, locals_of, all_locals, machine_of, program_of}
-use Rattle.dm_meaning.specs.Wholes.{is_expression}
-use Rattle.dm_meaning.proofs.OptionLemmas.{and_left, and_right}
+use Rattle.dm_meaning.proofs.OptionLemmas.{and_right}
 use Rattle.dm_meaning.proofs.PassUnitLemmas.{called_units_refine}
 use Rattle.dm_meaning.proofs.StatementLemmas.{zipped_append}
 use Rattle.dm_meaning.proofs.WholeLemmas.{typed-expression}

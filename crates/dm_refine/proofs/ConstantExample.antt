@@ -1,11 +1,10 @@
 -- The premises of the law, for a unit with a macro that becomes a const object.
-use Rattle.std.specs.Prelude.{refl, length, All, List, [], ◌∷◌}
+use Rattle.std.specs.Prelude.{refl, length, List, [], ◌∷◌}
 use Rattle.std.specs.Int.Signed.{le_z_yes}
 use Rattle.std.specs.List.{IsDistinct}
 use Rattle.std.proofs.Common.{arith, ap, inl}
 use Rattle.std.proofs.lemmas.List.Elements.{All-nil, All-from_recursion}
 use Rattle.dm_type.specs.Tables.{no_type}
-use Rattle.dm_tree.specs.Scenes.{IsStatement}
 use Rattle.dm_tree.specs.Trees.{Tree}
 use Rattle.dm_tree.specs.Typing.{IsEntry, ExternalFits, IsWellTyped, IsWellTypedUnit, file_scene}
 use Rattle.dm_tree.specs.Units.{External, ExternalForm, declares, defines_function}

@@ -1,11 +1,11 @@
 -- The premises of the laws, for a unit with a macro that becomes an enumerator.
-use Rattle.std.specs.Prelude.{refl, length, All, List, [], ◌∷◌, Some}
+use Rattle.std.specs.Prelude.{refl, length, List, [], ◌∷◌, Some}
 use Rattle.std.specs.Int.Signed.{le_z_yes}
 use Rattle.std.specs.List.{IsDistinct}
 use Rattle.std.proofs.Common.{arith, ap, inr}
 use Rattle.std.proofs.lemmas.List.Elements.{All-nil, All-from_recursion}
 use Rattle.dm_type.specs.Tables.{no_type}
-use Rattle.dm_tree.specs.Scenes.{IsConstant, IsStatement}
+use Rattle.dm_tree.specs.Scenes.{IsConstant}
 use Rattle.dm_tree.specs.Trees.{Tree}
 use Rattle.dm_tree.specs.Typing.{IsEntry, ExternalFits, IsWellTyped, IsWellTypedUnit, file_scene}
 use Rattle.dm_tree.specs.Units.{External}

@@ -2,10 +2,9 @@
 --     HasResult unit f      the function has a result
 --     HasNoLengths tree      no type name in a tree has an array length or an enumerator's value
 --     IsCalledEvaluated f unit      no operand of sizeof in a unit names the function
-use Rattle.std.specs.Prelude.{◌≡◌, ℕ, Bool, false, ◌||◌, ◌==◌, List, Some, slice_get}
+use Rattle.std.specs.Prelude.{◌≡◌, ℕ, Bool, false, ◌||◌, ◌==◌, slice_get}
 use Rattle.std.specs.List.{AllByRecursion}
 use Rattle.std.specs.Option.{IsSomeAnd}
-use Rattle.dm_type.specs.CTypes.{CType}
 use Rattle.dm_tree.specs.Scenes.{is_void, is_function as is_function_type}
 use Rattle.dm_tree.specs.Trees.{Label, function, convert, sizeof_tree, sizeof_kind, Tree, Trees, node, no_trees, more_trees}
 use Rattle.dm_tree.specs.Units.{Declaration, External, TypedUnit}
