@@ -26,10 +26,11 @@ use Rattle.dm_central.specs.Added.{IsAdded}
 use Rattle.dm_central.specs.Agreement.{BegunOutside}
 use Rattle.dm_central.specs.Arguments.{ReadsApart, at_once, untouched, ReadsParameter, ReadsFirst}
 use Rattle.dm_central.specs.Bodies.{Known, closed_numbers, frame_stage, AreNamedOnce, DefinitionAgrees, CallsInPlace, IsWholeProgram}
-use Rattle.dm_central.specs.ClosedPrograms.{known_where, known_closed, AreOnlyNamed}
+use Rattle.dm_central.specs.ClosedPrograms.{known_where, known_closed, AreListed, AreOnlyNamed}
 use Rattle.dm_central.specs.QuietFrames.{ReturnsQuietly, AreQuiet}
 use Rattle.dm_central.specs.Examples.{calling, main_with, beyond_twice, around_of, around, giving_three, calling_around}
 use Rattle.dm_central.proofs.ApartLemmas.{apart_by_names}
+use Rattle.dm_central.proofs.NewNamesLemmas.{new_names}
 use Rattle.dm_central.proofs.RefineLemmas.{known_calls_refine, closed_calls_refine}
 use Rattle.dm_central.proofs.TwiceExample.{injective, not_twice, is_parameter, own}
 use Rattle.dm_central.proofs.WholeLemmas.{no_statements}
@@ -219,19 +220,27 @@ old_names definition (inl e) =
 old_names definition (inr (inl e)) = subst (λ (d : Definition). ListNamesOnly 1 (parts_of d.body)) (sym e) (three_names 2)
 old_names definition (inr (inr l)) = absurd l
 
-new_names : ProgramNamesOnly 1 (new_of calling_around)
-new_names definition (inl e) =
-    subst (λ (d : Definition). ListNamesOnly 1 (parts_of d.body)) (sym e) ((tt, ((tt, ((tt, (reads_other, ((tt, ((tt, tt), tt)), tt))), (reads_other, tt))), tt)), tt)
-new_names definition (inr (inl e)) =
-    subst (λ (d : Definition). ListNamesOnly 1 (parts_of d.body)) (sym e) ((tt, ((tt, tt), tt)), ((tt, ((tt, ((tt, tt), (reads_y, tt))), tt)), tt))
-new_names definition (inr (inr (inl e))) = subst (λ (d : Definition). ListNamesOnly 1 (parts_of d.body)) (sym e) (three_names 4)
-new_names definition (inr (inr (inr l))) = absurd l
+-- the expression of the added function reads another object
+body_names : NamesOnly 1 (around_of 3 4)
+body_names = (tt, ((tt, (reads_other, ((tt, ((tt, tt), tt)), tt))), (reads_other, tt)))
+
+pub listed : AreListed calling_around
+listed definition (inl e) = inl e
+listed definition (inr (inl e)) = inr (0, ap Some (sym e))
+listed definition (inr (inr (inl e))) = inr (2, ap Some (sym e))
+listed definition (inr (inr (inr l))) = absurd l
+
+pub names_old : (d : ℕ) → is_y d ≡ true → ProgramNamesOnly d calling_around.old
+names_old d picked = subst (λ n. ProgramNamesOnly n calling_around.old) (sym (equal_of d 1 picked)) old_names
+
+pub names_body : (d : ℕ) → is_y d ≡ true → NamesOnly (beyond_twice d) (around_of 3 4)
+names_body d picked = subst (λ n. NamesOnly (beyond_twice n) (around_of 3 4)) (sym (equal_of d 1 picked)) body_names
 
 pub only_named : AreOnlyNamed calling_around is_y
 only_named = record {
   local = λ d picked l. l;
-  old = λ d picked. subst (λ n. ProgramNamesOnly n calling_around.old) (sym (equal_of d 1 picked)) old_names;
-  new = λ d picked. subst (λ n. ProgramNamesOnly (beyond_twice n) (new_of calling_around)) (sym (equal_of d 1 picked)) new_names;
+  old = names_old;
+  new = λ d picked. new_names calling_around (known_closed is_y) closed_in_place d picked listed (names_old d picked) (names_body d picked);
 }
 
 pub closed_refines : Refines (machine_of (new_of calling_around)) (machine_of calling_around.old)

@@ -20,12 +20,12 @@ use Rattle.dm_rewrite.specs.StepEffects.{use_effects, first_effects, StillHolds}
 use Rattle.dm_rewrite.proofs.FrameChangeLemmas.{usable_made, changes_opened, changes_ended}
 use Rattle.dm_rewrite.proofs.StepEffectLemmas.{step_holds}
 use Rattle.dm_central.specs.Bodies.{closed_numbers}
-use Rattle.dm_central.specs.LeftAlone.{stage_with, AllUnnamed, IsOther, HasNoEffects, IsPickedIn, IsClosedBelow, AreLeftAlone, waiting_stage, AreKept}
+use Rattle.dm_central.specs.LeftAlone.{alone_stage, AllUnnamed, IsOther, HasNoEffects, IsPickedIn, IsClosedBelow, AreLeftAlone, waiting_stage, AreKept}
 use Rattle.dm_central.specs.QuietFrames.{CallersAreQuiet, AreQuietFrames}
 use Rattle.dm_central.specs.StateAgreement.{worlds_after}
 use Rattle.dm_central.specs.Waiting.{UseHas, TasksKeep, HasLasted, IsWaiting, any_name, any_run}
 use Rattle.dm_central.proofs.BehindLemmas.{never_made}
-use Rattle.dm_central.proofs.LeftAloneLemmas.{named_other, begun_alone}
+use Rattle.dm_central.proofs.LeftAloneLemmas.{Free, none_free, joined_free, named_other, begun_alone}
 use Rattle.dm_central.proofs.OutcomeLemmas.{changes_none}
 use Rattle.dm_central.proofs.QuietFrameLemmas.{QuietStep, quiet_step}
 use Rattle.dm_central.proofs.ShapeLemmas.{Shape, unfolded_has, objects_shape, tasks_any}
@@ -74,44 +74,31 @@ closed_of_free closed n free = by_case (is_among n closed)
 -- ---- what a step writes
 
 module _ (n : ℕ) where
-  abbrev Free : List Effect → Type 0
-  Free effects = IsFree (n ∷ []) effects n
-
-  none_free : Free []
-  none_free effect l hit = absurd l
-
-  joined_free : (xs ys : List Effect) → Free xs → Free ys → Free (xs ++ ys)
-  joined_free xs ys h k effect l hit = by_side (among_either effect xs ys l)
-    where
-      by_side : IsAmong effect xs ⊎ IsAmong effect ys → ⊥
-      by_side (inl m) = h effect m hit
-      by_side (inr m) = k effect m hit
-
-  name_free : (name : Name) → (name ≡ numbered n → ⊥) → Free (by_name name)
+  name_free : (name : Name) → (name ≡ numbered n → ⊥) → Free n (by_name name)
   name_free (numbered m) other effect (inl e) hit = other (ap numbered (subst (λ x. Hits (n ∷ []) x n) e hit))
   name_free (numbered m) other effect (inr l) hit = absurd l
   name_free (literal_of bytes unit) other effect l hit = absurd l
   name_free (elsewhere identifier) other effect l hit = absurd l
 
   module _ (B : ℕ → Type 0) (b : B n) where
-    use_free : (use_of : Use) → UseHas (IsOther B) use_of → Free (use_effects use_of)
+    use_free : (use_of : Use) → UseHas (IsOther B) use_of → Free n (use_effects use_of)
     use_free (initialises at kind) h = name_free at.name (h n b)
-    use_free drops h = none_free
-    use_free (chooses first second) h = none_free
-    use_free (selects items) h = none_free
-    use_free (repeats loop) h = none_free
-    use_free (continues loop) h = none_free
-    use_free returns h = none_free
+    use_free drops h = none_free n
+    use_free (chooses first second) h = none_free n
+    use_free (selects items) h = none_free n
+    use_free (repeats loop) h = none_free n
+    use_free (continues loop) h = none_free n
+    use_free returns h = none_free n
 
 -- the next task of a frame that leaves the object alone writes nothing there
 next_free : (program : Program) (B : ℕ → Type 0) (n : ℕ) → B n → (statics objects : Objects) → AllUnnamed B statics objects → (tasks : List Task)
-    → TasksKeep (AllUnnamed B statics) (IsOther B) (HasNoEffects program B) tasks → IsFree (n ∷ []) (first_effects (stage_with program (statics ++ objects) (n ∷ [])) tasks) n
+    → TasksKeep (AllUnnamed B statics) (IsOther B) (HasNoEffects program B) tasks → Free n (first_effects (alone_stage program (statics ++ objects) n) tasks)
 next_free program B n b statics objects unnamed [] h = none_free n
 next_free program B n b statics objects unnamed (begins tree ∷ rest) h = none_free n
 next_free program B n b statics objects unnamed (declares declarator expressions ∷ rest) h = none_free n
 next_free program B n b statics objects unnamed (initials at kind initialiser expressions ∷ rest) h = name_free n at.name (h.0 n b)
 next_free program B n b statics objects unnamed (evaluates place run use_of ∷ rest) h =
-    joined_free n (effects_of (stage_with program (statics ++ objects) (n ∷ [])) run) (use_effects use_of) (h.0.0 n b (statics ++ objects) (unnamed n b)) (use_free n B b use_of h.0.1)
+    joined_free n (effects_of (alone_stage program (statics ++ objects) n) run) (use_effects use_of) (h.0.0 n b (statics ++ objects) (unnamed n b)) (use_free n B b use_of h.0.1)
 next_free program B n b statics objects unnamed (again saved loop ∷ rest) h = none_free n
 next_free program B n b statics objects unnamed (tests saved loop ∷ rest) h = none_free n
 next_free program B n b statics objects unnamed (ends saved ∷ rest) h = none_free n

@@ -23,7 +23,7 @@ use Rattle.dm_rewrite.proofs.ClosedStateLemmas.{only_join, unfolded_closed}
 use Rattle.dm_rewrite.proofs.ShrinkEffectLemmas.{run_calm}
 use Rattle.dm_rewrite.proofs.UnnamedLemmas.{begun_free}
 use Rattle.dm_central.specs.ClosedFrames.{CallersHave, AreClosedIn, AreAllClosed}
-use Rattle.dm_central.specs.LeftAlone.{IsUnnamed, stage_with, HasNoEffect, AllUnnamed, IsOther, HasNoEffects, FrameLeaves, IsClosedBelow, CallersLeave, AreLeftAlone}
+use Rattle.dm_central.specs.LeftAlone.{IsUnnamed, alone_stage, HasNoEffect, AllUnnamed, IsOther, HasNoEffects, FrameLeaves, IsClosedBelow, CallersLeave, AreLeftAlone}
 use Rattle.dm_central.specs.Waiting.{AreOwn}
 use Rattle.dm_central.proofs.ClosedFrameLemmas.{from_named}
 use Rattle.dm_central.proofs.ShapeLemmas.{items_have_none, Shape, RunsKeep, step_shape}
@@ -34,9 +34,12 @@ same_number m n e = cc
 
 -- ---- effects on an object for which no name stands
 
-module _ (program : Program) (n : ℕ) (objects others : Objects) (unnamed : IsUnnamed n others) where
-  abbrev Free : List Effect → Type 0
+module _ (n : ℕ) where
+  abbrev pub Free : List Effect → Type 0
   Free effects = IsFree (n ∷ []) effects n
+
+  pub none_free : Free []
+  none_free effect l hit = absurd l
 
   free_left : (xs ys : List Effect) → Free (xs ++ ys) → Free xs
   free_left xs ys h effect l = h effect (among_left effect xs ys l)
@@ -44,8 +47,8 @@ module _ (program : Program) (n : ℕ) (objects others : Objects) (unnamed : IsU
   free_right : (xs ys : List Effect) → Free (xs ++ ys) → Free ys
   free_right xs ys h effect l = h effect (among_right effect xs ys l)
 
-  free_join : (xs ys : List Effect) → Free xs → Free ys → Free (xs ++ ys)
-  free_join xs ys h k effect l hit = by_side (among_either effect xs ys l)
+  pub joined_free : (xs ys : List Effect) → Free xs → Free ys → Free (xs ++ ys)
+  joined_free xs ys h k effect l hit = by_side (among_either effect xs ys l)
     where
       by_side : IsAmong effect xs ⊎ IsAmong effect ys → ⊥
       by_side (inl m) = h effect m hit
@@ -56,13 +59,14 @@ module _ (program : Program) (n : ℕ) (objects others : Objects) (unnamed : IsU
   number_free (Some m) h effect (inl e) hit = h (ap Some (subst (λ x. Hits (n ∷ []) x n) e hit))
   number_free (Some m) h effect (inr l) hit = absurd l
 
-  target_anywhere : (run : Run) → Free (target_effects objects run) → Free (target_effects others run)
-  target_anywhere (to_do (evaluates_label (object d)) kind place parts) h = number_free (object_named others d) (λ e. unnamed (d, n) (named_among others d n e) refl)
+module _ (program : Program) (n : ℕ) (objects others : Objects) (unnamed : IsUnnamed n others) where
+  target_anywhere : (run : Run) → Free n (target_effects objects run) → Free n (target_effects others run)
+  target_anywhere (to_do (evaluates_label (object d)) kind place parts) h = number_free n (object_named others d) (λ e. unnamed (d, n) (named_among others d n e) refl)
   target_anywhere (to_do doing kind place parts) h = h
   target_anywhere (done kind (designates at) locks) h = h
   target_anywhere (done kind (of_value value) locks) h = h
 
-  own_anywhere : (doing : Doing) (parts : Runs) → Free (own_effects (stage_with program objects (n ∷ [])) doing parts) → Free (own_effects (stage_with program others (n ∷ [])) doing parts)
+  own_anywhere : (doing : Doing) (parts : Runs) → Free n (own_effects (alone_stage program objects n) doing parts) → Free n (own_effects (alone_stage program others n) doing parts)
   own_anywhere (evaluates_label store) (more_runs left rest) h = target_anywhere left h
   own_anywhere (evaluates_label (update op works)) (more_runs left rest) h = target_anywhere left h
   own_anywhere (evaluates_label (count plus before)) (more_runs left rest) h = target_anywhere left h
@@ -71,25 +75,25 @@ module _ (program : Program) (n : ℕ) (objects others : Objects) (unnamed : IsU
 
   mutual
     -- where there is none, there is none by other names
-    pub run_anywhere : (run : Run) → Free (effects_of (stage_with program objects (n ∷ [])) run) → Free (effects_of (stage_with program others (n ∷ [])) run)
+    pub run_anywhere : (run : Run) → Free n (effects_of (alone_stage program objects n) run) → Free n (effects_of (alone_stage program others n) run)
     run_anywhere (done kind result locks) h = h
     run_anywhere (to_do doing kind place parts) h =
-        let own = own_effects (stage_with program objects (n ∷ [])) doing parts in
-        let below = effects_in (stage_with program objects (n ∷ [])) parts in
-        free_join (own_effects (stage_with program others (n ∷ [])) doing parts) (effects_in (stage_with program others (n ∷ [])) parts) (own_anywhere doing parts (free_left own below h))
-        (runs_anywhere parts (free_right own below h))
+        let own = own_effects (alone_stage program objects n) doing parts in
+        let below = effects_in (alone_stage program objects n) parts in
+        joined_free n (own_effects (alone_stage program others n) doing parts) (effects_in (alone_stage program others n) parts) (own_anywhere doing parts (free_left n own below h))
+        (runs_anywhere parts (free_right n own below h))
 
-    runs_anywhere : (parts : Runs) → Free (effects_in (stage_with program objects (n ∷ [])) parts) → Free (effects_in (stage_with program others (n ∷ [])) parts)
+    runs_anywhere : (parts : Runs) → Free n (effects_in (alone_stage program objects n) parts) → Free n (effects_in (alone_stage program others n) parts)
     runs_anywhere no_runs h = h
     runs_anywhere (more_runs first rest) h =
-        let one = effects_of (stage_with program objects (n ∷ [])) first in
-        let more = effects_in (stage_with program objects (n ∷ [])) rest in
-        free_join (effects_of (stage_with program others (n ∷ [])) first) (effects_in (stage_with program others (n ∷ [])) rest) (run_anywhere first (free_left one more h))
-        (runs_anywhere rest (free_right one more h))
+        let one = effects_of (alone_stage program objects n) first in
+        let more = effects_in (alone_stage program objects n) rest in
+        joined_free n (effects_of (alone_stage program others n) first) (effects_in (alone_stage program others n) rest) (run_anywhere first (free_left n one more h))
+        (runs_anywhere rest (free_right n one more h))
 
 -- what begins has no effect on it
 pub begun_alone : (program : Program) (n : ℕ) (tree : Tree) → HasNoEffect program n (begun tree)
-begun_alone program n tree objects unnamed = begun_free (stage_with program objects (n ∷ [])) n (inl refl) (λ d e. unnamed (d, n) (named_among objects d n e) refl) tree
+begun_alone program n tree objects unnamed = begun_free (alone_stage program objects n) n (inl refl) (λ d e. unnamed (d, n) (named_among objects d n e) refl) tree
 
 -- what is initialised is an object of the frame
 pub named_other : (B : ℕ → Type 0) (statics objects : Objects) → AllUnnamed B statics objects → (d m : ℕ) → object_named objects d ≡ Some m → IsOther B (numbered m)
@@ -135,12 +139,12 @@ module _ (program : Program) (test : ℕ → Bool) (starts : List World) (s t : 
     goes_on = λ place run later use_of rest world e l so n b objects unnamed.
         let c = below n b in
         run_anywhere program n here objects unnamed later
-        (run_calm (stage_with program here (n ∷ [])) s.world (locks_in run) (avoided n c.0 c.2) run (λ m among. inl (first_closed n c.0 c.2 place run use_of rest e m among)) (goes world later) l n
+        (run_calm (alone_stage program here n) s.world (locks_in run) (avoided n c.0 c.2) run (λ m among. inl (first_closed n c.0 c.2 place run use_of rest e m among)) (goes world later) l n
         (so n b here (k.frame.0 n b)));
     resumes = λ place run use_of rest f arguments kind hole e l so value n b objects unnamed.
         let c = below n b in
         run_anywhere program n here objects unnamed (filled_in hole (done kind (of_value value) []))
-        ((run_calm (stage_with program here (n ∷ [])) s.world (locks_in run) (avoided n c.0 c.2) run (λ m among. inl (first_closed n c.0 c.2 place run use_of rest e m among)) (calls f arguments kind hole) l).1
+        ((run_calm (alone_stage program here n) s.world (locks_in run) (avoided n c.0 c.2) run (λ m among. inl (first_closed n c.0 c.2 place run use_of rest e m among)) (calls f arguments kind hole) l).1
         value [] (λ m free effect none. absurd none) n (so n b here (k.frame.0 n b)));
   }
 

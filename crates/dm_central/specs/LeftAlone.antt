@@ -19,12 +19,12 @@ use Rattle.dm_central.specs.Waiting.{UseHas, FrameKeeps}
 abbrev pub IsUnnamed : ℕ → Objects → Type 0
 IsUnnamed n objects = (entry : ℕ × ℕ) → IsAmong entry objects → entry.1 ≡ n → ⊥
 
--- where names stand for these objects, and no pointer leads to those of the numbers; no function is known to be quiet
-abbrev pub stage_with : Program → Objects → List ℕ → Stage
-stage_with program objects closed = record { scene = record { program = program; objects = objects }; closed = closed; quiet = λ f. false }
+-- where names stand for these objects, and no pointer leads to that of the number; no function is known to be quiet
+abbrev pub alone_stage : Program → Objects → ℕ → Stage
+alone_stage program objects n = record { scene = record { program = program; objects = objects }; closed = n ∷ []; quiet = λ f. false }
 
 abbrev pub HasNoEffect : Program → ℕ → Run → Type 0
-HasNoEffect program n run = (objects : Objects) → IsUnnamed n objects → IsFree (n ∷ []) (effects_of (stage_with program objects (n ∷ [])) run) n
+HasNoEffect program n run = (objects : Objects) → IsUnnamed n objects → IsFree (n ∷ []) (effects_of (alone_stage program objects n) run) n
 
 -- ---- frames
 

@@ -12,12 +12,12 @@ ghost use Rattle.dm_meaning.specs.Running.{Run, Hole, begun};
 ghost use Rattle.dm_meaning.specs.States.{State};
 ghost use Rattle.dm_meaning.specs.Steps.{Step};
 ghost use Rattle.dm_meaning.specs.Units.{Begins, machine_of};
-ghost use Rattle.dm_rewrite.specs.ClosedStates.{ProgramNamesOnly};
+ghost use Rattle.dm_rewrite.specs.ClosedStates.{NamesOnly, ProgramNamesOnly};
 ghost use Rattle.dm_central.specs.Added.{IsAdded};
 ghost use Rattle.dm_central.specs.Agreement.{BegunOutside, RunAgrees};
 ghost use Rattle.dm_central.specs.Bodies.{nothing_known, CallsInPlace, IsWholeProgram};
 ghost use Rattle.dm_central.specs.ClosedFrames.{AreAllClosed};
-ghost use Rattle.dm_central.specs.ClosedPrograms.{known_where, known_closed, AreOnlyNamed};
+ghost use Rattle.dm_central.specs.ClosedPrograms.{known_where, known_closed, AreListed, AreOnlyNamed};
 ghost use Rattle.dm_central.specs.Examples as examples;
 ghost use Rattle.dm_central.specs.NodeSteps.{new_scene};
 ghost use Rattle.dm_central.specs.Outcomes.{Met};
@@ -55,6 +55,9 @@ pub fn objects_are_closed_when_they_are_made()
 /// `int around(int x) { return (x + g()) + x; }`.
 pub fn an_argument_is_read_behind_a_call()
     ensures calls { CallsInPlace examples.calling_around (known_closed (λ d. d == 1)) }
+    ensures names_old { (d : ℕ) → (d == 1) ≡ true → ProgramNamesOnly d examples.calling_around.old }
+    ensures names_body { (d : ℕ) → (d == 1) ≡ true → NamesOnly (examples.beyond_twice d) (examples.around_of 3 4) }
+    ensures listed { AreListed examples.calling_around }
     ensures named { AreOnlyNamed examples.calling_around (λ d. d == 1) }
     ensures whole { IsWholeProgram examples.calling_around.old }
     ensures refines { Refines (machine_of (new_of examples.calling_around)) (machine_of examples.calling_around.old) }

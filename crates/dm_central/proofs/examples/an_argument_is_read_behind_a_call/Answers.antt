@@ -12,3 +12,12 @@ returns-clause-whole c = around.whole_program
 
 pub returns-clause-refines : goal.returns-clause-refines
 returns-clause-refines c = around.closed_refines
+
+pub returns-clause-listed : goal.returns-clause-listed
+returns-clause-listed c = around.listed
+
+pub returns-clause-names_old : goal.returns-clause-names_old
+returns-clause-names_old c = around.names_old
+
+pub returns-clause-names_body : goal.returns-clause-names_body
+returns-clause-names_body c = around.names_body
