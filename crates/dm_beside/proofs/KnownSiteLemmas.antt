@@ -18,7 +18,7 @@ use Rattle.dm_effect.specs.Entities.{trees_in_form}
 use Rattle.dm_sites.specs.declared.site.Site.{Site as CodeSite}
 use Rattle.dm_sites.specs.Seen.{seen}
 use Rattle.dm_sites.specs.Sites.{sites_of_unit}
-use Rattle.dm_beside.proofs.HeritageLemmas.{AllHave, EachHave, have-append, have-at, sites-have}
+use Rattle.dm_around.proofs.HeritageLemmas.{AllHave, EachHave, have-append, have-at, sites-have}
 use Rattle.dm_beside.proofs.KnownLemmas.{ints, all_int, are_all_int, int_label, known-view, known-local}
 use Rattle.dm_beside.specs.Places.{is_int}
 

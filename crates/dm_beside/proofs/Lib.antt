@@ -1,5 +1,4 @@
 pub mod EvaluationLemmas
-pub mod HeritageLemmas
 pub mod KnownLemmas
 pub mod KnownSiteLemmas
 pub mod PlaceLemmas

@@ -1,0 +1,10 @@
+pub mod AroundLemmas
+pub mod BesideLemmas
+pub mod EndLemmas
+pub mod HeritageLemmas
+pub mod LinkLemmas
+pub mod NoiseLemmas
+pub mod ParentLemmas
+pub mod RootLemmas
+pub mod TypedLemmas
+pub mod WalkLemmas

@@ -1,0 +1,4 @@
+pub mod Noises
+pub mod Noted
+pub mod Places
+pub mod Surroundings

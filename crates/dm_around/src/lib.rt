@@ -1,0 +1,12 @@
+//! What stands round the places of expressions in a unit (ISO/IEC 9899:2011, 6.5p3): whether what is unsequenced to an expression is
+//! quiet, and which objects it writes, noted once for all places.
+#![tactic(auto)]
+
+mod ends;
+mod links;
+mod noise;
+mod parents;
+mod parts;
+mod surroundings;
+
+pub use surroundings::Surroundings;
