@@ -5,6 +5,7 @@
 mod arguments;
 mod evaluation;
 mod examples;
+mod noted;
 mod places;
 mod tally;
 
@@ -13,4 +14,5 @@ pub use examples::{
     arguments_may_be_read_twice, later_arguments_are_safe, runs_stand_where_calls_may,
     stores_are_evaluated_once,
 };
+pub use noted::evaluates_alike_amid;
 pub use places::{has_all_parameters, is_subtree, is_value, may_be_constant};
