@@ -1,5 +1,5 @@
 //! What stands round the places of expressions in a unit (ISO/IEC 9899:2011, 6.5p3): whether what is unsequenced to an expression is
-//! quiet, and which objects it writes, noted once for all places.
+//! quiet, noted once for all places.
 #![tactic(auto)]
 
 mod ends;
