@@ -6,18 +6,22 @@ ghost use Rattle.dm_tree.specs.contracts.tree.Core as core;
 ghost use Rattle.dm_tree.specs.contracts.tree.Initial as initial;
 ghost use Rattle.dm_tree.specs.contracts.tree.Local as local;
 
+use dm_around::Surroundings;
 use dm_effect::QuietFunctions;
+use dm_sites::Sites;
 use dm_stable::Objects;
 use dm_token::Memory;
 use dm_tree::CoreUnit;
 use std::alloc::Global;
 
-/// Which functions of a unit are quiet, and what its trees do to its objects.
+/// Which functions of a unit are quiet, what stands round its places, and what its trees do to its objects.
 #[derive(Drop)]
 pub struct Notes<'a> {
     pub(crate) quiet: QuietFunctions<'a>,
     pub(crate) objects: Objects<'a>,
+    pub(crate) surroundings: Surroundings<'a>,
     ghost same_unit: { objects ≡ quiet } by { Prim.hlevel (codes, core.the_row.coded, initial.the_row.coded, local.the_row.coded) },
+    ghost same_round: { surroundings ≡ quiet } by { Prim.hlevel (codes, core.the_row.coded, initial.the_row.coded, local.the_row.coded) },
 }
 
 impl<'a> Notes<'a> {
@@ -26,6 +30,12 @@ impl<'a> Notes<'a> {
     {
         let quiet = QuietFunctions::of(alloc, unit)?;
         let objects = Objects::of(alloc, unit)?;
-        Ok(Notes { quiet, objects })
+        let sites = Sites::of(alloc, unit)?;
+        let surroundings = Surroundings::of(alloc, &sites, &quiet)?;
+        Ok(Notes {
+            quiet,
+            objects,
+            surroundings,
+        })
     }
 }

@@ -8,7 +8,7 @@ ghost use Rattle.dm_judge.specs.Units.{AreWhole, readings_of};
 use crate::notes::Notes;
 use crate::rule::RunRule;
 use crate::units::Units;
-use dm_beside::{evaluates_alike, is_subtree, is_value, may_be_constant};
+use dm_beside::{evaluates_alike_amid, is_subtree, is_value, may_be_constant};
 use dm_meanings::Meanings;
 use dm_rules::Instances;
 use dm_runs::Run;
@@ -38,7 +38,8 @@ fn keeps(
         }
         RunRule::Lvalue => Ok(is_value(sites, run)),
         RunRule::Evaluation => {
-            evaluates_alike(alloc, sites, &notes.quiet, &notes.objects, types, run)
+            let (round, quiet) = (&notes.surroundings, &notes.quiet);
+            evaluates_alike_amid(alloc, sites, round, quiet, &notes.objects, types, run)
         }
     }
 }
