@@ -18,5 +18,6 @@ pub use change::change_with;
 pub use examples::{definitions_become_declarations, types_are_spelled_round_declarators};
 pub use proposal::Proposal;
 pub use proposing::{propose, propose_in};
+pub use rules::broken_from_5;
 pub use signature::{Parameter, Signature};
 pub use units::{Units, indexes_of};

@@ -69,8 +69,8 @@ fn broken_from_9(
     }
 }
 
-/// The least of the rules from 5 on that is broken, and where it is broken first.
-fn broken_from_5(
+/// The least of the rules from 5 to 14 that is broken, and where it is broken first.
+pub fn broken_from_5(
     alloc: Global,
     definition: &Definition,
     units: &Units,

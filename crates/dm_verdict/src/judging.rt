@@ -1,0 +1,57 @@
+//! Verdicts.
+
+ghost use Rattle.std.specs.Prelude.{None, IfOk};
+ghost use Rattle.dm_tree.specs.TypeNumbers.{IsTypedUnit};
+ghost use Rattle.dm_verdict.specs.Verdicts.{IsVerdict, IsVerdictBy};
+
+use crate::rules::broken_alone;
+use crate::verdict::Verdict;
+use dm_alignment::{Alignment, align_in};
+use dm_edit::Change;
+use dm_meanings::Meanings;
+use dm_reading::Reading;
+use dm_rules::Index;
+use dm_token::Memory;
+use std::alloc::Global;
+
+/// The rule whose number says that the edited unit is read, and aligned with what it was.
+const REREAD: u8 = 15;
+
+/// What is said where no other rule is broken.
+fn reread(alloc: Global, old: &Index, new: &Reading, change: &Change) -> Result<Verdict, Memory>
+    requires old { IsTypedUnit old.now.reading.now.types old.now.reading.now.core }
+    requires new { IsTypedUnit new.now.types new.now.core }
+    ensures { IfOk result (IsVerdictBy old.now.reading.now new.now change.now None) }
+{
+    let new = Index::of(alloc, new)?;
+    let meanings = Meanings::of(alloc, &new)?;
+    match align_in(alloc, old, &meanings, change)? {
+        Alignment::Same => Ok(Verdict::Allowed),
+        Alignment::Differs => Ok(Verdict::Broken {
+            rule: REREAD,
+            place: change.definition.place,
+        }),
+    }
+}
+
+/// Whether an edit is allowed in a unit, by its readings before and after. The rules are read over this one unit.
+/// More than 4,294,967,294 tokens, expansions or external declarations count as want of memory.
+pub fn judge(
+    alloc: Global,
+    old: &Reading,
+    new: &Reading,
+    change: &Change,
+) -> Result<Verdict, Memory>
+    requires old { IsTypedUnit old.now.types old.now.core }
+    requires new { IsTypedUnit new.now.types new.now.core }
+    ensures { IfOk result (IsVerdict old.now new.now change.now) }
+{
+    let old = Index::of(alloc, old)?;
+    let found = broken_alone(alloc, &change.definition, &old)?;
+    if let Some(broken) = found {
+        let (rule, place) = broken;
+        return Ok(Verdict::Broken { rule, place });
+    }
+    let verdict = reread(alloc, &old, new, change)?;
+    Ok(verdict)
+}
