@@ -74,7 +74,7 @@ fn meanings(alloc: Global, reading: &Reading) -> Result<String, Fail>
     let syntax = reading.syntax.items();
     let names = Names::of(alloc, tokens, syntax, &reading.core, &reading.types)?;
     let mut out = String::new(alloc);
-    for at in 0..tokens.len() as u32 {
+    for at in 0..u32::try_from(tokens.len()).unwrap_or(u32::MAX) {
         if let Some(one) = names.meaning(at) {
             put_identifier(&mut out, reading, one)?;
         }

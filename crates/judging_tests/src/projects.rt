@@ -1,7 +1,7 @@
 //! The readings of projects in memory. A row has files, each behind its name; `a.c` is the main file of the first unit, and `b.c`, if
 //! there is one, that of the second.
 
-ghost use Rattle.std.specs.Prelude.{◌≡◌, ◌<◌, [], IfOk};
+ghost use Rattle.std.specs.Prelude.{◌≡◌, ◌<◌, [], IfOk, OnOk};
 ghost use Rattle.dm_tree.specs.TypeNumbers.{IsTypedUnit};
 ghost use Rattle.dm_judge.specs.Units.{AreTyped};
 
@@ -65,6 +65,23 @@ fn read<L: Ledger>(
     Ok(read_unit(alloc, folder, loader, &unit, count)?)
 }
 
+/// Adds the reading of a unit.
+fn add_reading<L: Ledger>(
+    alloc: Global,
+    folder: &mut MemoryFolder,
+    loader: &mut Loader,
+    file: Text,
+    count: &mut Steps<L>,
+    readings: &mut Vec<Reading>,
+) -> Result<(), Fail>
+    requires { AreTyped readings.old.items }
+    ensures { OnOk result (AreTyped readings.new.items) }
+{
+    let reading = read(alloc, folder, loader, file, count)?;
+    readings.push(reading)?;
+    Ok(())
+}
+
 /// The readings of the units, counted in a new ledger.
 fn read_counted<L: Ledger>(
     alloc: Global,
@@ -82,9 +99,9 @@ fn read_counted<L: Ledger>(
     let other = Text::new(alloc, "b.c")?;
     let has_other = folder.file(&other).is_some();
     let mut readings = Vec::new(alloc);
-    readings.push(read(alloc, folder, loader, main, &mut count)?)?;
+    add_reading(alloc, folder, loader, main, &mut count, &mut readings)?;
     if has_other {
-        readings.push(read(alloc, folder, loader, other, &mut count)?)?;
+        add_reading(alloc, folder, loader, other, &mut count, &mut readings)?;
     }
     Ok(readings)
 }

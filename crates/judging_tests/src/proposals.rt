@@ -1,7 +1,7 @@
 //! What is proposed for the definitions of worked projects: behind an arrow a row has a line for each definition in a file, with the rule
 //! that it breaks and the first place, or with what stands before and behind its replacement list then.
 
-ghost use Rattle.dm_judge.specs.Units.{AreTyped};
+ghost use Rattle.dm_judge.specs.Units.{AreTyped, AreWhole};
 
 use crate::projects::{Project, project_of};
 use dm_judge::{Proposal, Units, indexes_of, propose_in};
@@ -46,7 +46,9 @@ fn put_proposals(
     names: &[Text],
     units: &Units,
     definitions: &[&Definition],
-) -> Result<(), Fail> {
+) -> Result<(), Fail>
+    requires { AreWhole units.now }
+{
     for definition in definitions {
         out.push_str("\n")?;
         put_text(out, &definition.name)?;
