@@ -1,7 +1,7 @@
 pub mod CatalogueLemmas
 mod ExampleLemmas
 pub mod ExpansionLemmas
-mod KeptLemmas
+pub mod KeptLemmas
 mod OrderLemmas
 mod StayLemmas
 pub mod TokenLemmas

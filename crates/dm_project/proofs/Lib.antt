@@ -1,3 +1,4 @@
+mod AgainLemmas
 mod LeaveLemmas
 mod SiteLemmas
 mod UnitLemmas

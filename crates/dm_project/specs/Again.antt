@@ -67,15 +67,16 @@ ReadsAgain files file (unit ∷ units) (reading ∷ kept) spent old result new =
     × ReadsAgain files file units kept (spent + length (unwrap_or one reading).pp.tokens) known others new
     × (result ≡ result_map_both (λ news. one ∷ news) (λ stop. stop) others))
 
--- The new readings stand, unless the project has too many different definitions with them. Only want of memory has no cause.
+-- The new readings stand, unless the project has too many different definitions with them.
 abbrev pub IsCountedWith : List Reading → Result (List (Option Reading)) Stop → Result (List (Option Reading)) Stop → Type 0
 IsCountedWith kept (Err stop) result = result ≡ Err stop
-IsCountedWith kept (Ok news) (Err Memory) = Unit {0}
 IsCountedWith kept (Ok news) result =
     ((length (definitions_in (put_in kept news)) ≤ most_definitions) × (result ≡ Ok news))
     ⊎ ((most_definitions < length (definitions_in (put_in kept news))) × (result ≡ Err (limit limits.definitions no_file)))
 
+-- Only want of memory has no cause.
 abbrev pub IsReadAgain : Files → ℕ → List Source → List Reading → Loaded → Result (List (Option Reading)) Stop → Loaded → Type 0
+IsReadAgain files file units kept old (Err Memory) new = Unit {0}
 IsReadAgain files file units kept old result new =
     (given : Result (List (Option Reading)) Stop) × ReadsAgain files file units kept 0 old given new × IsCountedWith kept given result
 

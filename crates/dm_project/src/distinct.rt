@@ -1,9 +1,10 @@
 //! The different macro definitions in files, and their keys.
 
-ghost use Rattle.std.specs.Prelude.{◌≡◌, true, map, fold, IfOk, OnOk};
+ghost use Rattle.std.specs.Prelude.{◌≡◌, true, map, fold, length, unwrap_or, IfOk, OnOk};
 ghost use Rattle.dm_definitions.specs.Counts.{is_in_file as stands_in_file};
 ghost use Rattle.dm_search.specs.Loaded.{is_held};
 ghost use Rattle.dm_token.specs.Places.{line_at};
+ghost use Rattle.dm_project.specs.Again.{put_in};
 ghost use Rattle.dm_project.specs.Definitions.{definitions_in, in_files, once_more, key_of as key_in};
 ghost use Rattle.dm_project.specs.Sites.{sites_of, with_one};
 
@@ -87,6 +88,34 @@ pub fn definitions<'a>(
         add_read(&mut sites, &mut found, reading.pp.read.items())?;
     }
     Ok(found)
+}
+
+/// The same for the readings of a project, where some units have new ones.
+pub(crate) fn definitions_with<'a>(
+    alloc: Global,
+    kept: &'a [Reading],
+    news: &'a [Option<Reading>],
+) -> Result<Vec<&'a Definition>, Memory>
+    requires { length news.now ≡ length kept.now }
+    ensures { IfOk result (λ found. map (λ one. one.now) found.items ≡ definitions_in (put_in kept.now news.now)) }
+{
+    let mut sites = IndexSet::new(alloc);
+    let mut found = Vec::new(alloc);
+    for at in 0..kept.len() {
+        let reading = newest(&kept[at], &news[at]);
+        add_read(&mut sites, &mut found, reading.pp.read.items())?;
+    }
+    Ok(found)
+}
+
+/// The new reading of a unit, or else the one that is kept.
+pub(crate) fn newest<'a>(kept: &'a Reading, new: &'a Option<Reading>) -> &'a Reading
+    ensures { result.now ≡ unwrap_or new.now kept.now }
+{
+    match new {
+        Some(reading) => reading,
+        None => kept,
+    }
 }
 
 /// The key of a definition whose file is held.

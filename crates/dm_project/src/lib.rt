@@ -2,8 +2,12 @@
 //! keys of these.
 #![tactic(auto)]
 
+mod again;
 mod distinct;
+mod laws;
 mod units;
 
+pub use again::read_again;
 pub use distinct::{Key, definitions, key_of};
+pub use laws::held_files_stay_there;
 pub use units::read_units;

@@ -9,7 +9,7 @@ ghost use Rattle.dm_unit.specs.Loaders.{Grows, WasUnknown, stopped_at, most_name
 ghost use Rattle.dm_unit.specs.States.{limit};
 ghost use Rattle.dm_unit.specs.Views.{StaysServed, stop_of};
 ghost use Rattle.dm_reading.specs.Layered.{IsLayered};
-ghost use Rattle.dm_project.specs.Leaves.{Leaves};
+ghost use Rattle.dm_project.specs.Leaves.{AreThere, IsNumbered, Leaves};
 ghost use Rattle.dm_project.specs.Units.{HasShortDefines, ReadsNext, ReadsUnits, ReadsProject, KeepsLimits, IsTyped, ending, most_project_tokens, token_count};
 
 use crate::distinct::definitions;
@@ -60,6 +60,7 @@ pub fn read_units<F: Folder, L: Ledger>(
     ensures roomy { result ≢ Err memory_wanted → length loader.new.names < most_names }
     // The files of the call stay: those that the loader holds are those of the folder.
     ensures served { StaysServed (F.files folder.old) loader.old loader.new }
+    ensures there { AreThere (F.files folder.old) loader.old → AreThere (F.files folder.old) loader.new }
 
     // A fault has its cause outside, and names a file of which nothing was known.
     ensures failed { (file : ℕ) → result ≡ Err (ReadFault file) → Rose (F.faults folder.old) (F.faults folder.new) }
@@ -128,7 +129,9 @@ pub(crate) fn read_next<F: Folder, L: Ledger>(
     ensures well_typed { IfOk result IsTyped }
     ensures leaves { Leaves (F.files folder.old) (F.files folder.new) (F.room folder.old) (F.room folder.new) (F.faults folder.old) (F.faults folder.new) loader.old loader.new (stop_of result) }
 {
+    number_names(loader);
     let result = read_unit(alloc, folder, loader, unit, readings);
+    number_names(loader);
     if loader.names().len() >= MOST_NAMES {
         return Err(Stop::Memory);
     }
@@ -137,6 +140,14 @@ pub(crate) fn read_next<F: Folder, L: Ledger>(
         return Err(passed(limit_numbers::PROJECT_TOKENS, number_in(loader, &unit.file)));
     }
     Ok(reading)
+}
+
+/// What holds of the numbers of each loader's names.
+fn number_names(loader: &Loader)
+    ensures { IsNumbered loader.now }
+{
+    loader.names_differ();
+    let _names = loader.names();
 }
 
 /// The number of a name, or the next one where it has none.

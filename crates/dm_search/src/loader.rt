@@ -86,6 +86,13 @@ impl Loader {
         self.numbers.as_slice()
     }
 
+    /// Each number is that of its name: no two names are the same.
+    pub fn names_differ(&self)
+        ensures { (file : ℕ) → file < length self.now.names → number_of self.now (name_of self.now file) ≡ file }
+    {
+        let _names = self.numbers.as_slice();
+    }
+
     /// The name of a number.
     pub fn name(&self, file: u32) -> &Text
         requires { file < length self.now.names }

@@ -5,7 +5,7 @@ use Rattle.std.proofs.lemmas.List.Elements.{All-push}
 use Rattle.dm_token.specs.declared.stop.Stop.TheVariants.{Memory}
 use Rattle.dm_reading.specs.Layered.{IsLayered}
 use Rattle.dm_project.specs.Units.{IsTyped, ending, stopped, behind, token_count, ReadsNext, ReadsUnits}
-use Rattle.dm_project.proofs.LeaveLemmas.{leaves-trans}
+use Rattle.dm_project.proofs.LeaveLemmas.{leaves-handed, leaves-trans}
 use Rattle.dm_project.proofs.UnitLemmas.{all_behind, one-more, all-given, stopped-behind, cut, token_count-push, units-go, units-stop, units-end, next-memory, ended-with}
 use Rattle.dm_project.proofs.units.read_all.Goals as goal
 
@@ -21,6 +21,13 @@ returns-in_err-push-in-Ok-clause-units g c = λ files have.
       subst (ReadsUnits files c.args.units.now 0 c.args.loader.now)
           (stopped-behind c.loop-unit.given Memory new ∙ ended-with c.from_residual.result Memory (length c.loop-unit.given + 1) new c.from_residual.ensures.1) reads,
     )
+
+pub returns-in_err-push-in-Ok-clause-leaves : goal.returns-in_err-push-in-Ok-clause-leaves
+returns-in_err-push-in-Ok-clause-leaves g c =
+    leaves-handed c.from_residual.result c.from_residual.ensures.1
+    (leaves-trans (g.F.Folder.files c.args.folder.now) (g.F.Folder.files c.loop-unit.folder) (g.F.Folder.files c.read_next.new.folder) (g.F.Folder.room c.args.folder.now) (g.F.Folder.room c.loop-unit.folder) (g.F.Folder.room c.read_next.new.folder)
+    (g.F.Folder.faults c.args.folder.now) (g.F.Folder.faults c.loop-unit.folder) (g.F.Folder.faults c.read_next.new.folder) c.args.loader.now c.loop-unit.loader c.read_next.new.loader None
+    c.loop-unit.invariant.leaves c.in-Ok.ensures.leaves)
 
 pub returns-in-Err-clause-units : goal.returns-in-Err-clause-units
 returns-in-Err-clause-units g c = λ files have.

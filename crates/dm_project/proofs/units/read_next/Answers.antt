@@ -1,9 +1,9 @@
 -- A unit's reading, or its stop, or the limit.
-use Rattle.std.proofs.Common.{length, Option, Some, None, Result, Ok, Err, ap, subst, arith}
+use Rattle.std.proofs.Common.{length, Option, Some, None, Result, Ok, Err, refl, ap, subst, arith}
 use Rattle.dm_token.specs.declared.stop.Stop.{Stop}
 use Rattle.dm_reading.specs.declared.reading.Reading.{Reading}
 use Rattle.dm_project.specs.Leaves.{Leaves}
-use Rattle.dm_project.proofs.LeaveLemmas.{follows-grown, leaves-stop, reading-leaves}
+use Rattle.dm_project.proofs.LeaveLemmas.{follows-grown, leaves-stop, memory-no-fault, reading-leaves, there-stays}
 use Rattle.dm_project.proofs.UnitLemmas.{next-handed, handed-on, limit-no-fault}
 use Rattle.dm_project.proofs.units.read_next.Goals as goal
 
@@ -21,7 +21,30 @@ returns-in_err-reading-clause-leaves g c =
     (reading-leaves (g.F.Folder.files c.args.folder.now) (g.F.Folder.files c.read_unit-result.new.folder) (g.F.Folder.room c.args.folder.now) (g.F.Folder.room c.read_unit-result.new.folder)
     (g.F.Folder.faults c.args.folder.now) (g.F.Folder.faults c.read_unit-result.new.folder) c.args.loader.now c.read_unit-result.new.loader failed
     c.in_err-reading.ensures.files_stay c.in_err-reading.ensures.rooms_stay c.in_err-reading.ensures.later c.in_err-reading.ensures.failed c.in_err-reading.ensures.unknown c.in_err-reading.ensures.loader
-    (let names = ap length c.names.ensures.names in omega (arith, names, c.if-names-ge-MOST_NAMES.false)) c.in_err-reading.ensures.served)
+    (let names = ap length c.names.ensures.names in omega (arith, names, c.if-names-ge-MOST_NAMES.false)) c.in_err-reading.ensures.served c.number_names.ensures c.number_names-2.ensures)
+
+pub returns-then-names-ge-MOST_NAMES-clause-leaves : goal.returns-then-names-ge-MOST_NAMES-clause-leaves
+returns-then-names-ge-MOST_NAMES-clause-leaves g c =
+    let read = c.read_unit-result.ensures in
+    record {
+      files_stay = read.files_stay;
+      rooms_stay = read.rooms_stay;
+      later = read.later;
+      failed = λ file e. absurd (memory-no-fault file e);
+      unknown = λ file e. absurd (memory-no-fault file e);
+      grows = λ not. absurd (not refl);
+      roomy = λ not. absurd (not refl);
+      served = read.served;
+      there = there-stays (g.F.Folder.files c.args.folder.now) c.args.loader.now c.read_unit-result.new.loader c.number_names.ensures c.number_names-2.ensures read.served;
+    }
+
+pub returns-clause-leaves : goal.returns-clause-leaves
+returns-clause-leaves g c =
+    let given : Result Reading Stop = Ok c.in_ok-reading.reading in
+    reading-leaves (g.F.Folder.files c.args.folder.now) (g.F.Folder.files c.read_unit-result.new.folder) (g.F.Folder.room c.args.folder.now) (g.F.Folder.room c.read_unit-result.new.folder)
+    (g.F.Folder.faults c.args.folder.now) (g.F.Folder.faults c.read_unit-result.new.folder) c.args.loader.now c.read_unit-result.new.loader given
+    c.in_ok-reading.ensures.files_stay c.in_ok-reading.ensures.rooms_stay c.in_ok-reading.ensures.later c.in_ok-reading.ensures.failed c.in_ok-reading.ensures.unknown c.in_ok-reading.ensures.loader
+    (let names = ap length c.names.ensures.names in omega (arith, names, c.if-names-ge-MOST_NAMES.false)) c.in_ok-reading.ensures.served c.number_names.ensures c.number_names-2.ensures
 
 pub returns-then-len-spent-clause-leaves : goal.returns-then-len-spent-clause-leaves
 returns-then-len-spent-clause-leaves g c =
@@ -32,7 +55,7 @@ returns-then-len-spent-clause-leaves g c =
     (reading-leaves (g.F.Folder.files c.args.folder.now) (g.F.Folder.files c.read_unit-result.new.folder) (g.F.Folder.room c.args.folder.now) (g.F.Folder.room c.read_unit-result.new.folder)
     (g.F.Folder.faults c.args.folder.now) (g.F.Folder.faults c.read_unit-result.new.folder) c.args.loader.now c.read_unit-result.new.loader given
     c.in_ok-reading.ensures.files_stay c.in_ok-reading.ensures.rooms_stay c.in_ok-reading.ensures.later c.in_ok-reading.ensures.failed c.in_ok-reading.ensures.unknown c.in_ok-reading.ensures.loader
-    (let names = ap length c.names.ensures.names in omega (arith, names, c.if-names-ge-MOST_NAMES.false)) c.in_ok-reading.ensures.served)
+    (let names = ap length c.names.ensures.names in omega (arith, names, c.if-names-ge-MOST_NAMES.false)) c.in_ok-reading.ensures.served c.number_names.ensures c.number_names-2.ensures)
 
 pub returns-clause-next : goal.returns-clause-next
 returns-clause-next g c = λ files have. (

@@ -1,0 +1,17 @@
+-- The readings of a project's units by what the loader knows now.
+--     AreCurrent known files units readings      each unit has the reading that it has by this loader, which learns nothing from it
+--     AreSame readings others      two readings of each unit are one
+use Rattle.std.specs.Prelude.{List, Ok}
+use Rattle.std.specs.List.{AllZip}
+use Rattle.dm_token.specs.declared.unit.Unit.{Unit as Source}
+use Rattle.dm_io.specs.Files.{Files}
+use Rattle.dm_search.specs.Loaded.{Loaded}
+use Rattle.dm_reading.specs.declared.reading.Reading.{Reading}
+use Rattle.dm_read.specs.Reading.{AreOneReading}
+use Rattle.dm_local.specs.Kept.{IsReadBy}
+
+abbrev pub AreCurrent : Loaded → Files → List Source → List Reading → Type 0
+AreCurrent known files units readings = AllZip (IsReadBy known files) units readings
+
+abbrev pub AreSame : List Reading → List Reading → Type 0
+AreSame readings others = AllZip (λ (one other : Reading). AreOneReading (Ok one) (Ok other)) readings others
