@@ -1,6 +1,8 @@
-//! Tests of the judging of macros: the calls of `dm_names` and `dm_judge` over the readings of whole projects.
+//! Tests of the judging of macros: the calls of `dm_names`, `dm_judge` and `dm_alignment` over the readings of whole projects.
 #![tactic(auto)]
 
+#[cfg(test)]
+mod alignments;
 #[cfg(test)]
 mod names;
 #[cfg(test)]

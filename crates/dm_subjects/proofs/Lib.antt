@@ -1,0 +1,5 @@
+pub mod FileLemmas
+pub mod LineLemmas
+pub mod NewlineLemmas
+pub mod SearchLemmas
+pub mod SortLemmas

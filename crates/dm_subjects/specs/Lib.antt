@@ -1,0 +1,5 @@
+pub mod Alignments
+pub mod Files
+pub mod Lines
+pub mod Newlines
+pub mod Subjects

@@ -1,0 +1,19 @@
+//! The definitions of a project that are judged, each with the key by which it is found again after an edit; whether the units that an
+//! edit touches stay aligned; and the files that are written (ISO/IEC 9899:2011, 6.9, 6.10.3).
+#![tactic(auto)]
+
+mod alignments;
+mod files;
+mod found;
+mod held;
+mod lines;
+mod listing;
+mod newlines;
+mod subject;
+
+pub use alignments::are_all_aligned;
+pub use files::changed_files;
+pub use found::definition_at;
+pub use held::bytes_at;
+pub use listing::subjects;
+pub use subject::Subject;
