@@ -1,3 +1,9 @@
+mod ClapParts
+mod ClapReports
+mod ClapRuns
+mod ClapSteps
+mod CommandReading
+mod FitLemmas
 mod NumberLemmas
 mod PartLemmas
 mod RequestLemmas

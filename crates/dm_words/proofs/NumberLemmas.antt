@@ -71,3 +71,7 @@ read-is_number (digit ∷ digits) number read =
     (λ few. is_read (digit ∷ digits) number (omega arith) read few (cases_Bool _))
     (λ over. let none : Some number ≡ None = sym read ∙ too_long (digit ∷ digits) over in absurd cc)
     (cases_Bool (nat_le (length (digit ∷ digits)) most_digits))
+
+-- a text writes one number
+pub number_once : (text : List ℕ) (a b : ℕ) → IsNumber text a → IsNumber text b → a ≡ b
+number_once text a b left right = sym left.is ∙ right.is

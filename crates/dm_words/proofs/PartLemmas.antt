@@ -1,29 +1,27 @@
 -- The operands and options that words begin with are those that are read.
-use Rattle.std.proofs.Common.{◌≡◌, ℕ, Bool, true, false, cond, List, [], ◌∷◌, ◌++◌, length, take, drop, Option, Some, None, option_map, inl, inr, codes, refl, ap, ap₂, sym, subst, ◌==◌, ◌∙◌, ⊎_elim}
+use Rattle.std.proofs.Common.{◌≡◌, ℕ, Bool, true, false, cond, List, [], ◌∷◌, ◌++◌, length, take, drop, Option, Some, None, option_map, inl, inr, codes, bytes_eq, if◌then◌else◌, ◌⊎◌, refl, ap, ap₂, sym, subst, ◌==◌, ◌∙◌, ⊎_elim}
 use Rattle.std.proofs.lemmas.Bool.{cases_Bool, eqb-true, cond-true, cond-false}
 use Rattle.std.proofs.lemmas.List.{take-append-drop}
 use Rattle.std.proofs.lemmas.Slice.Eq.{bytes_eq-Decides}
 use Rattle.dm_words.specs.declared.part.Name.{Name}
 use Rattle.dm_words.specs.declared.part.Name.TheVariants as name
-use Rattle.dm_words.specs.Requests.{Part, operand, order, steps, input, Begins, BeginsOption, IsNumber, is_plain_word, equals_sign}
-use Rattle.dm_words.specs.Readings.{part_of, option_of, option_with, value_at, made_of, name_at, number_in, starts, then_read, with_behind}
-use Rattle.dm_words.proofs.NumberLemmas.{is_number-read, read-is_number}
+use Rattle.dm_words.specs.Requests.{Part, operand, json, order, steps, input, Begins, is_plain_word, equals_sign}
+use Rattle.dm_words.specs.Readings.{part_of, option_of, option_with, value_at, made_by, made_of, name_at, starts, then_read, with_behind}
 
 -- a part that words begin with is read
-number_option : (make : ℕ → Part) (behind : List (List ℕ)) (value : List ℕ) (number : ℕ) → IsNumber value number
-    → option_map (with_behind behind) (option_map make (number_in value)) ≡ Some (with_behind behind (make number))
-number_option make behind value number is = ap (λ found. option_map (with_behind behind) (option_map make found)) (is_number-read value number is)
+option_made : (make : List ℕ → Part) (behind : List (List ℕ)) (value : List ℕ) → is_plain_word value ≡ true
+    → option_map (with_behind behind) (cond (is_plain_word value) (Some (make value)) None) ≡ Some (with_behind behind (make value))
+option_made make behind value plain = ap (λ test. option_map (with_behind behind) (cond test (Some (make value)) None)) plain
 
 pub begins-read : (part : Part) (words behind : List (List ℕ)) → Begins part words behind → part_of words ≡ Some (with_behind behind part)
 begins-read (operand text) words behind is = ap part_of is.1 ∙ cond-true (is_plain_word text) _ _ is.0
-begins-read (order number) words behind (value, is, inl same) = ap part_of same ∙ number_option order behind value number is
-begins-read (order number) words behind (value, is, inr same) = ap part_of same ∙ number_option order behind value number is
-begins-read (steps number) words behind (value, is, inl same) = ap part_of same ∙ number_option steps behind value number is
-begins-read (steps number) words behind (value, is, inr same) = ap part_of same ∙ number_option steps behind value number is
-begins-read (input value) words behind (plain, inl same) =
-    ap part_of same ∙ ap (λ test. option_map (with_behind behind) (cond test (Some (input value)) None)) plain
-begins-read (input value) words behind (plain, inr same) =
-    ap part_of same ∙ ap (λ test. option_map (with_behind behind) (cond test (Some (input value)) None)) plain
+begins-read json words behind is = ap part_of is
+begins-read (order value) words behind (plain, inl same) = ap part_of same ∙ option_made order behind value plain
+begins-read (order value) words behind (plain, inr same) = ap part_of same ∙ option_made order behind value plain
+begins-read (steps value) words behind (plain, inl same) = ap part_of same ∙ option_made steps behind value plain
+begins-read (steps value) words behind (plain, inr same) = ap part_of same ∙ option_made steps behind value plain
+begins-read (input value) words behind (plain, inl same) = ap part_of same ∙ option_made input behind value plain
+begins-read (input value) words behind (plain, inr same) = ap part_of same ∙ option_made input behind value plain
 
 -- what is read begins the words
 some_is : {A : Type 0} {a b : A} → Some a ≡ Some b → a ≡ b
@@ -71,46 +69,44 @@ front name word is =
 record IsOption (name : Name) (words : List (List ℕ)) (part : Part) (behind : List (List ℕ)) : Type 0 where
   value : List ℕ
   made : made_of name value ≡ Some part
-  begins : BeginsOption (text_of name) value words behind
+  stands : (words ≡ text_of name ∷ value ∷ behind) ⊎ (words ≡ (text_of name ++ equals_sign ∷ value) ∷ behind)
 
 option-read : (name : Name) (word tail : List ℕ) (rest : List (List ℕ)) (part : Part) (behind : List (List ℕ)) → word ≡ text_of name ++ tail
     → option_with name (value_at tail rest) ≡ Some (with_behind behind part) → IsOption name (word ∷ rest) part behind
 option-read name word [] [] part behind is read = absurd cc
 option-read name word [] (value ∷ rest) part behind is read =
     let both = made_is (made_of name value) part rest behind read in
-    record { value = value; made = both.0; begins = inl (ap₂ (λ first others. first ∷ value ∷ others) (is ∙ alone name) both.1) }
+    record { value = value; made = both.0; stands = inl (ap₂ (λ first others. first ∷ value ∷ others) (is ∙ alone name) both.1) }
 option-read name word (byte ∷ value) rest part behind is read =
     ⊎_elim
     (λ equal.
     let both = made_is (made_of name value) part rest behind (sym (ap (option_with name) (cond-true (byte == equals_sign) (Some (value, rest)) None equal)) ∙ read) in
     let sign : byte ≡ equals_sign = eqb-true byte equals_sign equal in
-    record { value = value; made = both.0; begins = inr (ap₂ (λ first others. first ∷ others) (is ∙ ap (λ one. text_of name ++ one ∷ value) sign) both.1) })
+    record { value = value; made = both.0; stands = inr (ap₂ (λ first others. first ∷ others) (is ∙ ap (λ one. text_of name ++ one ∷ value) sign) both.1) })
     (λ other. let none : None ≡ Some (with_behind behind part) = sym (ap (option_with name) (cond-false (byte == equals_sign) (Some (value, rest)) None other)) ∙ read in absurd cc)
     (cases_Bool (byte == equals_sign))
 
--- a number that is made into a part
-number_made : (make : ℕ → Part) (value : List ℕ) (part : Part) (found : Option ℕ) → number_in value ≡ found → option_map make found ≡ Some part → (number : ℕ) × IsNumber value number × (make number ≡ part)
-number_made make value part None is made = absurd cc
-number_made make value part (Some number) is made = (number, read-is_number value number is, some_is made)
+begins_with : (name : Name) (value : List ℕ) (words behind : List (List ℕ)) → is_plain_word value ≡ true
+    → (words ≡ text_of name ∷ value ∷ behind) ⊎ (words ≡ (text_of name ++ equals_sign ∷ value) ∷ behind) → Begins (made_by name value) words behind
+begins_with name.Order value words behind plain stands = (plain, stands)
+begins_with name.Steps value words behind plain stands = (plain, stands)
+begins_with name.Input value words behind plain stands = (plain, stands)
 
-begins_made : (name : Name) (value : List ℕ) (part : Part) (words behind : List (List ℕ)) → made_of name value ≡ Some part → BeginsOption (text_of name) value words behind → Begins part words behind
-begins_made name.Order value part words behind made begins =
-    let found = number_made order value part (number_in value) refl made in
-    subst (λ one. Begins one words behind) found.2 (value, found.1, begins)
-begins_made name.Steps value part words behind made begins =
-    let found = number_made steps value part (number_in value) refl made in
-    subst (λ one. Begins one words behind) found.2 (value, found.1, begins)
-begins_made name.Input value part words behind made begins =
+begins_made : (name : Name) (value : List ℕ) (part : Part) (words behind : List (List ℕ)) → made_of name value ≡ Some part
+    → (words ≡ text_of name ∷ value ∷ behind) ⊎ (words ≡ (text_of name ++ equals_sign ∷ value) ∷ behind) → Begins part words behind
+begins_made name value part words behind made stands =
     ⊎_elim
-    (λ plain. subst (λ one. Begins one words behind) (some_is (sym (cond-true (is_plain_word value) (Some (input value)) None plain) ∙ made)) (plain, begins))
-    (λ other. let none : None ≡ Some part = sym (cond-false (is_plain_word value) (Some (input value)) None other) ∙ made in absurd cc)
+    (λ plain.
+    subst (λ one. Begins one words behind) (some_is (sym (cond-true (is_plain_word value) (Some (made_by name value)) None plain) ∙ made))
+    (begins_with name value words behind plain stands))
+    (λ other. let none : None ≡ Some part = sym (cond-false (is_plain_word value) (Some (made_by name value)) None other) ∙ made in absurd cc)
     (cases_Bool (is_plain_word value))
 
 named-read : (name : Name) (word : List ℕ) (rest : List (List ℕ)) (part : Part) (behind : List (List ℕ)) → starts (text_of name) word ≡ true → name_at word ≡ Some (name, drop 7 word)
     → option_of word rest ≡ Some (with_behind behind part) → Begins part (word ∷ rest) behind
 named-read name word rest part behind is named read =
     let found = option-read name word (drop 7 word) rest part behind (front name word is) (sym (ap (λ found. then_read found (λ given. option_with given.0 (value_at given.1 rest))) named) ∙ read) in
-    begins_made name found.value part (word ∷ rest) behind found.made found.begins
+    begins_made name found.value part (word ∷ rest) behind found.made found.stands
 
 option_of-read : (word : List ℕ) (rest : List (List ℕ)) (part : Part) (behind : List (List ℕ)) → option_of word rest ≡ Some (with_behind behind part) → Begins part (word ∷ rest) behind
 option_of-read word rest part behind read = at (starts (codes "--order") word) refl (starts (codes "--steps") word) refl (starts (codes "--input") word) refl
@@ -128,12 +124,22 @@ option_of-read word rest part behind read = at (starts (codes "--order") word) r
         let none : None ≡ Some (with_behind behind part) = sym (ap (λ found. then_read found (λ given. option_with given.0 (value_at given.1 rest))) unnamed) ∙ read in
         absurd cc
 
+unplain-read : (word : List ℕ) (rest : List (List ℕ)) (part : Part) (behind : List (List ℕ))
+    → (if bytes_eq word (codes "--json") then Some (with_behind rest json) else option_of word rest) ≡ Some (with_behind behind part) → Begins part (word ∷ rest) behind
+unplain-read word rest part behind read =
+    ⊎_elim
+    (λ is.
+    let both = same_parts json part rest behind (sym (cond-true (bytes_eq word (codes "--json")) (Some (with_behind rest json)) (option_of word rest) is) ∙ read) in
+    subst (λ one. Begins one (word ∷ rest) behind) both.0 (ap₂ (λ first others. first ∷ others) ((bytes_eq-Decides word (codes "--json")).0 is) both.1))
+    (λ other. option_of-read word rest part behind (sym (cond-false (bytes_eq word (codes "--json")) (Some (with_behind rest json)) (option_of word rest) other) ∙ read))
+    (cases_Bool (bytes_eq word (codes "--json")))
+
 pub read-begins : (words : List (List ℕ)) (part : Part) (behind : List (List ℕ)) → part_of words ≡ Some (with_behind behind part) → Begins part words behind
 read-begins [] part behind read = absurd cc
 read-begins (word ∷ rest) part behind read =
     ⊎_elim
     (λ plain.
-    let both = same_parts (operand word) part rest behind (sym (cond-true (is_plain_word word) (Some (with_behind rest (operand word))) (option_of word rest) plain) ∙ read) in
+    let both = same_parts (operand word) part rest behind (sym (cond-true (is_plain_word word) (Some (with_behind rest (operand word))) _ plain) ∙ read) in
     subst (λ one. Begins one (word ∷ rest) behind) both.0 (plain, ap (λ others. word ∷ others) both.1))
-    (λ other. option_of-read word rest part behind (sym (cond-false (is_plain_word word) (Some (with_behind rest (operand word))) (option_of word rest) other) ∙ read))
+    (λ other. unplain-read word rest part behind (sym (cond-false (is_plain_word word) (Some (with_behind rest (operand word))) _ other) ∙ read))
     (cases_Bool (is_plain_word word))

@@ -1,11 +1,27 @@
-//! What the words of `run` ask for.
+//! What words ask for.
 
-ghost use Rattle.std.specs.Prelude.{map, string_bytes, length};
-ghost use Rattle.dm_words.specs.Requests.{AsksAs};
-ghost use Rattle.dm_words.specs.Readings.{AsksBehind, TakesOn, MakesUp};
+ghost use Rattle.std.specs.Prelude.{◌≡◌, map, option_map, string_bytes, IfOk, Ok, None};
+ghost use Rattle.dm_words.specs.Requests.{Asks, AsksFor, Request as Wanted, asked_by};
 
-use crate::part::{Part, next_part};
-use dm_token::USUAL_STEPS;
+use crate::reading::read;
+use crate::testing::command_of;
+use dm_token::Memory;
+use std::alloc::Global;
+
+/// What good words ask for.
+#[derive(Clone, Copy, Debug, PartialEq, Eq)]
+pub enum Request<'a> {
+    /// To put the report of a project's plan, as JSON or in lines.
+    Plan { project: &'a [u8], json: bool },
+    /// To write what a project's plan changes and put the report, as JSON or in lines.
+    Apply { project: &'a [u8], json: bool },
+    /// To put the tokens of the unit of a project that has this main file.
+    Expand { project: &'a [u8], file: &'a [u8] },
+    /// To run a unit.
+    Run(RunWords<'a>),
+    /// To plan the generated project of so many definitions.
+    Gen { count: u64 },
+}
 
 /// What good words of `run` ask for.
 #[derive(Clone, Copy, Debug, PartialEq, Eq)]
@@ -21,106 +37,18 @@ pub struct RunWords<'a> {
     pub input: Option<&'a [u8]>,
 }
 
-/// The operands that were read.
-#[derive(Clone, Copy)]
-pub(crate) enum Operands<'a> {
-    Neither,
-    One(&'a [u8]),
-    Both(&'a [u8], &'a [u8]),
-}
+/// What words ask for, which is nothing where they are not good. The words are the command line without the program's name.
+pub fn read_request<'a>(alloc: Global, words: &'a [String]) -> Result<Option<Request<'a>>, Memory>
+    ensures asked { IfOk result (λ found. Asks (map string_bytes words.entry.now) (option_map asked_by found)) }
 
-/// What was read so far.
-#[derive(Clone, Copy)]
-pub(crate) struct Found<'a> {
-    operands: Operands<'a>,
-    order: Option<u64>,
-    steps: Option<u64>,
-    input: Option<&'a [u8]>,
-}
-
-/// What the words of `run` ask for, if they are good.
-pub fn run_words<'a>(words: &'a [String]) -> Option<RunWords<'a>>
-    ensures { AsksAs (map string_bytes words.entry.now) result }
+    // Where they are not good, that is told without memory.
+    ensures unasked { ((request : Wanted) → ¬ AsksFor (map string_bytes words.entry.now) request) → result ≡ Ok None }
 {
-    let (command, others) = words.split_first()?;
-    if command.as_str() != "run" {
-        return None;
-    }
-    read_on(
-        Found {
-            operands: Operands::Neither,
-            order: None,
-            steps: None,
-            input: None,
-        },
-        others,
-    )
-}
-
-/// What is asked for by what was read and the words behind it.
-fn read_on<'a>(found: Found<'a>, words: &'a [String]) -> Option<RunWords<'a>>
-    ensures { AsksBehind found.entry (map string_bytes words.entry.now) result }
-{
-    if words.is_empty() {
-        return request(found);
-    }
-    let (part, behind) = next_part(words)?;
-    read_on(with_part(found, part)?, behind)
-}
-
-/// What was read so far with one part more, if it may have that one.
-fn with_part<'a>(found: Found<'a>, part: Part<'a>) -> Option<Found<'a>>
-    ensures { TakesOn found.entry part.entry result }
-{
-    match part {
-        Part::Operand(text) => with_operand(found, text),
-        Part::Order(number) => match found.order {
-            None => Some(Found {
-                order: Some(number),
-                ..found
-            }),
-            Some(_) => None,
-        },
-        Part::Steps(number) => match found.steps {
-            None => Some(Found {
-                steps: Some(number),
-                ..found
-            }),
-            Some(_) => None,
-        },
-        Part::Input(name) => match found.input {
-            None => Some(Found {
-                input: Some(name),
-                ..found
-            }),
-            Some(_) => None,
-        },
-    }
-}
-
-fn with_operand<'a>(found: Found<'a>, text: &'a [u8]) -> Option<Found<'a>>
-    ensures { TakesOn found.entry (Part.Operand text.entry) result }
-{
-    let operands = match found.operands {
-        Operands::Neither => Operands::One(text),
-        Operands::One(first) => Operands::Both(first, text),
-        Operands::Both(_, _) => return None,
+    let Some(command) = command_of(words) else {
+        return Ok(None);
     };
-    Some(Found { operands, ..found })
-}
-
-/// What is asked for by what was read.
-fn request<'a>(found: Found<'a>) -> Option<RunWords<'a>>
-    ensures { MakesUp found.entry result }
-{
-    match found.operands {
-        Operands::Both(project, file) => Some(RunWords {
-            project,
-            file,
-            order: found.order.unwrap_or(0),
-            steps: found.steps.unwrap_or(USUAL_STEPS),
-            input: found.input,
-        }),
-        Operands::Neither | Operands::One(_) => None,
+    match read(alloc, command, words) {
+        Ok(request) => Ok(Some(request)),
+        Err(_) => Err(Memory),
     }
 }

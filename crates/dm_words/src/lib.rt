@@ -1,12 +1,14 @@
-//! The command line: which words are good, and what the words of `run` ask for.
+//! The command line: which words are good, and what they ask for.
 #![tactic(auto)]
 
 mod asked;
+mod command;
 mod laws;
 mod number;
 mod part;
 mod plain;
+mod reading;
+mod testing;
 
-pub use asked::{RunWords, run_words};
-pub use laws::one_run_request;
-pub use plain::is_plain_word;
+pub use asked::{Request, RunWords, read_request};
+pub use laws::one_request;

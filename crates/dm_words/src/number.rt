@@ -3,10 +3,10 @@ ghost use Rattle.dm_words.specs.Readings.{number_in, value_after, with_digit as 
 
 use dm_token::is_digit;
 
-/// How many digits the value of an option may have: as many as the greatest number of 64 bits.
+/// How many digits a number may have: as many as the greatest number of 64 bits.
 const MOST_DIGITS: usize = 20;
 
-/// The number of an option's value: one to twenty decimal digits, which write less than 2 to the power of 64.
+/// The number that a text writes: one to twenty decimal digits, which write less than 2 to the power of 64.
 pub(crate) fn number(text: &[u8]) -> Option<u64>
     ensures { result ≡ number_in text.now }
 {

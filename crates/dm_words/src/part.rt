@@ -3,20 +3,20 @@
 ghost use Rattle.std.specs.Prelude.{◌≡◌, ◌<◌, ◌≤◌, length, IfSome, map, option_map, string_bytes};
 ghost use Rattle.dm_words.specs.Readings.{meant, part_of, option_of, name_at as stands_at, value_at, made_of};
 
-use crate::number::number;
 use crate::plain::is_plain_word;
 
 /// An operand, or an option with its value.
 #[derive(Clone, Copy)]
 pub(crate) enum Part<'a> {
-    /// M or UNIT.
+    /// M, UNIT or the N of `gen`.
     Operand(&'a [u8]),
-    Order(u64),
-    Steps(u64),
+    Json,
+    Order(&'a [u8]),
+    Steps(&'a [u8]),
     Input(&'a [u8]),
 }
 
-/// The options.
+/// The options that have a value.
 #[derive(Clone, Copy)]
 pub(crate) enum Name {
     Order,
@@ -33,12 +33,14 @@ pub(crate) fn next_part<'a>(words: &'a [String]) -> Option<(Part<'a>, &'a [Strin
     let word = word.as_bytes();
     if is_plain_word(word) {
         Some((Part::Operand(word), behind))
+    } else if word == b"--json".as_slice() {
+        Some((Part::Json, behind))
     } else {
         option(word, behind)
     }
 }
 
-/// The option that a word begins.
+/// The option with a value that a word begins.
 fn option<'a>(word: &'a [u8], behind: &'a [String]) -> Option<(Part<'a>, &'a [String])>
     ensures shorter { IfSome result (λ found. length found.1.now ≤ length behind.entry.now) }
     ensures part { option_map (λ found. (meant found.0, map string_bytes found.1.now)) result ≡ option_of word.entry.now (map string_bytes behind.entry.now) }
@@ -83,15 +85,12 @@ fn value_behind<'a>(tail: &'a [u8], behind: &'a [String]) -> Option<(&'a [u8], &
 fn made<'a>(name: Name, value: &'a [u8]) -> Option<Part<'a>>
     ensures { option_map meant result ≡ made_of name value.entry.now }
 {
-    match name {
-        Name::Order => Some(Part::Order(number(value)?)),
-        Name::Steps => Some(Part::Steps(number(value)?)),
-        Name::Input => {
-            if is_plain_word(value) {
-                Some(Part::Input(value))
-            } else {
-                None
-            }
-        }
+    if !is_plain_word(value) {
+        return None;
     }
+    Some(match name {
+        Name::Order => Part::Order(value),
+        Name::Steps => Part::Steps(value),
+        Name::Input => Part::Input(value),
+    })
 }

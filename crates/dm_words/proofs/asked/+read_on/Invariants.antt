@@ -1,6 +1,0 @@
--- Each turn takes a word or two.
-use Rattle.std.proofs.Common.{length}
-use Rattle.dm_words.proofs.asked.+read_on.Given as goal
-
-abbrev pub decreases-read_on : goal.decreases-read_on
-decreases-read_on l = length l.words.now

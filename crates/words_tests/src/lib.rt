@@ -1,0 +1,7 @@
+//! Tests of what words ask for.
+#![tactic(auto)]
+
+#[cfg(test)]
+mod bad;
+#[cfg(test)]
+mod good;
