@@ -1,5 +1,6 @@
--- The report as JSON: the keys of each object in the order of their bytes.
+-- The report as JSON: the keys of each object in the order of their bytes. Names are put as text: bytes that are no UTF-8 become U+FFFD.
 use Rattle.std.specs.Prelude.{◌≡◌, ℕ, List, ◌++◌, codes, map, Some}
+use Rattle.std.specs.Str.Lossy.{utf8_lossy}
 use Rattle.serde_json.specs.Data.{Data, number, unsigned, string, array, object, member, no_members}
 use Rattle.serde_json.specs.Read.{read}
 use Rattle.serde_json.specs.View.{items_of}
@@ -22,24 +23,24 @@ natural n = number (unsigned n)
 abbrev pub place_data : List ℕ → Place → Data
 place_data file place =
     object (member (codes "column") (natural place.column)
-    (member (codes "file") (string file)
+    (member (codes "file") (string (utf8_lossy file))
     (member (codes "line") (natural place.line) no_members)))
 
 -- a definition in a file of this name that becomes a declaration
 abbrev pub rewritten_data : List ℕ → Definition → List ℕ → Data
 rewritten_data file definition kind =
     object (member (codes "as") (string kind)
-    (member (codes "file") (string file)
+    (member (codes "file") (string (utf8_lossy file))
     (member (codes "line") (natural definition.place.line)
-    (member (codes "name") (string definition.name)
+    (member (codes "name") (string (utf8_lossy definition.name))
     (member (codes "outcome") (string (codes "rewritten")) no_members)))))
 
 -- one that is kept by a rule
 abbrev pub kept_data : List ℕ → Definition → Data → ℕ → Data
 kept_data file definition place rule =
-    object (member (codes "file") (string file)
+    object (member (codes "file") (string (utf8_lossy file))
     (member (codes "line") (natural definition.place.line)
-    (member (codes "name") (string definition.name)
+    (member (codes "name") (string (utf8_lossy definition.name))
     (member (codes "outcome") (string (codes "kept"))
     (member (codes "place") place
     (member (codes "rule") (natural rule)

@@ -1,5 +1,4 @@
-ghost use Rattle.std.specs.Prelude.{◌≡◌, length, All, IfOk};
-ghost use Rattle.dm_report.specs.Plans.{IsKnown};
+ghost use Rattle.std.specs.Prelude.{◌≡◌, IfOk};
 ghost use Rattle.dm_report.specs.Lines.{report_of};
 
 use crate::lines::{append_entry, append_summary};
@@ -10,7 +9,6 @@ use std::alloc::Global;
 /// The report of a plan as text: a line for each definition, in the order of the plan, and one that counts them.
 #[tactic(auto, unfolding(crate::specs::Lines::report_of))]
 pub fn text(alloc: Global, plan: &Plan) -> Result<Text, Memory>
-    requires { All (IsKnown (length plan.now.names)) plan.now.entries }
     ensures { IfOk result (λ text. text ≡ report_of plan.now) }
 {
     let mut bytes = Vec::new(alloc);

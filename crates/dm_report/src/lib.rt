@@ -4,6 +4,7 @@
 mod as_json;
 mod as_text;
 mod counts;
+mod laws;
 mod lines;
 mod titles;
 mod values;
@@ -11,3 +12,5 @@ mod words;
 
 pub use as_json::json;
 pub use as_text::text;
+pub use counts::{kept_count, rewritten_count};
+pub use laws::ascii_names_stay;

@@ -1,7 +1,6 @@
-ghost use Rattle.std.specs.Prelude.{◌≡◌, ◌++◌, length, OnOk};
+ghost use Rattle.std.specs.Prelude.{◌≡◌, ◌++◌, OnOk};
 ghost use Rattle.dm_report.specs.Counts.{kept_count as kept_number, rewritten_count as rewritten_number};
 ghost use Rattle.dm_report.specs.Lines.{entry_line, kept_text, place_text, rewritten_line, summary_line};
-ghost use Rattle.dm_report.specs.Plans.{IsKnown};
 
 use crate::counts::{kept_count, rewritten_count};
 use crate::titles::title;
@@ -14,7 +13,6 @@ use itoa::Buffer;
 /// Appends the line of a definition.
 #[tactic(auto, unfolding(crate::specs::Lines::entry_line))]
 pub fn append_entry(bytes: &mut Vec<u8>, names: &[Text], entry: &Entry) -> Result<(), Memory>
-    requires { IsKnown (length names.now) entry.now }
     ensures { OnOk result (bytes.new.items ≡ bytes.old.items ++ entry_line names.now entry.now) }
 {
     let definition = &entry.definition;

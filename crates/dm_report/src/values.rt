@@ -1,9 +1,6 @@
-ghost use Rattle.std.specs.Prelude.{◌≡◌, length, map, All, IfOk};
-ghost use Rattle.std.specs.Str.{IsAscii};
+ghost use Rattle.std.specs.Prelude.{◌≡◌, map, IfOk};
 ghost use Rattle.serde_json.specs.View.{view};
 ghost use Rattle.dm_report.specs.JsonReport.{entry_data, kept_data, place_data, plan_data, rewritten_data, whole_data};
-ghost use Rattle.dm_report.specs.Plans.{HasAsciiName, IsKnown};
-ghost use Rattle.dm_report.specs.Titles.{IsRule};
 
 use crate::counts::{kept_count, rewritten_count};
 use crate::titles::title;
@@ -16,9 +13,6 @@ use std::alloc::{AllocError, Global};
 /// The report of a plan as a JSON value.
 #[tactic(auto, unfolding(crate::specs::JsonReport::plan_data))]
 pub fn plan_value(alloc: Global, plan: &Plan) -> Result<Value, Memory>
-    requires known { All (IsKnown (length plan.now.names)) plan.now.entries }
-    requires ascii_files { All IsAscii plan.now.names }
-    requires ascii_names { All HasAsciiName plan.now.entries }
     ensures { IfOk result (λ value. view value ≡ plan_data plan.now) }
 {
     let entries = plan.entries.items();
@@ -43,50 +37,46 @@ fn whole_value(
 
 /// A definition and what becomes of it.
 #[tactic(auto, unfolding(crate::specs::JsonReport::entry_data))]
-fn entry_value(alloc: Global, names: &[Text], entry: &Entry) -> Result<Value, Memory>
-    requires known { IsKnown (length names.now) entry.now }
-    requires ascii_files { All IsAscii names.now }
-    requires ascii_name { HasAsciiName entry.now }
+fn entry_value(alloc: Global, names: &[Text], entry: &Entry) -> Result<Value, AllocError>
     ensures { IfOk result (λ value. view value ≡ entry_data names.now entry.now) }
 {
     let definition = &entry.definition;
-    let file = text_of(file_name(names, definition.place.file));
+    let file = file_name(names, definition.place.file);
     match entry.outcome {
-        Fate::Rewritten(kind) => Ok(rewritten_value(alloc, file, definition, kind_word(kind))?),
+        Fate::Rewritten(kind) => rewritten_value(alloc, file, definition, kind_word(kind)),
         Fate::Kept { rule, place } => {
-            let place = place_value(alloc, text_of(file_name(names, place.file)), place)?;
-            Ok(kept_value(alloc, file, definition, place, rule)?)
+            let place = place_value(alloc, file_name(names, place.file), place)?;
+            kept_value(alloc, file, definition, place, rule)
         }
     }
 }
 
 fn rewritten_value(
     alloc: Global,
-    file: &str,
+    file: &[u8],
     definition: &Definition,
     kind: &str,
 ) -> Result<Value, AllocError>
-    requires { IsAscii definition.now.name }
     ensures { IfOk result (λ value. view value ≡ rewritten_data file.now definition.now kind.now) }
 {
     let line = definition.place.line;
-    let name = text_of(definition.name.bytes());
+    let file = String::from_utf8_lossy(alloc, file)?;
+    let name = String::from_utf8_lossy(alloc, definition.name.bytes())?;
     json!(in alloc; {"as": kind, "file": file, "line": line, "name": name, "outcome": "rewritten"})
 }
 
 fn kept_value(
     alloc: Global,
-    file: &str,
+    file: &[u8],
     definition: &Definition,
     place: Value,
     rule: u8,
 ) -> Result<Value, AllocError>
-    requires ascii { IsAscii definition.now.name }
-    requires titled { IsRule rule }
     ensures { IfOk result (λ value. view value ≡ kept_data file.now definition.now (view place) rule) }
 {
     let line = definition.place.line;
-    let name = text_of(definition.name.bytes());
+    let file = String::from_utf8_lossy(alloc, file)?;
+    let name = String::from_utf8_lossy(alloc, definition.name.bytes())?;
     let title = title(rule);
     json!(in alloc; {
         "file": file,
@@ -99,16 +89,9 @@ fn kept_value(
     })
 }
 
-fn place_value(alloc: Global, file: &str, place: Place) -> Result<Value, AllocError>
+fn place_value(alloc: Global, file: &[u8], place: Place) -> Result<Value, AllocError>
     ensures { IfOk result (λ value. view value ≡ place_data file.now place) }
 {
+    let file = String::from_utf8_lossy(alloc, file)?;
     json!(in alloc; {"column": place.column, "file": file, "line": place.line})
-}
-
-/// The same bytes as text.
-fn text_of(bytes: &[u8]) -> &str
-    requires { IsAscii bytes.now }
-    ensures { result.now ≡ bytes.now }
-{
-    str::from_utf8(bytes).unwrap()
 }

@@ -1,4 +1,4 @@
-ghost use Rattle.std.specs.Prelude.{◌≡◌, ◌<◌, length};
+ghost use Rattle.std.specs.Prelude.{◌≡◌};
 ghost use Rattle.dm_report.specs.Words.{file_name, kind_word};
 
 use dm_edit::As;
@@ -15,10 +15,12 @@ pub fn kind_word(kind: As) -> &'static str
     }
 }
 
-/// The name of the file of a number.
+/// The name of the file of a number, which is empty where there is none.
 pub fn file_name(names: &[Text], file: u32) -> &[u8]
-    requires { file < length names.now }
     ensures { result.now ≡ file_name names.now file }
 {
-    names[file as usize].bytes()
+    match names.get(file as usize) {
+        Some(name) => name.bytes(),
+        None => &[],
+    }
 }

@@ -1,0 +1,4 @@
+pub mod CommitLemmas
+pub mod CompleteLemmas
+pub mod EndingLemmas
+pub mod SummaryLemmas

@@ -1,0 +1,5 @@
+-- The ledger of the count.
+use Rattle.dm_apply.proofs.planning.plan_once.Given as goal
+
+abbrev pub ghosts-plan_counted : goal.ghosts-plan_counted
+ghosts-plan_counted g a = record { name = a.blank.name; parts = a.blank.parts }
