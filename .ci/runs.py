@@ -116,7 +116,7 @@ class Run:
 
 def wrong_words(run):
     run.put("a.c")
-    for words in [[], ["apply"], ["apply", "a.c", "a.c"], ["apply", "a.c", ""], ["plan", "a.c"]]:
+    for words in [[], ["apply"], ["apply", "a.c", "a.c"], ["apply", "a.c", ""], ["plan"], ["plan", "a.c", "--json", "--json"], ["gen", "1001"], ["gen", "a"]]:
         run.expect(words, 1, USAGE)
     for words in [["run", "a.c"], ["run", "a.c", "a.c", "--order"], ["run", "a.c", "a.c", "--steps", "-1"], ["run", "a.c", "a.c", "--order", "18446744073709551616"]]:
         run.expect(words, 1, USAGE)
@@ -143,14 +143,19 @@ def a_file_is_rewritten(run):
     run.has_only("b.c", "d")
 
 
-def other_sources_are_refused(run):
+NOTHING = b"rewritten 0 kept 0\n"
+
+
+def files_that_do_not_change(run):
     run.expect(["apply", "a.c"], 3, b"a.c:1:1: refusal 7 NotFound\n")
     run.put("a.c", NEW)
-    run.expect(["apply", "a.c"], 3, b"a.c:2:1: refusal 20 NotYet\n")
+    run.expect(["apply", "a.c"], 0, NOTHING)
     run.holds("a.c", NEW)
     run.expect(["apply", "a.c/b.c"], 3, b"a.c/b.c:1:1: refusal 7 NotFound\n")
+    run.put("a.c", OPENING + b"int main(void) { return 0 }\n")
+    run.expect(["apply", "a.c"], 3, b"a.c:2:1: refusal 16 Syntax\n")
     run.put("a.c", b"\n" * LIMIT)
-    run.expect(["apply", "a.c"], 3, b"a.c:1:1: refusal 20 NotYet\n")
+    run.expect(["apply", "a.c"], 0, NOTHING)
     run.put("a.c", b"\n" * (LIMIT + 1))
     run.expect(["apply", "a.c"], 4, b"limit L1 a.c\n")
     run.holds("a.c", b"\n" * (LIMIT + 1))
@@ -246,12 +251,19 @@ def output_that_fails(run):
     run.has_only("a.c")
 
 
+def memories(least, most):
+    """Numbers of bytes, each an eighth greater than the one before."""
+    while least <= most:
+        yield least
+        least += least // 8
+
+
 def want_of_memory_changes_nothing(run):
     old, new, report = large()
     run.put("a.c", old)
     run.give()
     statuses = set()
-    for memory in range(1 << 20, 40 << 20, 1 << 18):
+    for memory in memories(1 << 20, 4 << 30):
         ran = run.start(["apply", "a.c"], memory=memory)
         statuses.add(ran.returncode)
         if ran.returncode == 8:
@@ -407,11 +419,107 @@ def what_can_not_be_run_is_explained(run):
     run.expect(["run", "a.c", "a.c"], 4, b"limit L8 a.c\n")
 
 
+RING = os.path.join(os.path.dirname(os.path.dirname(os.path.abspath(__file__))), "examples")
+RING_REPORT = b"""\
+kept ring.h:2 RING_H rule 1 Body ring.h:2:9
+rewritten ring.h:4 RING_SIZE enumerator
+rewritten ring.h:5 RING_MASK enumerator
+rewritten ring.h:6 RING_NEXT function
+kept ring.h:7 RING_IS_EMPTY rule 12 Type main.c:15:13
+kept ring.h:8 RING_BIT rule 10 Constant ring.h:9:44
+rewritten ring.h:9 RING_OVERFLOWN constant
+kept ring.h:10 MAX rule 14 Evaluation main.c:16:16
+rewritten main.c:4 SHOW function
+rewritten 5 kept 4
+"""
+RING_LINES = [
+    (b"#define RING_SIZE 16\n", b"enum { RING_SIZE = 16 };\n"),
+    (b"#define RING_MASK (RING_SIZE - 1)\n", b"enum { RING_MASK = (RING_SIZE - 1) };\n"),
+    (b"#define RING_NEXT(i) (((i) + 1) & RING_MASK)\n", b"static inline int RING_NEXT(int i) { return (((i) + 1) & RING_MASK); }\n"),
+    (b"#define RING_OVERFLOWN RING_BIT(0)\n", b"static const unsigned int RING_OVERFLOWN = RING_BIT(0);\n"),
+    (b"#define SHOW(c) putchar(c)\n", b"static inline int SHOW(int c) { return putchar(c); }\n"),
+]
+
+
+def ring_files():
+    """The example of a project, and the same rewritten."""
+    old = {}
+    for name in ["ring.json", "ring.h", "ring.c", "main.c"]:
+        with open(os.path.join(RING, name), "rb") as file:
+            old[name] = file.read()
+    new = dict(old)
+    for before, after in RING_LINES:
+        new = {name: text.replace(before, after) for name, text in new.items()}
+    return old, new
+
+
+def a_project_is_planned_and_applied(run):
+    old, new = ring_files()
+    for name, text in old.items():
+        run.put(name, text)
+    run.expect(["plan", "ring.json"], 0, RING_REPORT)
+    for name, text in old.items():
+        run.holds(name, text)
+    run.expect(["apply", "ring.json"], 0, RING_REPORT)
+    for name, text in new.items():
+        run.holds(name, text)
+    run.expect(["run", "ring.json", "main.c"], 0, b"\x00\n[exit 0]\n")
+    run.has_only(*old)
+
+
+def reports_are_json(run):
+    run.put("a.c", b"#define SQ(x) ((x)*(x))\nint main(void) { int i = 3; return SQ(i++); }\n")
+    kept = b'{"definitions":[{"file":"a.c","line":1,"name":"SQ","outcome":"kept","place":{"column":36,"file":"a.c","line":2},"rule":14,"title":"Evaluation"}],"kept":1,"rewritten":0}\n'
+    run.expect(["plan", "a.c", "--json"], 0, kept)
+    run.expect(["apply", "--json", "a.c"], 0, kept)
+    run.put("a.c")
+    run.expect(["apply", "a.c", "--json"], 0, b'{"definitions":[{"as":"enumerator","file":"a.c","line":2,"name":"N","outcome":"rewritten"}],"kept":0,"rewritten":1}\n')
+    run.holds("a.c", NEW)
+
+
+def a_write_that_fails_between_others(run):
+    run.put("m.json", b'{"units": [{"file": "c.c"}, {"file": "a.c"}, {"file": "b.c"}]}')
+    old, new = b"#define N 1\nint n = N;\n", b"enum { N = 1 };\nint n = N;\n"
+    comment = b"/* %s */\n" % (b"b" * 4096)
+    for name, text in [("a.c", old), ("b.c", comment + old), ("c.c", old)]:
+        run.put(name, text)
+    run.expect(["apply", "m.json"], 6, b"write fault b.c\n", size=2048)
+    for name, text in [("a.c", new), ("b.c", comment + old), ("c.c", old)]:
+        run.holds(name, text)
+    run.expect(["apply", "m.json"], 0, b"rewritten c.c:1 N enumerator\nrewritten b.c:2 N enumerator\nrewritten 2 kept 0\n")
+    run.holds("b.c", comment + new)
+    run.holds("c.c", new)
+    run.has_only("a.c", "b.c", "c.c", "m.json")
+
+
+def what_can_not_be_planned_is_explained(run):
+    run.expect(["apply", "m.json"], 2, b"manifest M1 m.json\n")
+    run.expect(["plan", "../a.c"], 2, b"manifest M4 ../a.c\n")
+    run.put("m.json", b'{"units": [{"file": "a.c"}, {"file": "b.c"}]}')
+    run.put("a.c", OLD)
+    run.put("b.c", b"int a;\nlong a;\n")
+    run.expect(["apply", "m.json"], 3, b"b.c:2:6: refusal 17 Type C2\n")
+    run.holds("a.c", OLD)
+    units = [b'{"file": "a.c", "define": ["D%d"]}' % number for number in range(257)]
+    run.put("m.json", b'{"units": [%s]}' % b", ".join(units))
+    run.expect(["plan", "m.json"], 4, b"limit L7 m.json\n")
+    lines = b"".join(b"#define N%d 1\n" % number for number in range(4097))
+    run.put("a.c", lines)
+    run.expect(["plan", "a.c"], 4, b"limit L8 a.c\n")
+
+
+def generated_projects_are_planned(run):
+    run.expect(["gen", "0"], 0, b"definitions 0 rewritten 0 kept 0 bytes 90 90\n")
+    for number in ["100", "00000000000000000100"]:
+        run.expect(["gen", number], 0, b"definitions 100 rewritten 75 kept 25 bytes 8142 9417\n")
+    run.has_only()
+
+
 RUNS = [
     wrong_words,
     words_that_are_not_utf8,
     a_file_is_rewritten,
-    other_sources_are_refused,
+    files_that_do_not_change,
     a_file_of_a_mebibyte,
     permissions_are_kept,
     links_are_followed,
@@ -427,6 +535,11 @@ RUNS = [
     a_listing_that_can_not_be_put,
     a_program_is_run,
     what_can_not_be_run_is_explained,
+    a_project_is_planned_and_applied,
+    reports_are_json,
+    a_write_that_fails_between_others,
+    what_can_not_be_planned_is_explained,
+    generated_projects_are_planned,
 ]
 
 

@@ -4,11 +4,11 @@ use Rattle.std.specs.Vec.Iter.{into_iter_items, into_iter_len}
 use Rattle.std.specs.declared.io.ErrorKind.{ErrorKind}
 use Rattle.std.specs.declared.io.ErrorKind.TheVariants.{OutOfMemory}
 use Rattle.std.specs.declared.vec.IntoIter.{IntoIter}
-use Rattle.demacro.specs.Texts.{usage_line}
+use Rattle.demacro.specs.Usage.{usage_line}
 use Rattle.dm_lines.specs.Puts.{PutsText}
 use Rattle.dm_lines.specs.Outside.{Outside}
 use Rattle.dm_lines.specs.Statuses as statuses
-use Rattle.demacro.specs.Endings.{Ending, status_of, memory_wanted, EndsWithoutFile}
+use Rattle.demacro.specs.Endings.{EndsUnasked, EndsWanting}
 
 -- what an iterator is still to give
 abbrev pub items_of : {X A : Type 0} → IntoIter X A → List X
@@ -27,4 +27,4 @@ PutsUsage before after faults_before faults_after status =
 -- the process ends as with wrong words, and for want of memory where the arguments can't be read for that
 abbrev pub EndsUnread : ErrorKind → Outside → Outside → ℕ → Type 0
 EndsUnread kind before after status =
-    (ending : Ending) × (status ≡ status_of ending) × EndsWithoutFile before after ending × (is_want_of_memory kind ≡ true → ending ≡ memory_wanted)
+    (EndsUnasked before after status ⊎ EndsWanting before after status) × (is_want_of_memory kind ≡ true → EndsWanting before after status)

@@ -1,11 +1,4 @@
 pub mod Arguments
-pub mod CommandLine
-pub mod Commits
+pub mod Completeness
 pub mod Endings
-pub mod Listings
-pub mod Plans
-pub mod Projects
-pub mod RunEndings
-pub mod Texts
-pub mod UnitEndings
-pub mod Words
+pub mod Usage

@@ -2,18 +2,12 @@
 //! folder, and ends with the exit code of `run_process`.
 #![tactic(auto)]
 
-mod applying;
-mod expanding;
-mod explaining;
-mod listing;
-mod parsing;
+mod laws;
 mod planning;
 mod process;
-mod project;
-mod reporting;
 mod running;
 mod top;
-mod words;
+mod usage;
 
 use dm_io::{RealFolder, RealSink};
 use process::run_process;

@@ -1,95 +1,52 @@
-ghost use Rattle.std.specs.Prelude.{◌≡◌, ◌≤◌, IfOk, length};
-ghost use Rattle.dm_token.specs.Limits.{source_length_limit};
-ghost use Rattle.demacro.specs.Plans.{IsChange, IsPrepared, IsPlan, IsPlanFor};
+ghost use Rattle.std.specs.Prelude.{◌≡◌, ◌≤◌};
+ghost use Rattle.dm_lines.specs.Outside.{outside};
+ghost use Rattle.dm_words.specs.Requests.{apply, plan};
+ghost use Rattle.demacro.specs.Endings.{EndsForAs};
 
-use crate::reporting::report;
-use dm_core::First;
-use dm_io::{Folder, Got};
-use dm_lines::write_fault_line;
-use dm_plan::first;
-use dm_token::{List, Memory, Place, Stop, Text, source_length_limit};
+use dm_apply::{apply_command, plan_command};
+use dm_io::{Folder, Sink};
+use dm_sources::{Sources, explain_no_sources, sources_of};
+use dm_token::{Memory, Text};
 use std::alloc::Global;
 
-/// Why there is nothing to apply.
-#[derive(Clone, Copy, Debug, PartialEq, Eq)]
-pub enum Trouble {
-    /// There is no such file.
-    NotFound,
-    /// The file isn't of the first form, which shows here.
-    NotYet(Place),
-    /// The file is too long.
-    TooLong,
-    /// The file can't be read.
-    ReadFault,
-}
-
-/// What is applied: all bytes that are written, and all that may be put.
-#[derive(Debug, Drop)]
-pub struct Prepared {
-    /// The file's new bytes, where they differ from the old.
-    pub change: Option<List<u8>>,
-    /// What is put where all is done.
-    pub report: List<u8>,
-    /// What is put where the file can't be written.
-    pub fault_line: List<u8>,
-}
-
-/// What is to be done.
-#[derive(Debug, Drop)]
-pub enum Plan {
-    Apply(Prepared),
-    Explain(Trouble),
-}
-
-/// Reads the file and plans its change.
-pub fn make_plan<F: Folder>(alloc: Global, folder: &mut F, name: &Text) -> Result<Plan, Memory>
-    ensures planned { IfOk result (IsPlan (F.files folder.old) name.now (F.faults folder.old) (F.faults folder.new)) }
-    ensures files_stay { F.files folder.new ≡ F.files folder.old }
-    ensures later { F.faults folder.old ≤ F.faults folder.new }
-{
-    match folder.read(alloc, name, source_length_limit())? {
-        Got::Bytes(bytes) => plan_for(alloc, name.bytes(), bytes.items()),
-        Got::Absent => Ok(Plan::Explain(Trouble::NotFound)),
-        Got::Long => Ok(Plan::Explain(Trouble::TooLong)),
-        Got::Failed => Ok(Plan::Explain(Trouble::ReadFault)),
-    }
-}
-
-/// Plans the change of a file with these bytes.
-fn plan_for(alloc: Global, name: &[u8], bytes: &[u8]) -> Result<Plan, Memory>
-    requires { length bytes.now ≤ source_length_limit }
-    ensures { IfOk result (IsPlanFor name.now bytes.now) }
-{
-    match first(alloc, 0, bytes) {
-        Ok((form, text)) => Ok(Plan::Apply(prepare(alloc, name, bytes, form, text)?)),
-        Err(Stop::Refused(refusal)) => Ok(Plan::Explain(Trouble::NotYet(refusal.place))),
-        Err(_) => Err(Memory),
-    }
-}
-
-/// Makes all bytes that applying the change needs.
-fn prepare(
+/// Plans the changes of a project's files: puts the report, or why there is none. No file is written.
+pub fn plan_project<F: Folder, S: Sink>(
     alloc: Global,
-    name: &[u8],
-    bytes: &[u8],
-    form: First,
-    text: List<u8>,
-) -> Result<Prepared, Memory>
-    ensures { IfOk result (IsPrepared name.now bytes.now form text) }
+    project: &[u8],
+    json: bool,
+    folder: &mut F,
+    out: &mut S,
+) -> Result<u8, Memory>
+    ensures ending { EndsForAs (plan project.now json)
+        (outside F.Folder S.Sink folder.old out.old)
+        (outside F.Folder S.Sink folder.new out.new) result }
+    ensures folder_later { F.faults folder.old ≤ F.faults folder.new }
+    ensures sink_later { S.faults out.old ≤ S.faults out.new }
 {
-    let report = List::from_vec(report(alloc, name, form.names.items())?);
-    let fault_line = List::from_vec(write_fault_line(alloc, name)?);
-    let change = changed(bytes, text);
-    Ok(Prepared {
-        change,
-        report,
-        fault_line,
-    })
+    let project = Text::from_bytes(alloc, project)?;
+    match sources_of(alloc, folder, &project)? {
+        Sources::Found(units) => plan_command(alloc, &project, units.items(), json, folder, out),
+        Sources::Missing(why) => explain_no_sources(alloc, out, project.bytes(), &why),
+    }
 }
 
-/// The new bytes, where they differ.
-fn changed(old: &[u8], new: List<u8>) -> Option<List<u8>>
-    ensures { IsChange old.now new result }
+/// Changes a project's files as planned: writes them and puts the report, or puts why nothing is written.
+pub fn apply_project<F: Folder, S: Sink>(
+    alloc: Global,
+    project: &[u8],
+    json: bool,
+    folder: &mut F,
+    out: &mut S,
+) -> Result<u8, Memory>
+    ensures ending { EndsForAs (apply project.now json)
+        (outside F.Folder S.Sink folder.old out.old)
+        (outside F.Folder S.Sink folder.new out.new) result }
+    ensures folder_later { F.faults folder.old ≤ F.faults folder.new }
+    ensures sink_later { S.faults out.old ≤ S.faults out.new }
 {
-    if new.items() == old { None } else { Some(new) }
+    let project = Text::from_bytes(alloc, project)?;
+    match sources_of(alloc, folder, &project)? {
+        Sources::Found(units) => apply_command(alloc, &project, units.items(), json, folder, out),
+        Sources::Missing(why) => explain_no_sources(alloc, out, project.bytes(), &why),
+    }
 }

@@ -6,8 +6,8 @@ ghost use Rattle.demacro.specs.Endings.{Ends};
 ghost use Rattle.dm_lines.specs.Outside.{outside};
 ghost use Rattle.dm_lines.specs.Statuses as statuses;
 
-use crate::explaining::explain_usage;
 use crate::top::run;
+use crate::usage::explain_usage;
 use dm_io::{Folder, Sink};
 use dm_lines::statuses;
 use dm_token::Memory;

@@ -1,12 +1,11 @@
 ghost use Rattle.std.specs.Prelude.{◌≡◌, ◌≤◌};
 ghost use Rattle.dm_lines.specs.Outside.{outside};
-ghost use Rattle.dm_words.specs.Requests.{request_of};
-ghost use Rattle.demacro.specs.RunEndings.{EndsRunningAs};
+ghost use Rattle.dm_words.specs.Requests.{request_of, run};
+ghost use Rattle.demacro.specs.Endings.{EndsForAs};
 
-use crate::explaining::explain_no_unit;
-use crate::project::{Sought, find_unit};
 use dm_io::{Folder, Sink};
 use dm_running::run_unit;
+use dm_sources::{Sought, explain_no_unit, find_unit};
 use dm_token::{Memory, Text};
 use dm_words::RunWords;
 use std::alloc::Global;
@@ -18,7 +17,7 @@ pub fn run_program<F: Folder, S: Sink>(
     folder: &mut F,
     out: &mut S,
 ) -> Result<u8, Memory>
-    ensures ending { EndsRunningAs (request_of asked.now)
+    ensures ending { EndsForAs (run (request_of asked.now))
         (outside F.Folder S.Sink folder.old out.old)
         (outside F.Folder S.Sink folder.new out.new) result }
     ensures folder_later { F.faults folder.old ≤ F.faults folder.new }

@@ -8,6 +8,15 @@ use std::alloc::Global;
 use std::process::Abort;
 use std::test::Fail;
 
+/// What has to come of a call.
+#[derive(Clone, Copy)]
+pub struct Outcome<'a> {
+    pub status: u8,
+    pub output: &'a str,
+    /// The files that change, as they are then.
+    pub changed: &'a str,
+}
+
 /// The words of a call, with one space between two of them.
 fn words_of(alloc: Global, line: &str) -> Result<Vec<String>, Fail> {
     let mut words = Vec::new(alloc);
@@ -31,7 +40,55 @@ fn folder_of(alloc: Global, failing: List<u32>, files: &str) -> Result<MemoryFol
     Ok(folder)
 }
 
+/// The text of a file among others.
+fn text_among<'a>(files: &'a str, wanted: &str) -> Option<&'a str> {
+    for file in files.split("== ") {
+        if let Some((name, text)) = file.split_once('\n') {
+            if name == wanted {
+                return Some(text);
+            }
+        }
+    }
+    None
+}
+
+/// Compares the files of a folder with what they were before a call and those of them that change.
+fn expect_files<R: Abort + AllocGlobal>(
+    rt: &R,
+    line: &str,
+    folder: &MemoryFolder,
+    before: &str,
+    changed: &str,
+) -> Result<(), Fail> {
+    for file in before.split("== ") {
+        if let Some((name, old)) = file.split_once('\n') {
+            let wanted = text_among(changed, name).unwrap_or(old);
+            let name = Text::new(rt.alloc(), name)?;
+            assert_eq!(rt; folder.file(&name), Some(wanted.as_bytes()), "{line}");
+        }
+    }
+    Ok(())
+}
+
 /// Makes a call on a folder, in which these calls of the sink fail, and compares the status and the output.
+fn call_on<R: Abort + AllocGlobal>(
+    rt: &R,
+    line: &str,
+    folder: &mut MemoryFolder,
+    failing_puts: &[u32],
+    status: u8,
+    output: &str,
+) -> Result<(), Fail> {
+    let alloc = rt.alloc();
+    let mut out = MemorySink::new(alloc, numbers(alloc, failing_puts)?);
+    let words = words_of(alloc, line)?;
+    let ended = run(alloc, &words, folder, &mut out);
+    assert_eq!(rt; ended, status, "{line}");
+    assert_eq!(rt; out.bytes(), output.as_bytes(), "{line}");
+    Ok(())
+}
+
+/// The same on a folder that isn't used any more.
 pub fn expect_on<R: Abort + AllocGlobal>(
     rt: &R,
     line: &str,
@@ -40,17 +97,33 @@ pub fn expect_on<R: Abort + AllocGlobal>(
     status: u8,
     output: &str,
 ) -> Result<(), Fail> {
-    let alloc = rt.alloc();
     let mut folder = folder;
-    let mut out = MemorySink::new(alloc, numbers(alloc, failing_puts)?);
-    let words = words_of(alloc, line)?;
-    let ended = run(alloc, &words, &mut folder, &mut out);
-    assert_eq!(rt; ended, status, "{line}");
-    assert_eq!(rt; out.bytes(), output.as_bytes(), "{line}");
-    Ok(())
+    call_on(rt, line, &mut folder, failing_puts, status, output)
 }
 
-/// The same on files of a text, where these calls of the folder fail too.
+/// Makes a call on files of a text, in which these calls of the folder and the sink fail, and compares what comes of it.
+pub fn expect_outcome<R: Abort + AllocGlobal>(
+    rt: &R,
+    line: &str,
+    files: &str,
+    failing: &[u32],
+    failing_puts: &[u32],
+    outcome: &Outcome,
+) -> Result<(), Fail> {
+    let alloc = rt.alloc();
+    let mut folder = folder_of(alloc, numbers(alloc, failing)?, files)?;
+    call_on(
+        rt,
+        line,
+        &mut folder,
+        failing_puts,
+        outcome.status,
+        outcome.output,
+    )?;
+    expect_files(rt, line, &folder, files, outcome.changed)
+}
+
+/// The same where no file changes.
 pub fn expect_failing<R: Abort + AllocGlobal>(
     rt: &R,
     line: &str,
@@ -60,12 +133,15 @@ pub fn expect_failing<R: Abort + AllocGlobal>(
     status: u8,
     output: &str,
 ) -> Result<(), Fail> {
-    let alloc = rt.alloc();
-    let folder = folder_of(alloc, numbers(alloc, failing)?, files)?;
-    expect_on(rt, line, folder, failing_puts, status, output)
+    let outcome = Outcome {
+        status,
+        output,
+        changed: "",
+    };
+    expect_outcome(rt, line, files, failing, failing_puts, &outcome)
 }
 
-/// The same, in which none fails.
+/// The same where nothing fails either.
 pub fn expect<R: Abort + AllocGlobal>(
     rt: &R,
     line: &str,

@@ -2,8 +2,8 @@
 use Rattle.std.proofs.Common.{refl, subst}
 use Rattle.dm_lines.specs.Outside.{outside}
 use Rattle.dm_words.specs.Requests.{request_of}
-use Rattle.demacro.specs.Projects.{IsSought}
-use Rattle.demacro.proofs.ProgramSteps.{program_found, program_missing}
+use Rattle.dm_sources.specs.Sources.{IsSought}
+use Rattle.demacro.proofs.RunSteps.{program_found, program_missing}
 use Rattle.demacro.proofs.running.run_program.Goals as goal
 
 pub returns-in-Found-clause-ending : goal.returns-in-Found-clause-ending

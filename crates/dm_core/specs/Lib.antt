@@ -1,5 +1,0 @@
-pub mod Texts
-pub mod Programs
-pub mod Outcomes
-pub mod Forms
-pub mod Readings

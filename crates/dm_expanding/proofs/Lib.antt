@@ -1,0 +1,2 @@
+pub mod ExpandSteps
+pub mod ListingSteps

@@ -1,4 +1,0 @@
-pub mod Answers
-pub mod Scans
-pub mod Macros
-pub mod Sums

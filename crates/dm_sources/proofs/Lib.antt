@@ -1,0 +1,5 @@
+pub mod Iterators
+pub mod ListSteps
+pub mod ProjectLaws
+pub mod Short
+pub mod SourceSteps
