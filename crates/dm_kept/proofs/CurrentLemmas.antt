@@ -5,11 +5,8 @@ use Rattle.std.specs.Result.{result_map_both}
 use Rattle.std.proofs.lemmas.Bool.{cases_eq, cases_lt, or_cases}
 use Rattle.std.proofs.lemmas.List.{append-nil, get_or_past, length-set}
 use Rattle.dm_token.specs.declared.stop.Stop.{Stop}
-use Rattle.dm_token.specs.declared.stop.Stop.TheVariants.{Memory, Refused, Limit, ReadFault}
 use Rattle.dm_token.specs.declared.unit.Unit.{Unit as Source}
 use Rattle.dm_io.specs.Files.{Files}
-use Rattle.dm_search.specs.CallFiles.{file_for}
-use Rattle.dm_search.specs.Fresh.{StartsWithHeaders}
 use Rattle.dm_search.specs.Headers.{header_names}
 use Rattle.dm_search.specs.Loaded.{Loaded, name_of, number_of, held_at, is_held, is_absent, with_bytes}
 use Rattle.dm_unit.specs.Loaders.{is_known, shown}
@@ -233,19 +230,20 @@ module _ (files : Files) (file : ℕ) where
 
 -- ---- a file whose bytes change
 
+-- what is held has a place
+pub held-place : (loaded : Loaded) (file : ℕ) → is_held loaded file ≡ true → file < length loaded.held
+held-place loaded file held = by (cases_lt file (length loaded.held))
+  where
+    by : (file < length loaded.held) ⊎ (length loaded.held ≤ file) → file < length loaded.held
+    by (inl h) = h
+    by (inr past) = absurd (true≢false (sym held ∙ ap is_some (get_or_past loaded.held file None past)))
+
 module _ (files : Files) (known : Loaded) (file : ℕ) (bytes : List ℕ) (held : is_held known file ≡ true) where
   held-edited : (other : ℕ) → is_held known other ≡ true → is_held (with_bytes known file bytes) other ≡ true
   held-edited other h = by (cases_eq other file)
     where
-      inside : file < length known.held
-      inside = by (cases_lt file (length known.held))
-        where
-          by : (file < length known.held) ⊎ (length known.held ≤ file) → file < length known.held
-          by (inl h) = h
-          by (inr past) = absurd (true≢false (sym held ∙ ap is_some (get_or_past known.held file None past)))
-
       by : (other ≡ file) ⊎ (other ≡ file → ⊥) → is_held (with_bytes known file bytes) other ≡ true
-      by (inl same) = ap (is_held (with_bytes known file bytes)) same ∙ ap is_some (held-now known file bytes inside)
+      by (inl same) = ap (is_held (with_bytes known file bytes)) same ∙ ap is_some (held-now known file bytes (held-place known file held))
       by (inr apart) = ap is_some (held-other known file other bytes apart) ∙ h
 
   pub edited-loader : IsOfLoader known → IsOfLoader (with_bytes known file bytes)

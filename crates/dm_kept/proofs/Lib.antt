@@ -1,1 +1,2 @@
 mod CurrentLemmas
+mod PutBackLemmas

@@ -8,8 +8,9 @@ ghost use Rattle.dm_unit.specs.Loaders.{shown};
 ghost use Rattle.dm_reading.specs.declared.reading.Reading.{Reading};
 ghost use Rattle.dm_local.specs.Kept.{IsOfLoader};
 ghost use Rattle.dm_project.specs.Again.{IsReadAgain, put_in};
+ghost use Rattle.dm_project.specs.Leaves.{Follows};
 ghost use Rattle.dm_project.specs.Units.{ReadsProject, ending};
-ghost use Rattle.dm_kept.specs.Current.{AreCurrent, AreSame};
+ghost use Rattle.dm_kept.specs.Current.{AreCurrent, AreSame, put_back};
 
 use dm_local::{readings_learn_nothing, readings_stay_where_not_edited};
 
@@ -30,6 +31,14 @@ pub fn readings_again_are_current()
     // The law on which its proof rests.
     readings_stay_where_not_edited();
 }
+
+/// So it has where the old bytes are put back behind such a reading: then all units keep their readings.
+pub fn readings_stay_where_bytes_are_put_back()
+    ensures { (files : Files) (file : ℕ) (bytes : List ℕ) (units : List Source) (kept : List Reading) (known new : Loaded) →
+        IsOfLoader known → is_held known file ≡ true → AreCurrent known files units kept →
+        Follows files (with_bytes known file bytes) new → IsOfLoader new →
+        IsOfLoader (put_back known file new) × AreCurrent (put_back known file new) files units kept }
+{}
 
 /// So the reading of all units once more gives the same readings, and the loader knows the same files.
 pub fn all_readings_again_are_the_same()

@@ -5,4 +5,5 @@ mod laws;
 
 pub use laws::{
     all_readings_again_are_the_same, first_readings_are_current, readings_again_are_current,
+    readings_stay_where_bytes_are_put_back,
 };

@@ -1,20 +1,16 @@
 -- The units that are left to be read again come behind those that were.
-use Rattle.std.proofs.Common.{◌≡◌, ◌≢◌, inl, inr, ℕ, ◌+◌, ◌<◌, ◌≤◌, Bool, true, false, List, [], ◌∷◌, ◌++◌, length, drop, map, filter, cond, All, Option, Some, None, IfSome, is_some, unwrap_or, Result, Ok, Err, IfOk, IsErrAnd, OnOk, refl, sym, ap, ◌∙◌, subst, arith, append_assoc, add_assoc, append-nil}
+use Rattle.std.proofs.Common.{◌≡◌, ◌≢◌, inl, inr, ℕ, ◌+◌, ◌≤◌, Bool, true, false, List, [], ◌∷◌, ◌++◌, length, drop, map, filter, cond, All, Option, Some, None, IfSome, is_some, unwrap_or, Result, Ok, Err, IfOk, IsErrAnd, OnOk, refl, sym, ap, ◌∙◌, subst, arith, append_assoc, add_assoc, append-nil}
 use Rattle.std.specs.Result.{result_map_both}
 use Rattle.std.proofs.lemmas.List.{at_drop_all, map-append}
 use Rattle.std.proofs.lemmas.List.Elements.{All-cons, All-head, All-tail}
-use Rattle.dm_token.specs.LimitNumbers as limits
-use Rattle.dm_token.specs.Limits.{most_definitions}
 use Rattle.dm_token.specs.declared.stop.Stop.{Stop}
-use Rattle.dm_token.specs.declared.stop.Stop.TheVariants.{Memory, Refused, Limit, ReadFault}
+use Rattle.dm_token.specs.declared.stop.Stop.TheVariants.{Memory}
 use Rattle.dm_token.specs.declared.unit.Unit.{Unit as Source}
 use Rattle.dm_io.specs.Files.{Files}
 use Rattle.dm_search.specs.Loaded.{Loaded}
-use Rattle.dm_unit.specs.States.{limit}
 use Rattle.dm_reading.specs.declared.reading.Reading.{Reading}
-use Rattle.dm_project.specs.Again.{reads, reader_count, put_in, NextAgain, MayRead, ReadsOthers, ReadsAgain, IsCountedWith, IsReadAgain}
-use Rattle.dm_project.specs.Definitions.{definitions_in}
-use Rattle.dm_project.specs.Units.{no_file, token_count, ReadsNext}
+use Rattle.dm_project.specs.Again.{reads, reader_count, put_in, NextAgain, MayRead, ReadsOthers, ReadsAgain}
+use Rattle.dm_project.specs.Units.{token_count, ReadsNext}
 
 abbrev pub News : Type 0
 News = List (Option Reading)
@@ -53,6 +49,16 @@ module _ (files : Files) (file : ℕ) (unit : Source) (units : List Source) (rea
       (subst (λ (list : List Reading). ReadsAgain files file (unit ∷ units) list spent old (result_map_both (λ (more : News). new ∷ more) (λ (stop : Stop). stop) others) last) (sym one)
       (inr (new, known, others, next, more, refl)))
 
+  -- what is left behind it, behind all before it
+  pub again-on : (all_units : List Source) (all : List Reading) (start : Loaded) (news after : News) (new : Option Reading) (known : Loaded) (size : ℕ)
+      → ((others : Result News Stop) (last : Loaded) → ReadsAgain files file us ks spent old others last → ReadsAgain files file all_units all 0 start (all_before news others) last)
+      → NextAgain (reads file reading) files unit reading spent old (Ok new) known → size ≡ length (unwrap_or new reading).pp.tokens → after ≡ news ++ new ∷ []
+      → (others : Result News Stop) (last : Loaded) → ReadsAgain files file units kept (spent + size) known others last → ReadsAgain files file all_units all 0 start (all_before after others) last
+  again-on all_units all start news after new known size lead next is pushed others last more =
+      subst (λ (result : Result News Stop). ReadsAgain files file all_units all 0 start result last) (before-one news new others ∙ ap (λ (ns : News). all_before ns others) (sym pushed))
+      (lead (result_map_both (λ (rest : News). new ∷ rest) (λ (stop : Stop). stop) others) last
+      (again-go new known others last next (subst (λ n. ReadsAgain files file units kept (spent + n) known others last) is more)))
+
   -- the first stop, behind which the others are read
   pub again-stop : (stop : Stop) (known last : Loaded)
       → NextAgain (reads file reading) files unit reading spent old (Err stop) known → ReadsOthers files file units kept known last → ReadsAgain files file us ks spent old (Err stop) last
@@ -71,9 +77,6 @@ pub again-end : (files : Files) (file : ℕ) (units : List Source) (kept : List 
 again-end files file units kept at spent old past =
     subst (λ (us : List Source). ReadsAgain files file us kept spent old (Ok []) old) (sym (at_drop_all (λ us. us) units at past)) (refl, refl)
 
-pub others-end : (files : Files) (file : ℕ) (units : List Source) (kept : List Reading) (at : ℕ) (old : Loaded) → length units ≤ at → ReadsOthers files file (drop at units) kept old old
-others-end files file units kept at old past = subst (λ (us : List Source). ReadsOthers files file us kept old old) (sym (at_drop_all (λ us. us) units at past)) refl
-
 -- ---- a unit that is read, whatever that gives
 
 pub may-stop : (files : Files) (unit : Source) (again : Bool) (old : Loaded) (stop : Stop) (new : Loaded) → again ≡ true → ReadsNext files unit 0 old (Err stop) new → MayRead again files unit old new
@@ -91,18 +94,20 @@ module _ (file : ℕ) (all ks kept : List Reading) (reading : Reading) (one : ks
   count-go readings now start so is = let cons = ap (reader_count file) one ∙ count-cons file reading kept in omega (arith, so, is, cons)
 
   -- the tokens of the new readings, and of those that are left
-  pub tokens-go : (spent : ℕ) (news rest : News) (new : Option Reading) → spent + token_count (put_in ks (new ∷ rest)) ≡ token_count (put_in all (news ++ new ∷ rest))
-      → (spent + length (unwrap_or new reading).pp.tokens) + token_count (put_in kept rest) ≡ token_count (put_in all ((news ++ new ∷ []) ++ rest))
-  tokens-go spent news rest new so =
-      add_assoc spent (length (unwrap_or new reading).pp.tokens) (token_count (put_in kept rest)) ∙ ap (λ (list : List Reading). spent + token_count (put_in list (new ∷ rest))) (sym one) ∙ so
-      ∙ ap (λ (ns : News). token_count (put_in all ns)) (sym (append_assoc news (new ∷ []) rest))
+  pub tokens-go : (spent size : ℕ) (news after : News) (new : Option Reading) → size ≡ length (unwrap_or new reading).pp.tokens → after ≡ news ++ new ∷ []
+      → ((rest : News) → spent + token_count (put_in ks rest) ≡ token_count (put_in all (news ++ rest))) → (rest : News) → (spent + size) + token_count (put_in kept rest) ≡ token_count (put_in all (after ++ rest))
+  tokens-go spent size news after new is pushed so rest =
+      ap (λ n. (spent + n) + token_count (put_in kept rest)) is ∙ add_assoc spent (length (unwrap_or new reading).pp.tokens) (token_count (put_in kept rest))
+      ∙ ap (λ (list : List Reading). spent + token_count (put_in list (new ∷ rest))) (sym one) ∙ so (new ∷ rest)
+      ∙ ap (λ (ns : News). token_count (put_in all ns)) (sym (append_assoc news (new ∷ []) rest)) ∙ ap (λ (ns : News). token_count (put_in all (ns ++ rest))) (sym pushed)
 
   -- just those that read the file have a new one
-  pub readers-go : (news : News) (new : Option Reading) → map is_some news ++ map (reads file) ks ≡ map (reads file) all → is_some new ≡ reads file reading
-      → map is_some (news ++ new ∷ []) ++ map (reads file) kept ≡ map (reads file) all
-  readers-go news new so is =
-      ap (λ (bs : List Bool). bs ++ map (reads file) kept) (map-append is_some news (new ∷ [])) ∙ append_assoc (map is_some news) (is_some new ∷ []) (map (reads file) kept)
-      ∙ ap (λ b. map is_some news ++ b ∷ map (reads file) kept) is ∙ ap (λ (list : List Reading). map is_some news ++ map (reads file) list) (sym one) ∙ so
+  pub readers-go : (news after : News) (new : Option Reading) → after ≡ news ++ new ∷ [] → map is_some news ++ map (reads file) ks ≡ map (reads file) all → is_some new ≡ reads file reading
+      → map is_some after ++ map (reads file) kept ≡ map (reads file) all
+  readers-go news after new pushed so is =
+      ap (λ (ns : News). map is_some ns ++ map (reads file) kept) pushed ∙ ap (λ (bs : List Bool). bs ++ map (reads file) kept) (map-append is_some news (new ∷ []))
+      ∙ append_assoc (map is_some news) (is_some new ∷ []) (map (reads file) kept) ∙ ap (λ b. map is_some news ++ b ∷ map (reads file) kept) is
+      ∙ ap (λ (list : List Reading). map is_some news ++ map (reads file) list) (sym one) ∙ so
 
 pub tokens-end : (spent at : ℕ) (kept : List Reading) (news : News) → length kept ≤ at → spent + token_count (put_in (drop at kept) []) ≡ token_count (put_in kept (news ++ [])) → spent ≡ token_count (put_in kept news)
 tokens-end spent at kept news past so =

@@ -272,9 +272,6 @@ known-one one = record {
   there = one.there;
 }
 
-pub known-refl : (told : Option Files) (room : List ℕ → ℕ) (faults : ℕ) (l : Loaded) → length l.names < most_names → LeavesKnown told told room room faults faults l l None
-known-refl told room faults l roomy = known-one (leaves-refl told room faults l roomy)
-
 module _ {t0 t1 t2 : Option Files} {r0 r1 r2 : List ℕ → ℕ} {f0 f1 f2 : ℕ} {l0 l1 l2 : Loaded} where
   -- one unit and then others
   pub known-trans : (stop : Option Stop) → LeavesKnown t0 t1 r0 r1 f0 f1 l0 l1 None → LeavesKnown t1 t2 r1 r2 f1 f2 l1 l2 stop → LeavesKnown t0 t2 r0 r2 f0 f2 l0 l2 stop
@@ -362,17 +359,3 @@ pub wanted-handed : {t0 t1 : Option Files} {r0 r1 : List ℕ → ℕ} {f0 f1 : �
     → LeavesKnown t0 t1 r0 r1 f0 f1 l0 l1 (Some Memory) → LeavesKnown t0 t1 r0 r1 f0 f1 l0 l1 (memory_of result)
 wanted-handed (Ok done) fault handed first = absurd handed
 wanted-handed (Err e) fault handed first = first
-
--- a stop that is no fault, where nothing stopped
-pub known-stop : {t0 t1 : Option Files} {r0 r1 : List ℕ → ℕ} {f0 f1 : ℕ} {l0 l1 : Loaded} (stop : Option Stop) → NoFault stop → LeavesKnown t0 t1 r0 r1 f0 f1 l0 l1 None → LeavesKnown t0 t1 r0 r1 f0 f1 l0 l1 stop
-known-stop stop none first = record {
-  files_stay = first.files_stay;
-  rooms_stay = first.rooms_stay;
-  later = first.later;
-  failed = λ file e. absurd (none file e);
-  unheld = λ file e. absurd (none file e);
-  knows = λ not. first.knows none-memory;
-  roomy = λ not. first.roomy none-memory;
-  served = first.served;
-  there = first.there;
-}

@@ -1,16 +1,15 @@
 -- The units that are left come behind those that were read again.
-use Rattle.std.proofs.Common.{◌≡◌, ◌+◌, ◌<◌, ◌≤◌, ◌++◌, map, is_some, ◌∷◌, [], None, Some, Ok, Err, IfSome, All, Option, Result, length, drop, sym, ap, ◌∙◌, subst, arith}
-use Rattle.std.specs.Result.{result_map_both}
+use Rattle.std.proofs.Common.{◌+◌, ◌<◌, ◌≤◌, [], None, Some, Ok, Err, IfSome, All, Option, Result, length, drop, sym, ap, ◌∙◌, subst, arith}
 use Rattle.std.proofs.lemmas.List.Elements.{All-push}
 use Rattle.dm_token.specs.declared.stop.Stop.{Stop}
 use Rattle.dm_token.specs.declared.stop.Stop.TheVariants.{Memory}
 use Rattle.dm_reading.specs.declared.reading.Reading.{Reading}
 use Rattle.dm_reading.specs.Layered.{IsLayered}
-use Rattle.dm_project.specs.Again.{ReadsAgain, put_in, reader_count, reads}
-use Rattle.dm_project.specs.Units.{IsTyped, most_project_tokens, token_count}
+use Rattle.dm_project.specs.Again.{ReadsAgain, reader_count}
+use Rattle.dm_project.specs.Units.{IsTyped, most_project_tokens}
 use Rattle.dm_project.proofs.LeaveLemmas.{known-trans, known-behind, known-handed, known-memory, known-wanted}
 use Rattle.dm_project.proofs.UnitLemmas.{cut}
-use Rattle.dm_project.proofs.AgainLemmas.{News, all_before, before-one, before-none, again-go, again-stop, again-end, count-go, count-end, tokens-go, tokens-end, readers-go, readers-end, memory-handed, none-handed}
+use Rattle.dm_project.proofs.AgainLemmas.{News, before-none, again-on, again-stop, again-end, count-go, count-end, tokens-go, tokens-end, readers-go, readers-end, memory-handed, none-handed}
 use Rattle.dm_project.proofs.again.read_readers.Goals as goal
 
 pub loop-at-preserved : goal.loop-at-preserved
@@ -28,22 +27,17 @@ loop-at-preserved g c =
     let pushed = c.in_ok-push-in-Ok.ensures.ok in
     let size = c.len-spent.ensures ∙ ap (λ (r : Reading). length r.pp.tokens) c.newest.ensures in
     record {
-      spent = λ rest. ap (λ n. (c.loop-at.spent + n) + token_count (put_in (drop (at + 1) kept) rest)) size
-          ∙ tokens-go c.args.file kept (drop at kept) (drop (at + 1) kept) reading one c.loop-at.spent news rest new (inv.spent (new ∷ rest)) ∙ ap (λ (ns : News). token_count (put_in kept (ns ++ rest))) (sym pushed);
+      spent = tokens-go c.args.file kept (drop at kept) (drop (at + 1) kept) reading one c.loop-at.spent c.len-spent.result news _ new size pushed inv.spent;
       within = omega (arith, size, c.in-Ok.ensures.within);
-      readers = subst (λ (ns : News). map is_some ns ++ map (reads c.args.file) (drop (at + 1) kept) ≡ map (reads c.args.file) kept) (sym pushed)
-          (readers-go c.args.file kept (drop at kept) (drop (at + 1) kept) reading one news new inv.readers c.in-Ok.ensures.reader);
+      readers = readers-go c.args.file kept (drop at kept) (drop (at + 1) kept) reading one news _ new pushed inv.readers c.in-Ok.ensures.reader;
       counted = count-go c.args.file kept (drop at kept) (drop (at + 1) kept) reading one c.loop-at.readings c.read_next_again.new.readings (c.args.readings.now + reader_count c.args.file kept) inv.counted c.in-Ok.ensures.counted;
       rises = omega (arith, inv.rises, c.in-Ok.ensures.counted);
       layers = subst (All (λ (new : Option Reading). IfSome new IsLayered)) (sym pushed) (All-push (λ (new : Option Reading). IfSome new IsLayered) news new inv.layers c.in-Ok.ensures.layers);
       typed = subst (All (λ (new : Option Reading). IfSome new IsTyped)) (sym pushed) (All-push (λ (new : Option Reading). IfSome new IsTyped) news new inv.typed c.in-Ok.ensures.well_typed);
       leaves = known-trans None inv.leaves c.in-Ok.ensures.leaves;
-      leads = λ files have others last more.
-          subst (λ (result : Result News Stop). ReadsAgain files c.args.file units kept 0 c.args.loader.now result last) (before-one news new others ∙ ap (λ (ns : News). all_before ns others) (sym pushed))
-          (inv.leads files have (result_map_both (λ (ns : News). new ∷ ns) (λ (stop : Stop). stop) others) last
-          (again-go files c.args.file unit (drop (at + 1) units) reading (drop (at + 1) kept) (drop at units) (drop at kept) first one c.loop-at.spent c.loop-at.loader new c.read_next_again.new.loader others last
-          (c.in-Ok.ensures.next files (inv.leaves.files_stay ∙ have))
-          (subst (λ n. ReadsAgain files c.args.file (drop (at + 1) units) (drop (at + 1) kept) (c.loop-at.spent + n) c.read_next_again.new.loader others last) size more)));
+      leads = λ files have.
+          again-on files c.args.file unit (drop (at + 1) units) reading (drop (at + 1) kept) (drop at units) (drop at kept) first one c.loop-at.spent c.loop-at.loader units kept c.args.loader.now news _ new
+          c.read_next_again.new.loader c.len-spent.result (inv.leads files have) (c.in-Ok.ensures.next files (inv.leaves.files_stay ∙ have)) size pushed;
     }
 
 pub returns-clause-again : goal.returns-clause-again
