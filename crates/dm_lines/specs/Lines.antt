@@ -28,7 +28,6 @@ refusal_names =
     ∷ codes "Type"
     ∷ codes "OutOfSubset"
     ∷ codes "NoMain"
-    ∷ codes "NotYet"
     ∷ []
 
 unfoldable pub refusal_name : ℕ → List ℕ

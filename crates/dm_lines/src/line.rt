@@ -73,7 +73,6 @@ fn refusal_name<'a>(number: u8) -> &'a str
         refusals::TYPING => "Type",
         refusals::OUT_OF_SUBSET => "OutOfSubset",
         refusals::NO_MAIN => "NoMain",
-        refusals::NOT_YET => "NotYet",
         _ => "",
     }
 }

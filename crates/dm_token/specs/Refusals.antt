@@ -76,7 +76,3 @@ out_of_subset = 18
 -- a unit without `main`, where one is to run
 abbrev pub no_main : ℕ
 no_main = 19
-
--- a file that the first form doesn't have
-abbrev pub not_yet : ℕ
-not_yet = 20

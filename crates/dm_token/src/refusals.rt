@@ -56,6 +56,3 @@ pub const OUT_OF_SUBSET: u8 = 18;
 
 /// A unit without `main`, where one is to run.
 pub const NO_MAIN: u8 = 19;
-
-/// A file that the first form doesn't have.
-pub const NOT_YET: u8 = 20;
