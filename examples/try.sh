@@ -1,44 +1,39 @@
 #!/bin/sh
-# Proves and builds the tool, showing each function as it is proved and how long it takes, applies it to a copy of a small
-# project, shows what became of that, expands another example in two ways and runs two others. Ends with the status of the build
-# where it fails, and else with the first status of the tool that isn't 0.
+# Shows what the tool makes of the macros of an example project, in two minutes or so: builds the tool without proving it, plans the
+# project, and shows the report. Ends with the status of the build, or else of the plan.
 top=$(cd "$(dirname "$0")/.." && pwd) || exit 2
 work=$(mktemp -d) || exit 2
 trap 'rm -rf "$work"' EXIT
-echo "Proving and building the tool. The first time on a machine this takes an hour or more, and later some seconds." >&2
+cd "$top/examples" || exit 2
+echo "The project ring.json has two units, ring.c and main.c, and a header. Its macros:"
+echo
+grep -n '#define' ring.h main.c
+echo
+echo "The tool is now built, without proofs, and plans what becomes of them. Nothing is changed."
 began=$(date +%s)
-# Where the build succeeds it ends with a run of the tool, whose output and status count for nothing here.
 {
-    (cd "$top/crates/demacro" && rt run -- plan none.c)
+    (cd "$top/crates/demacro" && rt try --data ring.json="$top/examples/ring.json" --data ring.h="$top/examples/ring.h" \
+        --data ring.c="$top/examples/ring.c" --data main.c="$top/examples/main.c" -- plan ring.json) > "$work/report" 2> "$work/log"
     echo $? > "$work/status"
-} 2>&1 | tee "$work/log" | sed '/^rt: running /,$d'
-if ! grep -q '^rt: running ' "$work/log"; then
-    status=$(cat "$work/status")
-    echo "The tool is not built." >&2
-    [ "$status" -ne 0 ] || status=2
+} &
+built=$!
+while kill -0 "$built" 2> /dev/null; do
+    printf '\r%s seconds' $(($(date +%s) - began))
+    sleep 1
+done
+printf '\n\n'
+status=$(cat "$work/status")
+cat "$work/report"
+if [ "$status" -ne 0 ]; then
+    cat "$work/log"
     exit "$status"
 fi
-echo "Proved and built in $(($(date +%s) - began)) seconds." >&2
-failed=0
+cat <<'TEXT'
 
-# Shows a call of the tool, makes it, and keeps the first status that isn't 0.
-call() {
-    echo "$ demacro $*"
-    "$top/crates/demacro/out/demacro" "$@"
-    status=$?
-    [ "$failed" -ne 0 ] || failed=$status
-    echo
-}
+A kept macro has the least rule that it breaks and the first place that breaks it: docs/RULES.md has a page for each rule, and
+docs/GUIDE.md tells how to use the tool on a code base.
 
-cp "$top"/examples/*.c "$top"/examples/*.h "$top"/examples/*.json "$work" && cd "$work" || exit 2
-call plan ring.json
-call apply ring.json
-diff "$top/examples/ring.h" ring.h
-diff "$top/examples/main.c" main.c
-echo
-call expand light.c light.c
-call expand light.json light.c
-call run turns.c turns.c
-call run turns.c turns.c --order 1
-call run clash.c clash.c
-exit "$failed"
+This build isn't proved: it is slow, and checks itself as it runs. To prove and build the program, in an hour or more:
+
+    python3 tools/build.py
+TEXT

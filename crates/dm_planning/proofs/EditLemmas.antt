@@ -17,8 +17,9 @@ use Rattle.dm_edit.specs.Edits.{IsEdited}
 use Rattle.dm_edit.proofs.CutLemmas.{joined-body, through_body-directive}
 use Rattle.dm_project.specs.Again.{reader_count}
 use Rattle.dm_project.specs.Leaves.{StaysKnown}
-use Rattle.dm_planning.specs.declared.subject.Subject.{Subject}
-use Rattle.dm_planning.specs.Judging.{Project, EndsBy, Edits, JudgesAll, bytes_at, file_of, reread_rule, restored}
+use Rattle.dm_subjects.specs.declared.subject.Subject.{Subject}
+use Rattle.dm_subjects.specs.Subjects.{bytes_at}
+use Rattle.dm_planning.specs.Judging.{Project, EndsBy, Edits, JudgesAll, file_of, reread_rule, restored}
 
 -- ---- what is held
 
@@ -50,7 +51,7 @@ no-bytes : (loaded : Loaded) (file : ℕ) → is_held loaded file ≡ false → 
 no-bytes loaded file is = ap (λ (held : Option (List ℕ)). unwrap_or held []) (nothing-held loaded file is)
 
 -- a file in which a definition lies is held
-held-where-lies : (loaded : Loaded) (file : ℕ) (definition : Definition) → LiesIn (bytes_at loaded file) definition → is_held loaded file ≡ true
+pub held-where-lies : (loaded : Loaded) (file : ℕ) (definition : Definition) → LiesIn (bytes_at loaded file) definition → is_held loaded file ≡ true
 held-where-lies loaded file definition lies = by (is_held loaded file) refl
   where
     by : (b : Bool) → is_held loaded file ≡ b → is_held loaded file ≡ true
@@ -100,8 +101,8 @@ module _ (told : Option Files) (units : List Source) (before after : Project) (c
 
   pub costs : Edits told units before change entry after → Costs
   costs (inl kept) = inl kept.1.1
-  costs (inr (edited, is, inl refused)) = inl refused.3.1
-  costs (inr (edited, is, inr held)) = costs-by held.1 held.2 held.4
+  costs (inr (edited, numbered, is, inl refused)) = inl refused.3.1
+  costs (inr (edited, numbered, is, inr held)) = costs-by held.1 held.2 held.4
 
   -- what becomes of the file
   abbrev IsTaken : Type 0
@@ -149,13 +150,13 @@ module _ (told : Option Files) (units : List Source) (before after : Project) (c
 
   pub taken-or-back : Edits told units before change entry after → IsTaken ⊎ IsTakenBack
   taken-or-back (inl kept) = inr (ap (λ (one : Entry). one.outcome) kept.1.0, ap (λ (one : Project). bytes_at one.loaded file) kept.1.1)
-  taken-or-back (inr (edited, is, inl refused)) =
+  taken-or-back (inr (edited, numbered, is, inl refused)) =
       inr (ap (λ (one : Entry). one.outcome) refused.3.0, ap (λ (one : Project). bytes_at one.loaded file) refused.3.1)
-  taken-or-back (inr (edited, is, inr held)) = file-by edited is held.2 held.3.0 held.1 held.4
+  taken-or-back (inr (edited, numbered, is, inr held)) = file-by edited is held.2 held.3.0 held.1 held.4
 
   pub other-stays : Edits told units before change entry after → (other : ℕ) (bytes : List ℕ) → other ≢ file → held_at before.loaded other ≡ Some bytes
       → held_at after.loaded other ≡ Some bytes
   other-stays (inl kept) other bytes apart held = ap (λ (one : Project). held_at one.loaded other) kept.1.1 ∙ held
-  other-stays (inr (edited, is, inl refused)) other bytes apart held = ap (λ (one : Project). held_at one.loaded other) refused.3.1 ∙ held
-  other-stays (inr (edited, is, inr readable)) other bytes apart held =
+  other-stays (inr (edited, numbered, is, inl refused)) other bytes apart held = ap (λ (one : Project). held_at one.loaded other) refused.3.1 ∙ held
+  other-stays (inr (edited, numbered, is, inr readable)) other bytes apart held =
       other-by edited is readable.2 readable.3.0 other bytes apart held readable.1 readable.4

@@ -2,19 +2,16 @@
 --     Edits told units before change entry after      the edit of a definition stands, or the definition stays
 --     Judges told units before subject entry after      what is judged of one definition, and the project then
 --     JudgesAll told units before subjects entries after      the same for all, from the last to the first
-use Rattle.std.specs.Prelude.{◌≡◌, ◌⊎◌, ℕ, ◌+◌, Bool, ◌&&◌, ◌==◌, List, [], ◌∷◌, find, Option, Some, IfSome, unwrap_or, Result, Ok, Err}
-use Rattle.std.specs.List.{flat_map}
-use Rattle.dm_token.specs.Places.{line_at}
+use Rattle.std.specs.Prelude.{◌≡◌, ◌⊎◌, ℕ, ◌+◌, ◌≤◌, List, [], ◌∷◌, Option, Some, unwrap_or, Result, Ok, Err}
 use Rattle.dm_token.specs.declared.stop.Stop.{Stop}
 use Rattle.dm_token.specs.declared.stop.Stop.TheVariants.{Memory, Refused, Limit, ReadFault}
 use Rattle.dm_token.specs.declared.expansion.Definition.{Definition}
 use Rattle.dm_token.specs.declared.unit.Unit.{Unit as Source}
-use Rattle.dm_definitions.specs.Counts.{is_in_file}
+use Rattle.dm_token.specs.Limits.{header_count}
 use Rattle.dm_io.specs.Files.{Files}
-use Rattle.dm_search.specs.Loaded.{Loaded, held_at, with_bytes}
+use Rattle.dm_search.specs.Loaded.{Loaded, with_bytes}
 use Rattle.dm_search.specs.Loading.{StopsReplacing}
 use Rattle.dm_search.specs.Readable.{IsReadable}
-use Rattle.dm_meaning.specs.Replaced.{Zipped}
 use Rattle.dm_reading.specs.declared.reading.Reading.{Reading}
 use Rattle.dm_edit.specs.declared.change.Change.{Change}
 use Rattle.dm_edit.specs.declared.plan.Entry.{Entry}
@@ -22,25 +19,20 @@ use Rattle.dm_edit.specs.declared.plan.Fate.{Fate}
 use Rattle.dm_edit.specs.declared.plan.Fate.TheVariants.{Rewritten, Kept}
 use Rattle.dm_edit.specs.Cuts.{LiesIn}
 use Rattle.dm_edit.specs.Edits.{IsEdited}
-use Rattle.dm_project.specs.declared.distinct.Key.{Key}
-use Rattle.dm_project.specs.Definitions.{key_of}
 use Rattle.dm_project.specs.Again.{IsReadAgain, put_in, reader_count}
 use Rattle.dm_project.specs.Leaves.{StaysKnown}
 use Rattle.dm_judge.specs.declared.proposal.Proposal.{Proposal}
 use Rattle.dm_judge.specs.declared.proposal.Proposal.TheVariants as proposal
-use Rattle.dm_judge.specs.Proposals.{definitions_in, proposed}
-use Rattle.dm_alignment.specs.Readings.{AreAlignedReadings}
-use Rattle.dm_planning.specs.declared.subject.Subject.{Subject}
+use Rattle.dm_judge.specs.Proposals.{proposed}
+use Rattle.dm_subjects.specs.Alignments.{AreAllAligned}
+use Rattle.dm_subjects.specs.Subjects.{bytes_at, definition_at}
+use Rattle.dm_subjects.specs.declared.subject.Subject.{Subject}
 
 -- a project as edited so far: what the loader knows, the readings of the units, and how many readings there were
 pub record Project : Type 0 where
   pub loaded : Loaded
   pub readings : List Reading
   pub count : ℕ
-
--- what is held of a file
-abbrev pub bytes_at : Loaded → ℕ → List ℕ
-bytes_at loaded file = unwrap_or (held_at loaded file) []
 
 abbrev pub file_of : Change → ℕ
 file_of change = change.definition.place.file
@@ -72,13 +64,6 @@ IsOfSource (ReadFault file) = ⊥
 abbrev pub Rereads : Option Files → ℕ → List Source → List Reading → Loaded → Result (List (Option Reading)) Stop → Loaded → Type 0
 Rereads told file units kept old result new =
     StaysKnown old new × ((files : Files) → told ≡ Some files → IsReadAgain files file units kept old result new)
-
--- the units that are read again are the old ones but for the change
-abbrev pub IsAligned : Change → Reading → Option Reading → Type 0
-IsAligned change old new = IfSome new (λ reading. AreAlignedReadings old reading change)
-
-abbrev pub AreAllAligned : Change → List Reading → List (Option Reading) → Type 0
-AreAllAligned change kept news = Zipped (IsAligned change) kept news
 
 -- after so many readings more
 abbrev pub read_again : Change → Project → ℕ
@@ -112,25 +97,18 @@ HoldsEdited told units before change edited entry after =
     × Rereads told (file_of change) units before.readings (with_bytes before.loaded (file_of change) edited) result known
     × EndsBy change before result known entry after)
 
--- A definition that doesn't lie in the bytes of its file can't be edited.
+-- A definition can be edited where it lies in the bytes of its file, and that isn't a built-in header: the numbers of these come first.
+abbrev pub CanBeEdited : Loaded → Definition → Type 0
+CanBeEdited loaded definition =
+    (header_count ≤ definition.place.file) × LiesIn (bytes_at loaded definition.place.file) definition
+
 abbrev pub Edits : Option Files → List Source → Project → Change → Entry → Project → Type 0
 Edits told units before change entry after =
-    ((¬ LiesIn (bytes_at before.loaded (file_of change)) change.definition) × IsKept change entry before after)
-    ⊎ ((edited : List ℕ) × IsEdited (bytes_at before.loaded (file_of change)) change edited × HoldsEdited told units before change edited entry after)
+    ((¬ CanBeEdited before.loaded change.definition) × IsKept change entry before after)
+    ⊎ ((edited : List ℕ) × (header_count ≤ file_of change) × IsEdited (bytes_at before.loaded (file_of change)) change edited
+    × HoldsEdited told units before change edited entry after)
 
 -- ---- one definition
-
--- By its key a definition is found again: its file, and the line of its `#`, which edits keep.
-abbrev pub has_key : Loaded → Key → Definition → Bool
-has_key loaded key one = is_in_file one.origin && ((one.place.file == key.file) && (line_at (bytes_at loaded key.file) one.hash == key.line))
-
--- as the first unit that reads it has it
-abbrev pub definition_at : Loaded → List Reading → Key → Option Definition
-definition_at loaded readings key = find (has_key loaded key) (flat_map definitions_in readings)
-
--- a definition of the project as it was read first
-abbrev pub subject_of : Loaded → Definition → Subject
-subject_of loaded definition = record { key = key_of loaded definition; definition = definition }
 
 -- One that no unit reads any more is judged as it was.
 abbrev pub definition_over : Loaded → List Reading → Subject → Definition

@@ -1,47 +1,28 @@
 -- The plan of a project.
 --     IsPlan told units first last plan      the plan of a project that was read, and the project with all its edits
 --     IsPlanned told units old count result new now      what the call for a plan gives, between two moments of a loader and of the count of readings
-use Rattle.std.specs.Prelude.{◌≡◌, ℕ, ◌+◌, ◌&&◌, ◌≤◌, Bool, true, false, List, map, filter, length, nat_eq, Option, Some, Result, Ok, Err, IsPermutation, IsSortedByKey}
-use Rattle.std.specs.List.{list_any, range_with_len}
+use Rattle.std.specs.Prelude.{◌≡◌, ◌⊎◌, ℕ, ◌+◌, ◌≤◌, List, map, length, Option, Some, Result, Ok, Err, IsPermutation, IsSortedByKey}
 use Rattle.std.specs.Cmp.Lexicographic.{slice_cmp}
 use Rattle.std.specs.Ordering.{nat_cmp}
 use Rattle.dm_token.specs.declared.stop.Stop.{Stop}
 use Rattle.dm_token.specs.declared.stop.Stop.TheVariants.{Memory, Refused, Limit, ReadFault}
 use Rattle.dm_token.specs.declared.unit.Unit.{Unit as Source}
 use Rattle.dm_io.specs.Files.{Files}
-use Rattle.dm_search.specs.Loaded.{Loaded, name_of}
+use Rattle.dm_search.specs.Loaded.{Loaded}
 use Rattle.dm_edit.specs.declared.plan.Changed.{Changed}
-use Rattle.dm_edit.specs.declared.plan.Entry.{Entry}
-use Rattle.dm_edit.specs.declared.plan.Fate.{Fate}
-use Rattle.dm_edit.specs.declared.plan.Fate.TheVariants.{Rewritten, Kept}
 use Rattle.dm_edit.specs.declared.plan.Plan.{Plan}
 use Rattle.dm_project.specs.Definitions.{definitions_in}
 use Rattle.dm_project.specs.Units.{KeepsLimits, ReadsProject, ending}
-use Rattle.dm_planning.specs.declared.subject.Subject.{Subject}
-use Rattle.dm_planning.specs.Judging.{Project, JudgesAll, bytes_at, subject_of}
+use Rattle.dm_subjects.specs.Files.{changed_file, edited_files}
+use Rattle.dm_subjects.specs.Subjects.{subject_of}
+use Rattle.dm_subjects.specs.declared.subject.Subject.{Subject}
+use Rattle.dm_planning.specs.Judging.{Project, JudgesAll}
 
 -- ---- definitions
 
 -- in the order of first reading
 abbrev pub subjects_of : Project → List Subject
 subjects_of first = map (subject_of first.loaded) (definitions_in first.readings)
-
--- ---- files
-
-abbrev pub is_rewritten : Fate → Bool
-is_rewritten (Rewritten kind) = true
-is_rewritten (Kept rule place) = false
-
--- whether a definition in a file is rewritten
-abbrev pub is_edited : List Entry → ℕ → Bool
-is_edited entries file = list_any (λ (entry : Entry). is_rewritten entry.outcome && nat_eq entry.definition.place.file file) entries
-
-abbrev pub edited_files : Loaded → List Entry → List ℕ
-edited_files loaded entries = filter (is_edited entries) (range_with_len 0 (length loaded.names))
-
--- a file as it is held
-abbrev pub changed_file : Loaded → ℕ → Changed
-changed_file loaded file = record { name = name_of loaded file; bytes = bytes_at loaded file }
 
 -- ---- the plan
 
@@ -61,18 +42,19 @@ ReadsFirst told units old count first =
     (first.count ≡ count + length units)
     × ((files : Files) → told ≡ Some files → ReadsProject files units old (ending (Ok first.readings) (length units) first.loaded))
 
--- A stop is that of the first readings, of which there are as many as were begun. A fault of the folder may come at any reading. Only
--- want of memory has no cause.
+-- A stop is that of the first readings, of which there are as many as were begun.
 abbrev pub StopsFirst : Option Files → List Source → Loaded → ℕ → Stop → Loaded → ℕ → Type 0
 StopsFirst told units old count stop new now =
     (begun : ℕ) × (begun ≤ length units) × (now ≡ count + begun)
     × ((files : Files) → told ≡ Some files → ReadsProject files units old (ending (Err stop) begun new))
 
+-- A fault of the folder may come at any reading. Only want of memory has no cause.
 abbrev pub IsPlanned : Option Files → List Source → Loaded → ℕ → Result Plan Stop → Loaded → ℕ → Type 0
 IsPlanned told units old count (Ok plan) new now =
     (first last : Project) × ReadsFirst told units old count first × IsPlan told units first last plan
     × KeepsLimits last.readings × (new ≡ last.loaded) × (now ≡ last.count)
 IsPlanned told units old count (Err Memory) new now = Unit {0}
-IsPlanned told units old count (Err (ReadFault file)) new now = Unit {0}
+IsPlanned told units old count (Err (ReadFault file)) new now =
+    StopsFirst told units old count (ReadFault file) new now ⊎ ((first : Project) × ReadsFirst told units old count first)
 IsPlanned told units old count (Err (Refused refusal)) new now = StopsFirst told units old count (Refused refusal) new now
 IsPlanned told units old count (Err (Limit limit)) new now = StopsFirst told units old count (Limit limit) new now

@@ -12,8 +12,9 @@ ghost use Rattle.dm_edit.specs.declared.plan.Fate.TheVariants.{Kept, Rewritten};
 ghost use Rattle.dm_edit.specs.Edits.{IsEdited};
 ghost use Rattle.dm_judge.specs.declared.proposal.Proposal.TheVariants.{Broken};
 ghost use Rattle.dm_project.specs.Again.{reader_count};
-ghost use Rattle.dm_planning.specs.declared.subject.Subject.{Subject};
-ghost use Rattle.dm_planning.specs.Judging.{Project, Edits, JudgesAll, JudgesBy, bytes_at, file_of, reread_rule};
+ghost use Rattle.dm_subjects.specs.declared.subject.Subject.{Subject};
+ghost use Rattle.dm_subjects.specs.Subjects.{bytes_at};
+ghost use Rattle.dm_planning.specs.Judging.{Project, Edits, JudgesAll, JudgesBy, file_of, reread_rule};
 
 /// Each definition is judged once.
 pub fn each_definition_has_one_outcome()
