@@ -185,7 +185,11 @@ not_true true e = absurd (true≢false (sym e))
 not_true false e = refl
 
 none_named : (known : Known) → AreNamedOnce known [] []
-none_named known = record { apart = λ c d n e f. absurd (none_is_some n e); closed_ones = λ d n picked e. absurd (none_is_some n e) }
+none_named known = record {
+  apart = λ c d n e f. absurd (none_is_some n e);
+  closed_ones = λ d n picked e. absurd (none_is_some n e);
+  closed_names = λ d n l e. absurd (none_is_some n e);
+}
 
 same_case : (change : Called) (label : Label) (parts others : Trees) → is_statement label ≡ false → SameCase change label parts others
 same_case change case parts others e = absurd (true≢false e)

@@ -13,7 +13,7 @@ mod OutcomeLemmas
 mod EnteredLemmas
 mod DiagramLemmas
 mod EntryLemmas
-mod ApartLemmas
+pub mod ApartLemmas
 mod BodyLemmas
 mod CallFrameLemmas
 mod BehindLemmas
@@ -31,14 +31,14 @@ mod LastLemmas
 mod WaitingLemmas
 mod SteadyLemmas
 mod BeginLemmas
-mod RefineLemmas
-mod WholeLemmas
+pub mod RefineLemmas
+pub mod WholeLemmas
 mod TwiceExample
 mod AroundExample
 mod ClosedFrameLemmas
 mod ClosedBeginLemmas
 mod LeftAloneLemmas
-mod QuietTreeLemmas
+pub mod QuietTreeLemmas
 mod QuietFrameLemmas
 mod KeptFrameLemmas
 mod ClosedSteadyLemmas

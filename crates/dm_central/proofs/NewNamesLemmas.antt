@@ -48,6 +48,7 @@ module _ (change : Called) (known : Known) (calling : CallsInPlace change known)
   once = record {
     apart = λ c e n f g. sym (named_is c n f).0 ∙ (named_is e n g).0;
     closed_ones = λ e n k f. subst (λ m. IsAmong m stage.closed) (sym (named_is e n f).1) is_closed;
+    closed_names = λ e n l f. subst (λ c. known.closed c ≡ true) (named_is e n f).0 picked;
   }
 
   -- ---- labels

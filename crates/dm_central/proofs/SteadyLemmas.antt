@@ -36,12 +36,35 @@ closed_among test (entry ∷ entries) d n picked (inl e) = among_left n (if test
     by_test false f = absurd (true≢false (sym f))
 closed_among test (entry ∷ entries) d n picked (inr l) = among_right n (if test entry.0 then entry.1 ∷ [] else []) (closed_numbers test entries) (closed_among test entries d n picked l)
 
+-- a closed object has an entry of a closed declaration
+record HasClosedEntry (test : ℕ → Bool) (objects : Objects) (n : ℕ) : Type 0 where
+  pub declared : ℕ
+  pub picked : test declared ≡ true
+  pub among : IsAmong (declared, n) objects
+
+closed_entry : (test : ℕ → Bool) (objects : Objects) (n : ℕ) → IsAmong n (closed_numbers test objects) → HasClosedEntry test objects n
+closed_entry test [] n l = absurd l
+closed_entry test (entry ∷ entries) n l = by_part (among_either n (if test entry.0 then entry.1 ∷ [] else []) (closed_numbers test entries) l) (closed_entry test entries n)
+  where
+    by_test : (b : Bool) → test entry.0 ≡ b → IsAmong n (if b then entry.1 ∷ [] else []) → HasClosedEntry test (entry ∷ entries) n
+    by_test true e (inl f) = record { declared = entry.0; picked = e; among = inl (λ i. (entry.0, f i)) }
+    by_test true e (inr k) = absurd k
+    by_test false e k = absurd k
+
+    by_part : IsAmong n (if test entry.0 then entry.1 ∷ [] else []) ⊎ IsAmong n (closed_numbers test entries) → (IsAmong n (closed_numbers test entries) → HasClosedEntry test entries n)
+        → HasClosedEntry test (entry ∷ entries) n
+    by_part (inl k) later = by_test (test entry.0) refl k
+    by_part (inr k) later = let found = later k in record { declared = found.declared; picked = found.picked; among = inr found.among }
+
 -- objects of one declaration each are named apart
 pub named_once : (known : Known) (statics : Objects) (starts : List World) (objects : Objects) → AreOwn statics starts objects → ((entry : ℕ × ℕ) → IsAmong entry statics → known.closed entry.0 ≡ true → ⊥)
     → AreNamedOnce known statics objects
 named_once known statics starts objects own none = record {
   apart = λ c d n e f. own.apart (c, n) (d, n) (entry_of c n e) (entry_of d n f) refl;
   closed_ones = λ d n picked e. by_part d n picked (entry_of d n e);
+  closed_names = λ d n l e.
+      let found = closed_entry known.closed objects n l in
+      ap known.closed (own.apart (d, n) (found.declared, n) (entry_of d n e) (inr found.among) refl) ∙ found.picked;
 }
   where
     entry_of : (d n : ℕ) → object_named (statics ++ objects) d ≡ Some n → IsAmong (d, n) statics ⊎ IsAmong (d, n) objects

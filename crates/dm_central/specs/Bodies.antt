@@ -49,10 +49,11 @@ closed_numbers closed (entry ∷ entries) = (if closed entry.0 then entry.1 ∷ 
 abbrev pub frame_stage : Called → Known → Objects → Objects → Stage
 frame_stage change known statics objects = old_stage change (statics ++ objects) (closed_numbers known.closed objects) known.quiet
 
--- no object has two names, and what names a closed object there names one of the frame
+-- no object has two names, what names a closed object there names one of the frame, and nothing else names it
 pub record AreNamedOnce (known : Known) (statics objects : Objects) : Type 0 where
   pub apart : (c d n : ℕ) → object_named (statics ++ objects) c ≡ Some n → object_named (statics ++ objects) d ≡ Some n → c ≡ d
   pub closed_ones : (d n : ℕ) → known.closed d ≡ true → object_named (statics ++ objects) d ≡ Some n → IsAmong n (closed_numbers known.closed objects)
+  pub closed_names : (d n : ℕ) → IsAmong n (closed_numbers known.closed objects) → object_named (statics ++ objects) d ≡ Some n → known.closed d ≡ true
 
 -- ---- trees
 

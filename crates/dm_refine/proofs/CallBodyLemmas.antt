@@ -1,153 +1,333 @@
--- The expression of an added function without parameters.
---     nowhere_local      an object that isn't automatic is no parameter of a function
---     body_same      the expression is that of a run, and each function means the same by the names in it
---     gives      a value is one of an object type
-use Rattle.std.specs.Prelude.{◌≡◌, refl, ℕ, Bool, true, false, not, ◌&&◌, ◌||◌, ◌==◌, IfSome, IsSome, All, List, [], ◌∷◌, ◌++◌, Option, Some, None, slice_get}
-use Rattle.std.specs.List.{list_any}
-use Rattle.std.proofs.Common.{ap, sym, ◌∙◌}
+-- The expression of an added function, against that of a run.
+--     body_same      where no parameter is read, they are the same, and each function means the same by the names in them
+--     body_holds      where each parameter is read first, they are the same but for the arguments
+--     counted      as many trees stand for a parameter as it is read times
+use Rattle.std.specs.Prelude.{◌≡◌, refl, ◌⊎◌, ℕ, zero, suc, ◌+◌, Bool, true, false, not, ◌&&◌, ◌||◌, ◌==◌, IsTrue, IfSome, IsSome, List, [], ◌∷◌, length, Option, Some, None, slice_get, if◌then◌else◌}
+use Rattle.std.proofs.Common.{arith, ap, sym, ◌∙◌, subst, inl, inr, length-append}
 use Rattle.std.proofs.lemmas.Bool.{true≢false, false≢true}
-use Rattle.std.proofs.lemmas.List.Elements.{All-head, All-tail}
 use Rattle.dm_runs.specs.declared.run.Occurrence.{Occurrence}
 use Rattle.dm_runs.specs.declared.run.Run.{Run}
-use Rattle.dm_type.specs.CTypes.{CType, CTypes, void, integer, pointer, array, struct, function as function_type, const, no_types, more_types}
-use Rattle.dm_type.specs.Tables.{Table}
-use Rattle.dm_tree.specs.Trees.{Label, object, convert, sizeof_kind, block, declare, for_loop, is_statement, Spans, Tree, Trees, node, no_trees, more_trees}
-use Rattle.dm_tree.specs.Typing.{ParameterFits, ParametersFit, DefinitionFits, FunctionFits, FormFits, ExternalFits, IsWellTypedUnit, file_scene}
-use Rattle.dm_tree.specs.Units.{Declaration, External, ExternalForm, declares, defines_function, TypedUnit}
-use Rattle.dm_meaning.specs.Called.{Called, IsSame, AreSame, means_the_same, is_static_number, is_parameter, is_nowhere_local}
-use Rattle.dm_meaning.specs.Programs.{Definition}
+use Rattle.dm_type.specs.CTypes.{CType, bare}
+use Rattle.dm_tree.specs.Composites.{covers}
+use Rattle.dm_tree.specs.Initialisers.{is_object}
+use Rattle.dm_tree.specs.Scenes.{Scene}
+use Rattle.dm_tree.specs.Trees.{Label, enumerator, object, function, read, convert, sizeof_kind, block, declare, for_loop, is_statement, Spans, Tree, Trees, node, no_trees, more_trees, kind_of, listed}
+use Rattle.dm_tree.specs.Typing.{Fits, inside, IsWellTyped, AreWellTyped}
+use Rattle.dm_tree.specs.Units.{Declaration}
+use Rattle.dm_meaning.specs.Among.{IsAmong}
+use Rattle.dm_meaning.specs.Called.{Called, IsSame, AreSame, means_the_same, is_static_number, is_nowhere_local}
+use Rattle.dm_meaning.specs.CalledWithAll.{given, AreDistinct, times_here, times_named, times_named_in, IsParameter, HoldsBelow, HoldsWhole}
+use Rattle.dm_meaning.specs.Objects.{agree_without_const}
 use Rattle.dm_meaning.specs.Replaced.{relabelled}
-use Rattle.dm_meaning.specs.Statements.{is_automatic_declaration, is_automatic_sort}
-use Rattle.dm_meaning.specs.Units.{definitions_by, definitions_in, program_of}
+use Rattle.dm_meaning.specs.Running.{Open, first_open, others_open, open_of}
+use Rattle.dm_meaning.specs.Statements.{kind_declared}
 use Rattle.dm_meaning.specs.Wholes.{is_expression, are_expressions}
-use Rattle.dm_meaning.proofs.GrowLemmas.{equal_of}
-use Rattle.dm_meaning.proofs.OptionLemmas.{and_left, and_right}
-use Rattle.dm_effect.specs.Scoped.{names_in_scope, scopes_of, same_scopes, is_scoped, are_scoped}
-use Rattle.dm_agree.specs.Agreement.{Rewriting, Here, here_below, BodyBy, SameNode, SameBody, SameBodies}
+use Rattle.dm_meaning.proofs.AmongLemmas.{among_left, among_right}
+use Rattle.dm_meaning.proofs.GrowLemmas.{equal_is, equal_of, differ_is}
+use Rattle.dm_meaning.proofs.MatchLemmas.{open_of_relabelled}
+use Rattle.dm_meaning.proofs.OptionLemmas.{none_is_some, some_is_some, and_left, and_right}
+use Rattle.dm_effect.specs.Entities.{object_first}
+use Rattle.dm_effect.specs.Scoped.{is_in_scope, names_in_scope, scopes_of, same_scopes, is_scoped, are_scoped}
+use Rattle.dm_agree.specs.Agreement.{Rewriting, SameNode, IsReadOf, Here, here_below, BodyBy, SameBody, SameBodies, Left, left_at, standing_in, standing_below}
 use Rattle.dm_refine.specs.Calls.{HasNone, HasNoLengths, HaveNoLengths}
+use Rattle.dm_refine.proofs.ConstantTreeLemmas.{inside_declared}
+use Rattle.dm_refine.proofs.CoverLemmas.{agrees_covered}
+use Rattle.dm_refine.proofs.ReadFirstLemmas.{NamesNone, NameNone, IfFirst, OnlyFirst, OnlyFirstBelow, times_read, either}
 
--- ---- parameters are automatic
+-- ---- numbers
 
-or_false : (a b : Bool) → a ≡ false → b ≡ false → (a || b) ≡ false
-or_false a b e f = ap (λ x. x || b) e ∙ f
+pub slice_among : {A : Type 0} (items : List A) (n : ℕ) (x : A) → slice_get items n ≡ Some x → IsAmong x items
+slice_among [] n x e = absurd (none_is_some x e)
+slice_among (first ∷ rest) zero x e = inl (sym (some_is_some first x e))
+slice_among (first ∷ rest) (suc n) x e = inr (slice_among rest n x e)
 
-any_append : {A : Type 0} (test : A → Bool) (xs ys : List A) → list_any test xs ≡ false → list_any test ys ≡ false → list_any test (xs ++ ys) ≡ false
-any_append test [] ys e f = f
-any_append test (x ∷ xs) ys e f = or_false (test x) (list_any test (xs ++ ys)) (left (test x) (list_any test xs) e) (any_append test xs ys (right (test x) (list_any test xs) e) f)
+-- a number has one position among distinct ones
+pub one_position : (ps : List ℕ) → AreDistinct ps → (m n p : ℕ) → slice_get ps m ≡ Some p → slice_get ps n ≡ Some p → m ≡ n
+one_position [] distinct m n p e f = absurd (none_is_some p e)
+one_position (q ∷ ps) distinct zero zero p e f = refl
+one_position (q ∷ ps) distinct zero (suc n) p e f = absurd (distinct.0 (subst (λ x. IsAmong x ps) (sym (some_is_some q p e)) (slice_among ps n p f)))
+one_position (q ∷ ps) distinct (suc m) zero p e f = absurd (distinct.0 (subst (λ x. IsAmong x ps) (sym (some_is_some q p f)) (slice_among ps m p e)))
+one_position (q ∷ ps) distinct (suc m) (suc n) p e f = ap suc (one_position ps distinct.1 m n p e f)
+
+pub same_position : (ps : List ℕ) → AreDistinct ps → (m n d p : ℕ) → slice_get ps m ≡ Some d → slice_get ps n ≡ Some p → (m == n) ≡ (d == p)
+same_position ps distinct m n d p e f = by_bool (m == n) refl
   where
-    left : (a b : Bool) → (a || b) ≡ false → a ≡ false
-    left true b h = h
-    left false b h = refl
+    by_bool : (b : Bool) → (m == n) ≡ b → (m == n) ≡ (d == p)
+    by_bool true g = g ∙ sym (equal_is d p (some_is_some d p (sym e ∙ (ap (slice_get ps) (equal_of m n g) ∙ f))))
+    by_bool false g = g ∙ sym (differ_is d p (λ same. true≢false (sym (equal_is m n (one_position ps distinct m n p (e ∙ ap Some same) f)) ∙ g)))
 
-    right : (a b : Bool) → (a || b) ≡ false → b ≡ false
-    right true b h = absurd (true≢false h)
-    right false b h = h
-
-module _ (types : Table) (declared : List Declaration) (d : ℕ) (still : is_automatic_declaration (slice_get declared d) ≡ false) where
-  automatic : (found : Option Declaration) (type : CType) → IfSome found (ParameterFits (file_scene types declared) type) → IsSome found → is_automatic_declaration found ≡ true
-  automatic None type fits is = absurd (false≢true is)
-  automatic (Some entry) type fits is = ap is_automatic_sort fits.0
-
-  parameters_other : (parameters : List ℕ) (kinds : CTypes) → ParametersFit (file_scene types declared) parameters kinds → list_any (λ p. p == d) parameters ≡ false
-  parameters_other [] kinds fits = refl
-  parameters_other (p ∷ ps) no_types fits = absurd fits
-  parameters_other (p ∷ ps) (more_types kind kinds) fits = or_false (p == d) (list_any (λ q. q == d) ps) (by_bool (p == d) refl) (parameters_other ps kinds fits.1)
-    where
-      by_bool : (b : Bool) → (p == d) ≡ b → (p == d) ≡ false
-      by_bool false e = e
-      by_bool true e = absurd (true≢false (sym (automatic (slice_get declared p) kind fits.0.0 fits.0.1) ∙ (ap (λ n. is_automatic_declaration (slice_get declared n)) (equal_of p d e) ∙ still)))
-
-  by_type : (parameters : List ℕ) (body : Tree) (kind : CType) → DefinitionFits (file_scene types declared) parameters body kind → list_any (λ p. p == d) parameters ≡ false
-  by_type parameters body (function_type result kinds) fits = parameters_other parameters kinds fits.0
-  by_type parameters body void fits = absurd fits
-  by_type parameters body (integer kind) fits = absurd fits
-  by_type parameters body (pointer kind) fits = absurd fits
-  by_type parameters body (array kind n) fits = absurd fits
-  by_type parameters body (struct n) fits = absurd fits
-  by_type parameters body (const kind) fits = absurd fits
-
-  by_entry : (parameters : List ℕ) (body : Tree) (found : Option Declaration) → IfSome found (FunctionFits (file_scene types declared) parameters body) → IsSome found
-      → list_any (λ p. p == d) parameters ≡ false
-  by_entry parameters body None fits is = absurd (false≢true is)
-  by_entry parameters body (Some entry) fits is = by_type parameters body entry.kind fits.1
-
-  form_other : (form : ExternalForm) → FormFits (file_scene types declared) form → is_parameter (definitions_by form) d ≡ false
-  form_other (declares declarators trees) fits = refl
-  form_other (defines_function g parameters body) fits = or_false (list_any (λ p. p == d) parameters) false (by_entry parameters body (slice_get declared g) fits.0 fits.1) refl
-
-  externals_other : (externals : List External) → All (ExternalFits (file_scene types declared)) externals → is_parameter (definitions_in externals) d ≡ false
-  externals_other [] fits = refl
-  externals_other (external ∷ externals) fits =
-      any_append (λ (definition : Definition). list_any (λ p. p == d) definition.parameters) (definitions_by external.form) (definitions_in externals)
-      (form_other external.form (All-head (ExternalFits (file_scene types declared)) external externals fits).2)
-      (externals_other externals (All-tail (ExternalFits (file_scene types declared)) external externals fits))
-
-pub nowhere_local : (types : Table) (one : TypedUnit) → IsWellTypedUnit types one → (d : ℕ) → is_automatic_declaration (slice_get one.declared d) ≡ false
-    → is_nowhere_local (program_of types one) d ≡ true
-nowhere_local types one typed d still =
-    ap (λ b. not b && not (is_parameter (definitions_in one.externals) d)) still ∙ ap not (externals_other types one.declared d still one.externals typed.externals)
-
--- ---- the expression
-
-or_last : (a : Bool) → (a || false) ≡ true → a ≡ true
-or_last true e = refl
-or_last false e = e
+pub or_other : (a b : Bool) → b ≡ false → (a || b) ≡ true → a ≡ true
+or_other true b e h = refl
+or_other false b e h = absurd (false≢true (sym e ∙ h))
 
 pub not_true : (a : Bool) → not a ≡ true → a ≡ false
 not_true true e = absurd (false≢true e)
 not_true false e = refl
 
-or_true : (a b : Bool) → b ≡ true → (a || b) ≡ true
+pub or_true : (a b : Bool) → b ≡ true → (a || b) ≡ true
 or_true true b e = refl
 or_true false b e = e
 
--- at the root of what no occurrence and no run stands at
-by_here : (rewriting : Rewriting) (occurrences : List Occurrence) (runs : List Run) (label : Label) (kind : CType) (parts : Trees) (other : Tree) (Below : Type 0)
-    → BodyBy rewriting [] occurrences runs label kind parts other Below → SameNode rewriting label kind other × Below
-by_here rewriting [] [] label kind parts other Below h = h
-by_here rewriting [] (run ∷ runs) label kind parts other Below h = absurd h
-by_here rewriting (one ∷ others) runs label kind parts other Below h = absurd h
+-- ---- an object that is read
+
+-- as an object of its own type (6.5p7)
+pub record ReadsObject (declared : List Declaration) (kind : CType) (parts : Trees) (d : ℕ) : Type 0 where
+  pub named_kind : CType
+  pub named_spans : Spans
+  pub alone : parts ≡ more_trees (node (object d) named_kind named_spans no_trees) no_trees
+  pub own : agree_without_const (bare (kind_declared (slice_get declared d))) kind ≡ true
+
+entry_own : (found : Option Declaration) (named kind : CType) → kind ≡ bare named → IfSome found (λ entry. IsTrue (is_object entry.sort && covers entry.kind named)) → IsSome found
+    → agree_without_const (bare (kind_declared found)) kind ≡ true
+entry_own None named kind e fits is = absurd (false≢true is)
+entry_own (Some entry) named kind e fits is =
+    ap (agree_without_const (bare entry.kind)) e ∙ agrees_covered entry.kind named (and_right (is_object entry.sort) (covers entry.kind named) fits)
+
+pub read_object : (declared : List Declaration) (scene : Scene) → scene.declared ≡ declared → (kind : CType) (parts : Trees) (d : ℕ) → Fits scene read kind (listed parts)
+    → AreWellTyped (inside scene read (listed parts)) parts → object_first parts ≡ Some d → ReadsObject declared kind parts d
+read_object declared scene same kind (more_trees (node (object c) named spans no_trees) no_trees) d fits typed e =
+    let is = some_is_some c d e in
+    record {
+      named_kind = named;
+      named_spans = spans;
+      alone = ap (λ n. more_trees (node (object n) named spans no_trees) no_trees) is;
+      own = subst (λ n. agree_without_const (bare (kind_declared (slice_get declared n))) kind ≡ true) is
+          (entry_own (slice_get declared c) named kind fits.2
+          (subst (λ (ds : List Declaration). IfSome (slice_get ds c) (λ (entry : Declaration). IsTrue (is_object entry.sort && covers entry.kind named))) same typed.0.0.0)
+          (subst (λ (ds : List Declaration). IsSome (slice_get ds c)) same typed.0.0.1));
+    }
+read_object declared scene same kind (more_trees (node (object c) named spans no_trees) (more_trees second rest)) d fits typed e = absurd fits
+read_object declared scene same kind (more_trees (node (object c) named spans (more_trees below others)) rest) d fits typed e = absurd typed.0.0
+read_object declared scene same kind (more_trees (node label named spans below) rest) d fits typed e = absurd (none_is_some d e)
+read_object declared scene same kind no_trees d fits typed e = absurd (none_is_some d e)
+
+pub names_first : (parts : Trees) (d : ℕ) → object_first parts ≡ Some d → times_named_in d parts ≡ 0 → ⊥
+names_first (more_trees (node (object c) kind spans below) rest) d e none =
+    let one : times_here d (object c) ≡ 1 = ap (λ b. if b then 1 else 0) (equal_is c d (some_is_some c d e)) in
+    omega (arith, one, none)
+names_first (more_trees (node label kind spans below) rest) d e none = absurd (none_is_some d e)
+names_first no_trees d e none = absurd (none_is_some d e)
+
+-- ---- scopes
 
 -- the parts of an expression stand in its scope
-scopes_inside : (automatic : ℕ → Bool) (label : Label) (parts : Trees) → is_statement label ≡ false → HasNone label parts
-    → are_scoped automatic (scopes_of [] label parts) parts ≡ true → are_scoped automatic (same_scopes [] parts) parts ≡ true
-scopes_inside automatic convert (more_trees operand no_trees) e none h = h
-scopes_inside automatic convert (more_trees operand (more_trees second rest)) e none h = absurd none
-scopes_inside automatic convert no_trees e none h = absurd none
-scopes_inside automatic (sizeof_kind type) no_trees e none h = h
-scopes_inside automatic (sizeof_kind type) (more_trees first rest) e none h = absurd none
-scopes_inside automatic (declare lengths declarators) parts e none h = absurd (true≢false e)
-scopes_inside automatic block parts e none h = absurd (true≢false e)
-scopes_inside automatic (for_loop first second third) parts e none h = absurd (true≢false e)
-scopes_inside automatic label parts e none h = h
+pub scopes_inside : (automatic : ℕ → Bool) (scope : List ℕ) (label : Label) (parts : Trees) → is_statement label ≡ false → HasNone label parts
+    → are_scoped automatic (scopes_of scope label parts) parts ≡ true → are_scoped automatic (same_scopes scope parts) parts ≡ true
+scopes_inside automatic scope convert (more_trees operand no_trees) e none h = h
+scopes_inside automatic scope convert (more_trees operand (more_trees second rest)) e none h = absurd none
+scopes_inside automatic scope convert no_trees e none h = absurd none
+scopes_inside automatic scope (sizeof_kind type) no_trees e none h = h
+scopes_inside automatic scope (sizeof_kind type) (more_trees first rest) e none h = absurd none
+scopes_inside automatic scope (declare lengths declarators) parts e none h = absurd (true≢false e)
+scopes_inside automatic scope block parts e none h = absurd (true≢false e)
+scopes_inside automatic scope (for_loop first second third) parts e none h = absurd (true≢false e)
+scopes_inside automatic scope label parts e none h = h
 
-module _ (change : Called) (automatic : ℕ → Bool) (still : (d : ℕ) → automatic (change.rename d) ≡ false → is_nowhere_local change.old d ≡ true) where
-  same_meaning : (label other : Label) → label ≡ relabelled change.rename other → names_in_scope automatic [] label ≡ true → means_the_same change.old other ≡ true
-  same_meaning label (object d) e h =
-      or_true (is_static_number change.old.statics d) (is_nowhere_local change.old d)
-      (still d (not_true (automatic (change.rename d)) (or_last (not (automatic (change.rename d))) (sym (ap (names_in_scope automatic []) e) ∙ h))))
-  same_meaning label other e h = refl
+-- a number that isn't among others
+pub not_in_scope : (c : ℕ) (ps : List ℕ) → ((p : ℕ) → IsAmong p ps → c ≡ p → ⊥) → is_in_scope ps c ≡ false
+not_in_scope c [] other = refl
+not_in_scope c (q ∷ ps) other =
+    ap (λ b. b || is_in_scope ps c) (differ_is q c (λ e. other q (inl refl) (sym e))) ∙ not_in_scope c ps (λ p k. other p (inr k))
 
-  mutual
-    pub body_same : (rewriting : Rewriting) → rewriting.rename ≡ change.rename → (run : Run) (here : Here) (tree other : Tree) → is_expression tree ≡ true → is_scoped automatic [] tree ≡ true → HasNoLengths tree
-        → SameBody rewriting [] run here tree other → IsSame change tree other
-    body_same rewriting r run here (node label kind spans parts) (node other other_kind other_spans others) expression scoped plain h =
-        let same = by_here rewriting here.occurrences here.runs label kind parts (node other other_kind other_spans others) _ h in
-        let renamed = same.0.0 ∙ ap (λ rename. relabelled rename other) r in (
-          renamed,
-          same.0.1,
-          same_meaning label other renamed (and_left (names_in_scope automatic [] label) _ scoped),
-          bodies_same rewriting r run other other_spans parts others (and_right (not (is_statement label)) _ expression)
-              (scopes_inside automatic label parts (not_true (is_statement label) (and_left (not (is_statement label)) _ expression)) plain.0 (and_right (names_in_scope automatic [] label) _ scoped))
-              plain.1 same.1,
-        )
+-- ---- what stands at a tree of the body
 
-    bodies_same : (rewriting : Rewriting) → rewriting.rename ≡ change.rename → (run : Run) (label : Label) (spans : Spans) (trees others : Trees) → are_expressions trees ≡ true
-        → are_scoped automatic (same_scopes [] trees) trees ≡ true → HaveNoLengths trees → SameBodies rewriting [] run label spans trees others → AreSame change trees others
-    bodies_same rewriting r run label spans no_trees no_trees expression scoped plain h = tt
-    bodies_same rewriting r run label spans no_trees (more_trees other others) expression scoped plain h = absurd h
-    bodies_same rewriting r run label spans (more_trees first rest) no_trees expression scoped plain h = absurd h
-    bodies_same rewriting r run label spans (more_trees first rest) (more_trees other others) expression scoped plain h = (
-      body_same rewriting r run (here_below rewriting run label spans other) first other (and_left (is_expression first) _ expression) (and_left (is_scoped automatic [] first) _ scoped) plain.0 h.0,
-      bodies_same rewriting r run label spans rest others (and_right (is_expression first) _ expression) (and_right (is_scoped automatic [] first) _ scoped) plain.1 h.1,
-    )
+-- a parameter is read
+pub record ReadsHere (ps : List ℕ) (occurrences : List Occurrence) (label : Label) (kind : CType) (parts : Trees) (other : Tree) : Type 0 where
+  pub one : Occurrence
+  pub others : List Occurrence
+  pub is : occurrences ≡ one ∷ others
+  pub parameter : ℕ
+  pub found : slice_get ps one.parameter ≡ Some parameter
+  pub reads : IsReadOf (Some parameter) label kind parts other
+
+-- there is no occurrence
+pub record IsNodeHere (rewriting : Rewriting) (occurrences : List Occurrence) (label : Label) (kind : CType) (other : Tree) (Below : Type 0) : Type 0 where
+  pub none : occurrences ≡ []
+  pub same : SameNode rewriting label kind other
+  pub below : Below
+
+pub by_here : (rewriting : Rewriting) (ps : List ℕ) (occurrences : List Occurrence) (runs : List Run) (label : Label) (kind : CType) (parts : Trees) (other : Tree) (Below : Type 0)
+    → BodyBy rewriting ps occurrences runs label kind parts other Below → IsNodeHere rewriting occurrences label kind other Below ⊎ ReadsHere ps occurrences label kind parts other
+by_here rewriting ps [] [] label kind parts other Below h = inl (record { none = refl; same = h.0; below = h.1 })
+by_here rewriting ps [] (run ∷ runs) label kind parts other Below h = absurd h
+by_here rewriting ps (one ∷ others) runs label kind parts other Below h = by_found (slice_get ps one.parameter) refl h
+  where
+    by_found : (found : Option ℕ) → slice_get ps one.parameter ≡ found → IsReadOf found label kind parts other
+        → IsNodeHere rewriting (one ∷ others) label kind other Below ⊎ ReadsHere ps (one ∷ others) label kind parts other
+    by_found None e reads = absurd reads
+    by_found (Some d) e reads = inr (record { one = one; others = others; is = refl; parameter = d; found = e; reads = reads })
+
+node_here : (rewriting : Rewriting) (ps : List ℕ) (occurrences : List Occurrence) (label : Label) (kind : CType) (parts : Trees) (other : Tree) (Below : Type 0)
+    → NameNone ps parts → IsNodeHere rewriting occurrences label kind other Below ⊎ ReadsHere ps occurrences label kind parts other → SameNode rewriting label kind other × Below
+node_here rewriting ps occurrences label kind parts other Below none (inl h) = (h.same, h.below)
+node_here rewriting ps occurrences label kind parts other Below none (inr h) =
+    absurd (names_first parts h.parameter h.reads.2 (none h.parameter (slice_among ps h.one.parameter h.parameter h.found)))
+
+-- ---- the expression
+
+module _ (change : Called) (own : (p : ℕ) → IsAmong p change.added.parameters → (d : ℕ) → change.rename d ≡ p → ⊥) where
+  abbrev ps : List ℕ
+  ps = change.added.parameters
+
+  module _ (automatic : ℕ → Bool) (still : (d : ℕ) → automatic (change.rename d) ≡ false → is_nowhere_local change.old d ≡ true) where
+    pub same_meaning : (label other : Label) → label ≡ relabelled change.rename other → names_in_scope automatic ps label ≡ true → means_the_same change.old other ≡ true
+    same_meaning label (object d) e h =
+        or_true (is_static_number change.old.statics d) (is_nowhere_local change.old d)
+        (still d (not_true (automatic (change.rename d))
+        (or_other (not (automatic (change.rename d))) (is_in_scope ps (change.rename d)) (not_in_scope (change.rename d) ps (λ p k. own p k d)) (sym (ap (names_in_scope automatic ps) e) ∙ h))))
+    same_meaning label other e h = refl
+
+    mutual
+      pub body_same : (rewriting : Rewriting) → rewriting.rename ≡ change.rename → (run : Run) (here : Here) (tree other : Tree) → is_expression tree ≡ true → is_scoped automatic ps tree ≡ true → HasNoLengths tree
+          → NamesNone ps tree → SameBody rewriting ps run here tree other → IsSame change tree other
+      body_same rewriting r run here (node label kind spans parts) (node other other_kind other_spans others) expression scoped plain none h =
+          let none_below : NameNone ps parts = λ p k. omega (arith, none p k) in
+          let same = node_here rewriting ps here.occurrences label kind parts (node other other_kind other_spans others) _ none_below
+          (by_here rewriting ps here.occurrences here.runs label kind parts (node other other_kind other_spans others) _ h) in
+          let renamed = same.0.0 ∙ ap (λ rename. relabelled rename other) r in (
+            renamed,
+            same.0.1,
+            same_meaning label other renamed (and_left (names_in_scope automatic ps label) _ scoped),
+            bodies_same rewriting r run other other_spans parts others (and_right (not (is_statement label)) _ expression)
+                (scopes_inside automatic ps label parts (not_true (is_statement label) (and_left (not (is_statement label)) _ expression)) plain.0 (and_right (names_in_scope automatic ps label) _ scoped))
+                plain.1 none_below same.1,
+          )
+
+      bodies_same : (rewriting : Rewriting) → rewriting.rename ≡ change.rename → (run : Run) (label : Label) (spans : Spans) (trees others : Trees) → are_expressions trees ≡ true
+          → are_scoped automatic (same_scopes ps trees) trees ≡ true → HaveNoLengths trees → NameNone ps trees → SameBodies rewriting ps run label spans trees others → AreSame change trees others
+      bodies_same rewriting r run label spans no_trees no_trees expression scoped plain none h = tt
+      bodies_same rewriting r run label spans no_trees (more_trees other others) expression scoped plain none h = absurd h
+      bodies_same rewriting r run label spans (more_trees first rest) no_trees expression scoped plain none h = absurd h
+      bodies_same rewriting r run label spans (more_trees first rest) (more_trees other others) expression scoped plain none h = (
+        body_same rewriting r run (here_below rewriting run label spans other) first other (and_left (is_expression first) _ expression) (and_left (is_scoped automatic ps first) _ scoped) plain.0
+            (λ p k. omega (arith, none p k)) h.0,
+        bodies_same rewriting r run label spans rest others (and_right (is_expression first) _ expression) (and_right (is_scoped automatic ps first) _ scoped) plain.1
+            (λ p k. omega (arith, none p k)) h.1,
+      )
+
+    -- a part that may be evaluated, and another
+    pub by_open : (b : Bool) (first other Open_part Other : Type 0) → IfFirst b first other → (first → Open_part) → (other → Other) → Other ⊎ (IsTrue b × Open_part)
+    by_open true first other Open_part Other h f g = inr (refl, f h)
+    by_open false first other Open_part Other h f g = inl (g h)
+
+    -- the trees that stand for a parameter are the argument
+    abbrev pub AreGiven : Trees → (ℕ → List Left) → Type 0
+    AreGiven arguments lefts =
+        (n : ℕ) (left : Left) → IsAmong left (lefts n) → (p : ℕ) → slice_get ps n ≡ Some p → given ps (listed arguments) p ≡ Some left.tree
+
+    -- where an occurrence is, the tree itself
+    pub left_here : (n : ℕ) (one : Occurrence) (others : List Occurrence) (runs : List Run) (tree : Tree) (below : List Left) → one.parameter ≡ n
+        → IsAmong {X = Left} (record { runs = runs; tree = tree }) (left_at n (one ∷ others) runs tree below)
+    left_here n one others runs tree below e =
+        subst (λ b. IsAmong {X = Left} (record { runs = runs; tree = tree }) (if b then record { runs = runs; tree = tree } ∷ [] else [])) (sym (equal_is one.parameter n e)) (inl refl)
+
+    module _ (arguments : Trees) where
+      read_holds : (scene : Scene) → scene.declared ≡ change.declared → (label : Label) (kind : CType) (spans : Spans) (parts : Trees) (other : Tree) → Fits scene label kind (listed parts)
+          → AreWellTyped (inside scene label (listed parts)) parts → (occurrences : List Occurrence) (runs : List Run) (below : ℕ → List Left)
+          → AreGiven arguments (λ n. left_at n occurrences runs other (below n)) → ReadsHere ps occurrences label kind parts other → IsParameter change arguments (node label kind spans parts) other
+      read_holds scene e label kind spans parts other fits typed occurrences runs below gives h =
+          let there = read_object change.declared scene e kind parts h.parameter (subst (λ (l : Label). Fits scene l kind (listed parts)) h.reads.0 fits)
+          (subst (λ (l : Label). AreWellTyped (inside scene l (listed parts)) parts) h.reads.0 typed) h.reads.2 in
+          record {
+            parameter = h.parameter;
+            spans = spans;
+            named_kind = there.named_kind;
+            named_spans = there.named_spans;
+            is = ap (λ (l : Label). node l kind spans parts) h.reads.0 ∙ (ap (λ (k : CType). node read k spans parts) h.reads.1 ∙ ap (λ (ps : Trees). node read (kind_of other) spans ps) there.alone);
+            own = ap not (subst (λ (k : CType). agree_without_const (bare (kind_declared (slice_get change.declared h.parameter))) k ≡ true) h.reads.1 there.own);
+            stands = gives h.one.parameter (record { runs = runs; tree = other })
+                (subst (λ (found : List Occurrence). IsAmong {X = Left} (record { runs = runs; tree = other }) (left_at h.one.parameter found runs other (below h.one.parameter))) (sym h.is)
+                (left_here h.one.parameter h.one h.others runs other (below h.one.parameter) refl)) h.parameter h.found;
+          }
+
+      mutual
+        pub body_holds : (rewriting : Rewriting) → rewriting.rename ≡ change.rename → (run : Run) (scene : Scene) → scene.declared ≡ change.declared → (here : Here) (tree other : Tree) → IsWellTyped scene tree
+            → is_expression tree ≡ true → is_scoped automatic ps tree ≡ true → HasNoLengths tree → OnlyFirst ps tree → SameBody rewriting ps run here tree other
+            → AreGiven arguments (λ n. standing_in rewriting run n here other) → HoldsWhole change arguments tree other
+        body_holds rewriting r run scene e here (node label kind spans parts) (node other other_kind other_spans others) typed expression scoped plain first h gives =
+            let was = node other other_kind other_spans others in
+            either (IsNodeHere rewriting here.occurrences label kind was (SameBodies rewriting ps run other other_spans parts others)) (ReadsHere ps here.occurrences label kind parts was)
+            (HoldsWhole change arguments (node label kind spans parts) was)
+            (λ same.
+            let renamed = same.same.0 ∙ ap (λ rename. relabelled rename other) r in
+            inr (
+              renamed,
+              same.same.1,
+              same_meaning label other renamed (and_left (names_in_scope automatic ps label) _ scoped),
+              bodies_hold rewriting r run (inside scene label (listed parts)) (inside_declared scene label (listed parts) ∙ e) other other_spans (open_of other) parts others typed.1
+                  (and_right (not (is_statement label)) _ expression)
+                  (scopes_inside automatic ps label parts (not_true (is_statement label) (and_left (not (is_statement label)) _ expression)) plain.0 (and_right (names_in_scope automatic ps label) _ scoped))
+                  plain.1 (subst (λ (opens : Open). OnlyFirstBelow ps opens parts) (ap open_of renamed ∙ open_of_relabelled change.rename other) first) same.below
+                  (subst (λ (occurrences : List Occurrence). AreGiven arguments (λ n. left_at n occurrences here.runs was (standing_below rewriting run n other other_spans others))) same.none gives),
+            ))
+            (λ reads. inl (read_holds scene e label kind spans parts was typed.0 typed.1 here.occurrences here.runs (λ n. standing_below rewriting run n other other_spans others) gives reads))
+            (by_here rewriting ps here.occurrences here.runs label kind parts was _ h)
+
+        bodies_hold : (rewriting : Rewriting) → rewriting.rename ≡ change.rename → (run : Run) (scene : Scene) → scene.declared ≡ change.declared → (label : Label) (spans : Spans) (opens : Open) (trees others : Trees)
+            → AreWellTyped scene trees → are_expressions trees ≡ true → are_scoped automatic (same_scopes ps trees) trees ≡ true → HaveNoLengths trees → OnlyFirstBelow ps opens trees
+            → SameBodies rewriting ps run label spans trees others → AreGiven arguments (λ n. standing_below rewriting run n label spans others) → HoldsBelow change arguments opens trees others
+        bodies_hold rewriting r run scene e label spans opens no_trees no_trees typed expression scoped plain first h gives = tt
+        bodies_hold rewriting r run scene e label spans opens no_trees (more_trees other others) typed expression scoped plain first h gives = absurd h
+        bodies_hold rewriting r run scene e label spans opens (more_trees one rest) no_trees typed expression scoped plain first h gives = absurd h
+        bodies_hold rewriting r run scene e label spans opens (more_trees one rest) (more_trees other others) typed expression scoped plain first h gives =
+            let here = here_below rewriting run label spans other in (
+              by_open (first_open opens) (OnlyFirst ps one) (NamesNone ps one) (HoldsWhole change arguments one other) (IsSame change one other) first.0
+                  (λ only. body_holds rewriting r run scene e here one other typed.0 (and_left (is_expression one) _ expression) (and_left (is_scoped automatic ps one) _ scoped) plain.0 only h.0
+                  (λ n left k p f. gives n left (among_left left (standing_in rewriting run n here other) (standing_below rewriting run n label spans others) k) p f))
+                  (λ none. body_same rewriting r run here one other (and_left (is_expression one) _ expression) (and_left (is_scoped automatic ps one) _ scoped) plain.0 none h.0),
+              bodies_hold rewriting r run scene e label spans (others_open opens) rest others typed.1 (and_right (is_expression one) _ expression) (and_right (is_scoped automatic ps one) _ scoped) plain.1 first.1 h.1
+                  (λ n left k p f. gives n left (among_right left (standing_in rewriting run n here other) (standing_below rewriting run n label spans others) k) p f),
+            )
+
+  -- ---- how many trees stand for a parameter
+
+  module _ (distinct : AreDistinct ps) (n p : ℕ) (found : slice_get ps n ≡ Some p) where
+    -- an old name is that of no parameter
+    other_name : (label : Label) → times_here p (relabelled change.rename label) ≡ 0
+    other_name (object d) = ap (λ b. if b then 1 else 0) (differ_is (change.rename d) p (own p (slice_among ps n p found) d))
+    other_name (enumerator d) = refl
+    other_name (function d) = refl
+    other_name (declare lengths declarators) = refl
+    other_name label = refl
+
+    left_count : (b : Bool) (left : Left) → length (if b then left ∷ [] else []) ≡ (if b then 1 else 0)
+    left_count true left = refl
+    left_count false left = refl
+
+    read_counted : (scene : Scene) → scene.declared ≡ change.declared → (label : Label) (kind : CType) (spans : Spans) (parts : Trees) (other : Tree) → Fits scene label kind (listed parts)
+        → AreWellTyped (inside scene label (listed parts)) parts → (occurrences : List Occurrence) (runs : List Run) (below : List Left) → ReadsHere ps occurrences label kind parts other
+        → length (left_at n occurrences runs other below) ≡ times_named p (node label kind spans parts)
+    read_counted scene e label kind spans parts other fits typed occurrences runs below h =
+        let there = read_object change.declared scene e kind parts h.parameter (subst (λ (l : Label). Fits scene l kind (listed parts)) h.reads.0 fits)
+        (subst (λ (l : Label). AreWellTyped (inside scene l (listed parts)) parts) h.reads.0 typed) h.reads.2 in
+        let is = ap (λ (l : Label). node l kind spans parts) h.reads.0 ∙ ap (λ (ps : Trees). node read kind spans ps) there.alone in
+        ap (λ (found : List Occurrence). length (left_at n found runs other below)) h.is
+        ∙ (left_count (h.one.parameter == n) (record { runs = runs; tree = other })
+        ∙ (ap (λ b. if b then 1 else 0) (same_position ps distinct h.one.parameter n h.parameter p h.found found)
+        ∙ (sym (times_read p h.parameter kind there.named_kind spans there.named_spans) ∙ sym (ap (times_named p) is))))
+
+    mutual
+      pub counted : (rewriting : Rewriting) → rewriting.rename ≡ change.rename → (run : Run) (scene : Scene) → scene.declared ≡ change.declared → (here : Here) (tree other : Tree) → IsWellTyped scene tree
+          → SameBody rewriting ps run here tree other → length (standing_in rewriting run n here other) ≡ times_named p tree
+      counted rewriting r run scene e here (node label kind spans parts) (node other other_kind other_spans others) typed h =
+          let was = node other other_kind other_spans others in
+          let below = standing_below rewriting run n other other_spans others in
+          either (IsNodeHere rewriting here.occurrences label kind was (SameBodies rewriting ps run other other_spans parts others)) (ReadsHere ps here.occurrences label kind parts was)
+          (length (standing_in rewriting run n here was) ≡ times_named p (node label kind spans parts))
+          (λ same.
+          let none = ap (times_here p) (same.same.0 ∙ ap (λ rename. relabelled rename other) r) ∙ other_name other in
+          ap (λ (occurrences : List Occurrence). length (left_at n occurrences here.runs was below)) same.none
+          ∙ (all_counted rewriting r run (inside scene label (listed parts)) (inside_declared scene label (listed parts) ∙ e) other other_spans parts others typed.1 same.below
+          ∙ omega (arith, none)))
+          (λ reads. read_counted scene e label kind spans parts was typed.0 typed.1 here.occurrences here.runs below reads)
+          (by_here rewriting ps here.occurrences here.runs label kind parts was _ h)
+
+      all_counted : (rewriting : Rewriting) → rewriting.rename ≡ change.rename → (run : Run) (scene : Scene) → scene.declared ≡ change.declared → (label : Label) (spans : Spans) (trees others : Trees)
+          → AreWellTyped scene trees → SameBodies rewriting ps run label spans trees others → length (standing_below rewriting run n label spans others) ≡ times_named_in p trees
+      all_counted rewriting r run scene e label spans no_trees no_trees typed h = refl
+      all_counted rewriting r run scene e label spans no_trees (more_trees other others) typed h = absurd h
+      all_counted rewriting r run scene e label spans (more_trees first rest) no_trees typed h = absurd h
+      all_counted rewriting r run scene e label spans (more_trees first rest) (more_trees other others) typed h =
+          length-append (standing_in rewriting run n (here_below rewriting run label spans other) other) (standing_below rewriting run n label spans others)
+          ∙ (ap (λ m. m + length (standing_below rewriting run n label spans others)) (counted rewriting r run scene e (here_below rewriting run label spans other) first other typed.0 h.0)
+          ∙ ap (λ m. times_named p first + m) (all_counted rewriting r run scene e label spans rest others typed.1 h.1))

@@ -1,25 +1,28 @@
 -- Declarations in functions, in units of which one calls the added function.
 --     locals_agree      they agree, and initialisers of objects of static storage duration call it nowhere
-use Rattle.std.specs.Prelude.{◌≡◌, refl, ℕ, Bool, true, false, All, List, [], ◌∷◌, map, take, drop, if◌then◌else◌}
+use Rattle.std.specs.Prelude.{◌≡◌, refl, ℕ, ◌==◌, Bool, true, false, All, List, [], ◌∷◌, map, take, drop, Option, Some, if◌then◌else◌}
 use Rattle.std.proofs.Common.{ap, sym, ◌∙◌, subst, inl, inr}
+use Rattle.std.proofs.lemmas.Bool.{false≢true}
 use Rattle.std.proofs.lemmas.List.Elements.{All-head, All-tail, All-nil, All-cons, All-take, All-drop}
 use Rattle.dm_type.specs.CTypes.{CType}
 use Rattle.dm_tree.specs.Initialisers.{DeclaratorFits, DeclaratorsFit}
 use Rattle.dm_tree.specs.Scenes.{Scene}
-use Rattle.dm_tree.specs.Trees.{Label, enumerator, object, function, declare, is_statement, Declarator, Tree, Trees, node, no_trees, more_trees, label_of, listed}
+use Rattle.dm_tree.specs.Trees.{Label, enumerator, object, function, member, choose, comma, block, declare, full, empty, if_statement, switch, case, default, while_loop, do_loop, for_loop, break, continue, return, is_statement, Declarator, Tree, Trees, node, no_trees, more_trees, label_of, listed}
 use Rattle.dm_tree.specs.Typing.{Fits, inside, IsWellTyped, AreWellTyped}
-use Rattle.dm_meaning.specs.Called as called
-use Rattle.dm_meaning.specs.Called.{Called}
+use Rattle.dm_meaning.specs.Called.{Called, gives_value, Gives}
+use Rattle.dm_meaning.specs.CalledWithAll as called
+use Rattle.dm_meaning.specs.CalledWithAll.{given, HoldsWhole, PassesAll}
 use Rattle.dm_meaning.specs.Programs.{Static}
 use Rattle.dm_meaning.specs.Replaced as replaced
 use Rattle.dm_meaning.specs.Replaced.{Zipped, relabelled, renamed_declarator}
 use Rattle.dm_meaning.specs.Statements.{Local, with_expressions, expressions_of}
 use Rattle.dm_meaning.specs.Units.{locals_by, locals_in, locals_in_all}
+use Rattle.dm_meaning.proofs.OptionLemmas.{none_is_some, some_is_some}
 use Rattle.dm_meaning.proofs.StatementLemmas.{zipped_take, zipped_drop, zipped_append}
 use Rattle.dm_sound.proofs.LocalLemmas.{same_count}
 use Rattle.dm_refine.specs.Calls.{IsEvaluated, AreEvaluated}
 use Rattle.dm_refine.proofs.CallStaticLemmas.{LocalAgrees}
-use Rattle.dm_refine.proofs.CallTreeLemmas.{bare, plain}
+use Rattle.dm_refine.proofs.CallTreeLemmas.{bare_of, plain}
 use Rattle.dm_refine.proofs.ConstantLocalLemmas.{no_locals, static_sort_fixed, all_typed}
 use Rattle.dm_refine.proofs.ConstantTreeLemmas.{inside_declared}
 use Rattle.dm_refine.proofs.InertLemmas.{IsInert}
@@ -37,9 +40,66 @@ same_statement rename (function d) = refl
 same_statement rename (declare lengths declarators) = refl
 same_statement rename label = refl
 
+-- the first of two trees, or the other
+picked : (b : Bool) (first other : Tree) (rest : Option Tree) → (if b then Some first else rest) ≡ Some other → is_statement (label_of first) ≡ false → (rest ≡ Some other → is_statement (label_of other) ≡ false)
+    → is_statement (label_of other) ≡ false
+picked true first other rest e f g = subst (λ (tree : Tree). is_statement (label_of tree) ≡ false) (some_is_some first other e) f
+picked false first other rest e f g = g e
+
 module _ (change : Called) (statics old_statics : List Static) (expression : is_statement (label_of change.body) ≡ false) where
   abbrev f : ℕ
   f = change.added.function
+
+  -- what gives a value is no statement
+  gives_expression : (tree : Tree) → Gives tree → is_statement (label_of tree) ≡ false
+  gives_expression (node label kind spans parts) (inl e) = by_label label e
+    where
+      by_label : (one : Label) → gives_value one ≡ true → is_statement one ≡ false
+      by_label block e = absurd (false≢true e)
+      by_label (declare lengths declarators) e = absurd (false≢true e)
+      by_label full e = absurd (false≢true e)
+      by_label empty e = absurd (false≢true e)
+      by_label if_statement e = absurd (false≢true e)
+      by_label switch e = absurd (false≢true e)
+      by_label case e = absurd (false≢true e)
+      by_label default e = absurd (false≢true e)
+      by_label while_loop e = absurd (false≢true e)
+      by_label do_loop e = absurd (false≢true e)
+      by_label (for_loop first second third) e = absurd (false≢true e)
+      by_label break e = absurd (false≢true e)
+      by_label continue e = absurd (false≢true e)
+      by_label return e = absurd (false≢true e)
+      by_label one e = refl
+  gives_expression (node (member n) kind spans parts) (inr h) = refl
+  gives_expression (node choose kind spans parts) (inr h) = refl
+  gives_expression (node comma kind spans parts) (inr h) = refl
+  gives_expression (node label kind spans parts) (inr h) = absurd h
+
+  same_expression : (label other : Label) → label ≡ relabelled change.rename other → is_statement label ≡ false → is_statement other ≡ false
+  same_expression label other e n = sym (same_statement change.rename other) ∙ (ap is_statement (sym e) ∙ n)
+
+  holds_expression : (arguments : Trees) (body other : Tree) → is_statement (label_of body) ≡ false → called.Holds change arguments body other → is_statement (label_of other) ≡ false
+  holds_expression arguments (node label kind spans parts) other n h = same_expression label (label_of other) h.0 n
+
+  mutual
+    -- an expression agrees with one, where calls are of expressions
+    expression_agrees : (tree other : Tree) → is_statement (label_of tree) ≡ false → called.Agrees change tree other → is_statement (label_of other) ≡ false
+    expression_agrees (node label kind spans parts) other n (inl h) = same_expression label (label_of other) h.0 n
+    expression_agrees (node label kind spans parts) other n (inr h) = call_expression parts other h.0 h.1.holds h.2
+
+    call_expression : (parts : Trees) (other : Tree) (arguments : Trees) → HoldsWhole change arguments change.body other → called.Passes change parts arguments → is_statement (label_of other) ≡ false
+    call_expression no_trees other arguments h passes = absurd passes
+    call_expression (more_trees named rest) other arguments (inl h) passes = argument_expression rest arguments change.added.parameters h.parameter other h.stands passes.1
+    call_expression (more_trees named rest) other arguments (inr h) passes = holds_expression arguments change.body other expression h
+
+    argument_expression : (rest arguments : Trees) (ps : List ℕ) (p : ℕ) (other : Tree) → given ps (listed arguments) p ≡ Some other → PassesAll change rest arguments → is_statement (label_of other) ≡ false
+    argument_expression no_trees no_trees [] p other e h = absurd (none_is_some other e)
+    argument_expression no_trees no_trees (q ∷ ps) p other e h = absurd (none_is_some other e)
+    argument_expression no_trees (more_trees other others) ps p was e h = absurd h
+    argument_expression (more_trees first rest) no_trees ps p was e h = absurd h
+    argument_expression (more_trees first rest) (more_trees other others) [] p was e h = absurd (none_is_some was e)
+    argument_expression (more_trees first rest) (more_trees other others) (q ∷ ps) p was e h =
+        picked (q == p) other was (given ps (listed others) p) e (expression_agrees first other (gives_expression first h.0) h.2) (λ f. argument_expression rest others ps p was f h.3)
 
   listed_agree : (trees others : Trees) → called.AllAgree change trees others → Zipped (called.Agrees change) (listed trees) (listed others)
   listed_agree no_trees no_trees h = tt
@@ -48,7 +108,7 @@ module _ (change : Called) (statics old_statics : List Static) (expression : is_
   listed_agree (more_trees first rest) (more_trees other others) h = (h.0, listed_agree rest others h.1)
 
   pub all_plain : (trees others : List Tree) → Zipped (called.Agrees change) trees others → All IsInert trees → All (IsEvaluated f) trees
-      → Zipped (replaced.Agrees (bare change statics old_statics)) trees others
+      → Zipped (replaced.Agrees (bare_of change statics old_statics)) trees others
   all_plain [] [] h inert evaluated = tt
   all_plain [] (other ∷ others) h inert evaluated = absurd h
   all_plain (tree ∷ trees) [] h inert evaluated = absurd h
@@ -58,7 +118,7 @@ module _ (change : Called) (statics old_statics : List Static) (expression : is_
   )
 
   abbrev Same : Local → Local → Type 0
-  Same local other = LocalAgrees (bare change statics old_statics) local other
+  Same local other = LocalAgrees (bare_of change statics old_statics) local other
 
   pub declarators_agree : (scene place_scene : Scene) → place_scene.declared ≡ change.declared → (declarators : List Declarator) (trees others : List Tree) → All (IsWellTyped scene) trees
       → All (IsEvaluated f) trees → DeclaratorsFit place_scene (map (renamed_declarator change.rename) declarators) trees → Zipped (called.Agrees change) trees others
@@ -106,13 +166,8 @@ module _ (change : Called) (statics old_statics : List Static) (expression : is_
         (subst (λ (l : Label). AreWellTyped (inside scene l (listed parts)) parts) h.0 t.1) evaluated.1 h.3 (locals_in_all parts) (locals_in_all others)
         (all_locals_agree (inside scene label (listed parts)) (inside_declared scene label (listed parts) ∙ e) parts others t.1 evaluated.1 h.3))
     locals_agree scene e (node label kind spans parts) (node other other_kind other_spans others) t evaluated (inr h) =
-        subst (λ (l : Label). Zipped Same (locals_by l (listed parts) (locals_in_all parts)) (locals_by other (listed others) (locals_in_all others))) (sym h.is)
-        (subst (λ ls. Zipped Same [] ls)
-        (sym (no_locals other (listed others) (locals_in_all others)
-        (sym (same_statement change.rename other) ∙ (ap is_statement (sym (body_label change.body (node other other_kind other_spans others) h.same)) ∙ expression)))) tt)
-      where
-        body_label : (body was : Tree) → called.IsSame change body was → label_of body ≡ relabelled change.rename (label_of was)
-        body_label (node l k s ps) was same = same.0
+        subst (λ (l : Label). Zipped Same (locals_by l (listed parts) (locals_in_all parts)) (locals_by other (listed others) (locals_in_all others))) (sym h.1.is)
+        (subst (λ ls. Zipped Same [] ls) (sym (no_locals other (listed others) (locals_in_all others) (call_expression parts (node other other_kind other_spans others) h.0 h.1.holds h.2))) tt)
 
     all_locals_agree : (scene : Scene) → scene.declared ≡ change.declared → (trees others : Trees) → AreWellTyped scene trees → AreEvaluated f trees → called.AllAgree change trees others
         → Zipped Same (locals_in_all trees) (locals_in_all others)

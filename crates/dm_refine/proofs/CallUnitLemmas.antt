@@ -1,7 +1,7 @@
--- Aligned units, where a function without parameters is put in.
---     calling_units      the new program refines the old one
-use Rattle.std.specs.Prelude.{◌≡◌, refl, ℕ, ◌+◌, Bool, true, false, not, IsTrue, All, List, [], ◌∷◌, ◌++◌, take, drop, Option, Some, None, option_map, slice_get}
-use Rattle.std.specs.List.{AllByRecursion}
+-- Aligned units, where a function is put in.
+--     passing_units      the new program refines the old one
+use Rattle.std.specs.Prelude.{◌≡◌, refl, ℕ, ◌+◌, ◌==◌, Bool, true, false, not, ◌||◌, IsTrue, All, List, [], ◌∷◌, ◌++◌, take, drop, Option, Some, None, option_map, slice_get}
+use Rattle.std.specs.List.{list_any, AllByRecursion}
 use Rattle.std.specs.Option.{IsSomeAnd}
 use Rattle.std.proofs.Common.{ap, sym, ◌∙◌, subst, inl, inr}
 use Rattle.std.proofs.lemmas.Bool.{true≢false, false≢true}
@@ -16,42 +16,47 @@ use Rattle.dm_tree.specs.Trees.{block, return, is_statement, Declarator, Spans, 
 use Rattle.dm_tree.specs.Initialisers.{DeclaratorsFit}
 use Rattle.dm_tree.specs.Typing.{IsWellTyped, FormFits, ExternalFits, IsWellTypedUnit, file_scene, body_scene}
 use Rattle.dm_tree.specs.Units.{Declaration, External, ExternalForm, declares, defines_function, TypedUnit}
-use Rattle.dm_meaning.specs.Called as called
-use Rattle.dm_meaning.specs.Called.{Called, IsSame, statics_of, is_nowhere_local}
-use Rattle.dm_meaning.specs.CalledUnits.{change_of, FormAgrees, ExternalAgrees, IsAdded, ExternalsAgree, IsUnitCalling}
+use Rattle.dm_meaning.specs.Among.{IsAmong}
+use Rattle.dm_meaning.specs.Called.{Called, statics_of, is_nowhere_local}
+use Rattle.dm_meaning.specs.CalledUnits.{change_of, FormAgrees, ExternalAgrees, IsAdded, ExternalsAgree, IsUnitCallingWithAll}
+use Rattle.dm_meaning.specs.CalledWithAll as called
+use Rattle.dm_meaning.specs.CalledWithAll.{AreDistinct}
 use Rattle.dm_meaning.specs.Programs.{declaration_at}
 use Rattle.dm_meaning.specs.Refinement.{Refines, refines_through}
 use Rattle.dm_meaning.specs.Replaced.{Zipped, facts_of}
 use Rattle.dm_meaning.specs.Statements.{Local, is_automatic_declaration, is_automatic_sort, with_expressions}
 use Rattle.dm_meaning.specs.Steps.{is_main}
 use Rattle.dm_meaning.specs.Units.{locals_by, locals_in, locals_in_all, locals_of, all_locals, machine_of, program_of}
-use Rattle.dm_meaning.proofs.OptionLemmas.{and_right}
-use Rattle.dm_meaning.proofs.PassUnitLemmas.{called_units_refine}
+use Rattle.dm_meaning.proofs.OptionLemmas.{and_left, and_right}
+use Rattle.dm_meaning.proofs.GrowLemmas.{equal_is}
+use Rattle.dm_meaning.proofs.PassUnitLemmas.{called_with_all_units_refine}
 use Rattle.dm_meaning.proofs.StatementLemmas.{zipped_append}
 use Rattle.dm_meaning.proofs.WholeLemmas.{typed-expression}
 use Rattle.dm_same.proofs.MachineLemmas.{refines_same}
 use Rattle.dm_effect.specs.Entities.{trees_in_form}
 use Rattle.dm_effect.specs.Scoped.{is_automatic, is_scoped, is_scoped_form, is_scoped_external, IsScopedUnit}
-use Rattle.dm_agree.specs.Agreement.{Added, added_function, Rewriting, Here, SameBody, AgreesWhole}
-use Rattle.dm_agree.specs.Standing.{runs_at}
+use Rattle.dm_agree.specs.Agreement.{Added, added_function, here_at, AgreesWhole}
+use Rattle.dm_agree.specs.Standing.{runs_at, extents_of}
 use Rattle.dm_align.specs.Units as aligned
-use Rattle.dm_align.specs.Units.{Insertion, moved, other_externals, FormAdds, rewriting_of, AreAligned}
-use Rattle.dm_refine.specs.Calls.{HasResult, HasNoLengths, IsEvaluated, IsCalledEvaluated}
-use Rattle.dm_refine.proofs.CallBodyLemmas.{nowhere_local, not_true, body_same}
+use Rattle.dm_align.specs.Units.{Insertion, are_different, moved, other_externals, FormAdds, rewriting_of, AreAligned}
+use Rattle.dm_refine.specs.Calls.{HasResult, HasNoLengths, IsEvaluated, IsCalledEvaluated, AreEvaluatedAtOnce}
+use Rattle.dm_refine.proofs.AutomaticLemmas.{nowhere_local}
 use Rattle.dm_refine.proofs.CallGivesLemmas.{gives}
 use Rattle.dm_refine.proofs.CallLocalLemmas.{declarators_agree, locals_agree}
 use Rattle.dm_refine.proofs.CallPutLemmas.{IsFunctionPut, function_put, IsReturned, returned, single_tree, scoped_body}
 use Rattle.dm_refine.proofs.CallStaticLemmas.{LocalAgrees, statics_agree}
-use Rattle.dm_refine.proofs.CallTreeLemmas.{AddsFunction, IsAddedEntry, tree_called}
+use Rattle.dm_refine.proofs.CallTreeLemmas.{AddsFunction, IsAddedEntry, IsRun, some_run, tree_called}
 use Rattle.dm_refine.proofs.ConstantLocalLemmas.{no_locals}
 use Rattle.dm_refine.proofs.NumberLemmas.{moved_injective, moved_apart, entry_told}
+use Rattle.dm_refine.proofs.CallBodyLemmas.{slice_among, not_true, or_true, body_holds, counted}
 use Rattle.dm_refine.proofs.PutLemmas.{parts_of_list, all_without, zipped_typed, all_passing, all_there}
+use Rattle.dm_refine.proofs.ReadFirstLemmas.{read_first}
 use Rattle.dm_refine.proofs.TypedLemmas.{typed_body}
 
 -- the parts of bodies that agree
 body_parts : (change : Called) (tree other : Tree) → label_of tree ≡ block → called.Agrees change tree other → called.AllAgree change (trees_of tree) (trees_of other)
 body_parts change (node label kind spans parts) other e (inl h) = h.3
-body_parts change (node label kind spans parts) other e (inr h) = absurd (false≢true (ap is_statement (sym h.is ∙ e)))
+body_parts change (node label kind spans parts) other e (inr h) = absurd (false≢true (ap is_statement (sym h.1.is ∙ e)))
 
 -- ---- the added definition
 
@@ -68,13 +73,13 @@ agree_but_added change R (first ∷ before) behind (other ∷ others) external i
 expression_locals : (tree : Tree) → is_statement (label_of tree) ≡ false → locals_in tree ≡ []
 expression_locals (node label kind spans parts) e = no_locals label (listed parts) (locals_in_all parts) e
 
-whole_locals : (whole body : Tree) (kind : CType) (spans : Spans) → label_of whole ≡ block → parts_of whole ≡ node return kind spans (more_trees body no_trees) ∷ [] → is_statement (label_of body) ≡ false
+pub whole_locals : (whole body : Tree) (kind : CType) (spans : Spans) → label_of whole ≡ block → parts_of whole ≡ node return kind spans (more_trees body no_trees) ∷ [] → is_statement (label_of body) ≡ false
     → locals_in whole ≡ []
 whole_locals (node label type own parts) body kind spans b e expression =
     ap (λ l. locals_by l (listed parts) (locals_in_all parts)) b
     ∙ (ap locals_in_all (single_tree parts (node return kind spans (more_trees body no_trees)) e) ∙ ap (λ (ls : List Local). (ls ++ []) ++ []) (expression_locals body expression))
 
-locals_but_added : (Same : Local → Local → Type 0) (before behind others : List External) (external : External) → locals_of external.form ≡ []
+pub locals_but_added : (Same : Local → Local → Type 0) (before behind others : List External) (external : External) → locals_of external.form ≡ []
     → Zipped (λ (one other : External). Zipped Same (locals_of one.form) (locals_of other.form)) (before ++ behind) others
     → Zipped Same (all_locals (before ++ external ∷ behind)) (all_locals others)
 locals_but_added Same [] behind others external none h =
@@ -93,11 +98,11 @@ locals_but_added Same (first ∷ before) behind (other ∷ others) external none
 
 -- ---- facts of declarations
 
-automatic_fact : Option (List ℕ × Sort × CType) → Bool
+pub automatic_fact : Option (List ℕ × Sort × CType) → Bool
 automatic_fact None = false
 automatic_fact (Some facts) = is_automatic_sort facts.1
 
-automatic_is : (found : Option Declaration) → is_automatic_declaration found ≡ automatic_fact (option_map facts_of found)
+pub automatic_is : (found : Option Declaration) → is_automatic_declaration found ≡ automatic_fact (option_map facts_of found)
 unfolding automatic_fact
 automatic_is None = refl
 automatic_is (Some entry) = refl
@@ -122,18 +127,37 @@ covers_function whole (array inner n) h e = absurd (false≢true e)
 covers_function whole (struct n) h e = absurd (false≢true e)
 covers_function whole (const inner) h e = absurd (false≢true e)
 
-no_function : (whole type : CType) → covers whole type ≡ true → is_function_type whole ≡ false → is_function_type type ≡ false
+pub no_function : (whole type : CType) → covers whole type ≡ true → is_function_type whole ≡ false → is_function_type type ≡ false
 no_function whole type h e = by_bool (is_function_type type) refl
   where
     by_bool : (b : Bool) → is_function_type type ≡ b → is_function_type type ≡ false
     by_bool false n = n
     by_bool true n = absurd (true≢false (sym (covers_function whole type h n) ∙ e))
 
+-- ---- parameters
+
+among_any : (d : ℕ) (ds : List ℕ) → IsAmong d ds → list_any (λ c. c == d) ds ≡ true
+among_any d [] h = absurd h
+among_any d (c ∷ ds) (inl e) = ap (λ b. b || list_any (λ c. c == d) ds) (equal_is c d (sym e))
+among_any d (c ∷ ds) (inr k) = or_true (c == d) (list_any (λ c. c == d) ds) (among_any d ds k)
+
+pub distinct_of : (ps : List ℕ) → are_different ps ≡ true → AreDistinct ps
+distinct_of [] e = tt
+distinct_of (p ∷ ps) e = (
+  λ k. true≢false (sym (among_any p ps k) ∙ not_true (list_any (λ c. c == p) ps) (and_left (not (list_any (λ c. c == p) ps)) (are_different ps) e)),
+  distinct_of ps (and_right (not (list_any (λ c. c == p) ps)) (are_different ps) e),
+)
+
+pub all_put : (put : Insertion) (ps : List ℕ) → AllByRecursion (aligned.IsPut put) ps → (p : ℕ) → IsAmong p ps → aligned.IsPut put p
+all_put put [] h p k = absurd k
+all_put put (q ∷ ps) h p (inl e) = subst (aligned.IsPut put) (sym e) h.0
+all_put put (q ∷ ps) h p (inr k) = all_put put ps h.1 p k
+
 -- ---- units
 
 module _ (old_types new_types : Table) (old new : TypedUnit) (runs : List Run) (old_typed : IsWellTypedUnit old_types old) (typed : IsWellTypedUnit new_types new) (scoped : IsScopedUnit new)
-    (put : Insertion) (h : AreAligned old_types new_types old new runs (Some put)) (f : ℕ) (body : Tree) (adds : put.added ≡ added_function f [] body)
-    (lengths : HasNoLengths body) (evaluated : IsCalledEvaluated f new) where
+    (put : Insertion) (h : AreAligned old_types new_types old new runs (Some put)) (f : ℕ) (parameters : List ℕ) (body : Tree) (adds : put.added ≡ added_function f parameters body)
+    (lengths : HasNoLengths body) (evaluated : IsCalledEvaluated f new) (at_once : AreEvaluatedAtOnce runs parameters body) where
   -- an external declaration that fits, in whose scopes names stand, and whose operands of sizeof don't name the function
   abbrev Fits : External → Type 0
   Fits external = ExternalFits (file_scene new_types new.declared) external × IsTrue (is_scoped_external new.declared external) × AllByRecursion (IsEvaluated f) (trees_in_form external.form)
@@ -147,15 +171,21 @@ module _ (old_types new_types : Table) (old new : TypedUnit) (runs : List Run) (
   abbrev told : (d : ℕ) → option_map facts_of (declaration_at new.declared (moved (Some put) d)) ≡ option_map facts_of (declaration_at old.declared d)
   told = entry_told (Some put) new.declared old.declared h.declared
 
-  module _ (external : External) (found : slice_get new.externals put.external ≡ Some external) (one : IsFunctionPut new_types new put f body external) where
+  module _ (external : External) (found : slice_get new.externals put.external ≡ Some external) (one : IsFunctionPut new_types new put f parameters body external) where
     abbrev change : Called
-    change = change_of old_types new old (moved (Some put)) (record { function = f; parameters = []; body = one.whole }) body
+    change = change_of old_types new old (moved (Some put)) (record { function = f; parameters = parameters; body = one.whole }) body
 
     abbrev injective : (c d : ℕ) → change.rename c ≡ change.rename d → c ≡ d
     injective = moved_injective (Some put)
 
-    abbrev entry : IsAddedEntry new.declared f
-    entry = record { entry = one.entry; found = one.found; result = one.result; typed = one.typed }
+    abbrev entry : IsAddedEntry new_types new.declared f parameters
+    entry = record { entry = one.entry; found = one.found; result = one.result; kinds = one.kinds; typed = one.typed; fit = one.parameters_fit }
+
+    own : (p : ℕ) → IsAmong p parameters → (d : ℕ) → moved (Some put) d ≡ p → ⊥
+    own p k d e = moved_apart put d (subst (aligned.IsPut put) (sym e) (all_put put parameters one.parameters_put.0 p k))
+
+    distinct : AreDistinct parameters
+    distinct = distinct_of parameters one.parameters_put.1
 
     is_added : AddsFunction change put.added
     is_added = subst (AddsFunction change) (sym adds) (refl, refl, refl)
@@ -171,20 +201,26 @@ module _ (old_types new_types : Table) (old new : TypedUnit) (runs : List Run) (
         nowhere_local old_types old old_typed d
         (automatic_is (slice_get old.declared d) ∙ (ap automatic_fact (sym (told d)) ∙ (sym (automatic_is (slice_get new.declared (moved (Some put) d))) ∙ e)))
 
-    scoped_whole : is_scoped (is_automatic new.declared) [] one.whole ≡ true
+    scoped_whole : is_scoped (is_automatic new.declared) parameters one.whole ≡ true
     scoped_whole =
         subst (λ (form : ExternalForm). IsTrue (is_scoped_form (is_automatic new.declared) form)) one.form
         (all_there (λ (each : External). IsTrue (is_scoped_external new.declared each)) new.externals (all_passing (is_scoped_external new.declared) new.externals scoped) put.external external found)
 
-    same : (rewriting : Rewriting) → rewriting.rename ≡ change.rename → (run : Run) (here : Here) (other : Tree) → SameBody rewriting [] run here body other → IsSame change body other
-    same rewriting r run here other k =
-        body_same change (is_automatic new.declared) still rewriting r run here body other
-        (typed-expression value.inner body value.typed (and_right (not (is_lvalue body)) (not (is_statement (label_of body))) value.value))
-        (scoped_body (is_automatic new.declared) one.whole body one.return_kind one.return_spans one.block one.returns scoped_whole) lengths k
+    known : (run : Run) → IsAmong run runs → IsRun change
+    known each k = record {
+      held = λ rewriting r run inner other same arguments gives.
+          body_holds change own (is_automatic new.declared) still arguments rewriting r run value.inner value.same (here_at run inner other) body other value.typed
+          (typed-expression value.inner body value.typed (and_right (not (is_lvalue body)) (not (is_statement (label_of body))) value.value))
+          (scoped_body (is_automatic new.declared) parameters one.whole body one.return_kind one.return_spans one.block one.returns scoped_whole) lengths (read_first parameters body (at_once each k)) same gives;
+      single = λ rewriting r run inner other same n p e.
+          counted change own distinct n p e rewriting r run value.inner value.same (here_at run inner other) body other value.typed same ∙ (at_once each k p (slice_among parameters n p e)).0;
+      once = λ p among. (at_once each k p among).0;
+    }
 
     tree_agrees : (scene : Scene) → scene.declared ≡ new.declared → (tree other : Tree) → IsWellTyped scene tree → IsEvaluated f tree → AgreesWhole (rewriting_of old_types old runs (Some put)) tree other
         → called.Agrees change tree other
-    tree_agrees scene e tree other t calls agree = tree_called change told injective entry runs put.added is_added same scene e (runs_at runs other) tree other t calls agree
+    tree_agrees scene e tree other t calls agree =
+        tree_called change told injective new_types typed.entries entry runs put.added is_added distinct scene e (runs_at runs other) (λ run k. known run (some_run runs (extents_of other) run k)) known tree other t calls agree
 
     trees_agree : (scene : Scene) → scene.declared ≡ new.declared → (trees others : List Tree) → All (IsWellTyped scene) trees → AllByRecursion (IsEvaluated f) trees
         → Zipped (AgreesWhole (rewriting_of old_types old runs (Some put))) trees others → Zipped (called.Agrees change) trees others
@@ -210,9 +246,9 @@ module _ (old_types new_types : Table) (old new : TypedUnit) (runs : List Run) (
               (subst (λ (ds : List Declarator). DeclaratorsFit scene ds trees) agree.0 t.1) (trees_agree scene refl trees other_trees t.0 calls agree.1)),
         )
     forms_agree (declares declarators trees) (defines_function g others other) t calls agree = absurd agree
-    forms_agree (defines_function g parameters tree) (declares others other_trees) t calls agree = absurd agree
-    forms_agree (defines_function g parameters tree) (defines_function k others other) t calls agree =
-        let new_body = typed_body new_types new.declared g parameters tree t in
+    forms_agree (defines_function g names tree) (declares others other_trees) t calls agree = absurd agree
+    forms_agree (defines_function g names tree) (defines_function k others other) t calls agree =
+        let new_body = typed_body new_types new.declared g names tree t in
         let scene = body_scene (file_scene new_types new.declared) new_body.result in
         let whole = tree_agrees scene refl tree other new_body.typed calls.0 agree.2 in (
           (agree.0, agree.1, body_parts change tree other new_body.block whole),
@@ -250,17 +286,18 @@ module _ (old_types new_types : Table) (old new : TypedUnit) (runs : List Run) (
         (ap locals_of one.form ∙ whole_locals one.whole body one.return_kind one.return_spans one.block one.returns expression)
         (zipped_weaker Both (λ (first other : External). Zipped Same (locals_of first.form) (locals_of other.form)) (λ first other k. k.1) (before ++ behind) old.externals both_agree))
 
-    calling : IsUnitCalling old_types new old (moved (Some put)) (record { function = f; parameters = []; body = one.whole }) body
+    calling : IsUnitCallingWithAll old_types new old (moved (Some put)) (record { function = f; parameters = parameters; body = one.whole }) body
     calling = record {
       injective = injective;
       apart = λ d e. moved_apart put d (subst (aligned.IsPut put) (sym e) one.inside);
+      own = own;
+      distinct = distinct;
       told = told;
       externals = subst (λ (externals : List External). ExternalsAgree change (called.AllAgree change) externals old.externals) (sym split)
           (agree_but_added change (called.AllAgree change) before behind old.externals external one.form
           (zipped_weaker Both (ExternalAgrees change (called.AllAgree change)) (λ first other k. k.0) (before ++ behind) old.externals both_agree));
       statics = statics_agree (statics_of change) injective told (all_locals new.externals) (all_locals old.externals) locals_same [] [] tt;
       not_main = ap is_main one.found ∙ one.not_main;
-      parameters = refl;
       return_kind = one.return_kind;
       return_spans = one.return_spans;
       returns = one.returns;
@@ -271,7 +308,7 @@ module _ (old_types new_types : Table) (old new : TypedUnit) (runs : List Run) (
     refines =
         refines_through (machine_of (program_of new_types new)) (machine_of (program_of old_types new)) (machine_of (program_of old_types old))
         (refines_same old_types new_types h.structs new)
-        (called_units_refine old_types new old (moved (Some put)) (record { function = f; parameters = []; body = one.whole }) body calling)
+        (called_with_all_units_refine old_types new old (moved (Some put)) (record { function = f; parameters = parameters; body = one.whole }) body calling)
 
   module _ (result : HasResult new f) where
     by_external : (found : Option External) → slice_get new.externals put.external ≡ found → IsSomeAnd found (λ external. FormAdds new_types new put put.added external.form)
@@ -279,9 +316,9 @@ module _ (old_types new_types : Table) (old new : TypedUnit) (runs : List Run) (
     by_external None e adds_it = absurd adds_it
     by_external (Some external) e adds_it =
         refines external e
-        (function_put new_types new put f body external
+        (function_put new_types new put f parameters body external
         (all_there (ExternalFits (file_scene new_types new.declared)) new.externals typed.externals put.external external e)
         (subst (λ (added : Added). FormAdds new_types new put added external.form) adds adds_it) result)
 
-    pub calling_units : Refines (machine_of (program_of new_types new)) (machine_of (program_of old_types old))
-    calling_units = by_external (slice_get new.externals put.external) refl h.added
+    pub passing_units : Refines (machine_of (program_of new_types new)) (machine_of (program_of old_types old))
+    passing_units = by_external (slice_get new.externals put.external) refl h.added

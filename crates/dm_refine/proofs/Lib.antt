@@ -1,24 +1,28 @@
-mod NumberLemmas
-mod PutLemmas
-mod TypedLemmas
+pub mod NumberLemmas
+pub mod PutLemmas
+pub mod TypedLemmas
 mod EnumeratorTreeLemmas
 mod EnumeratorUnitLemmas
 mod BackLemmas
-mod ExampleLemmas
+pub mod ExampleLemmas
 mod EnumeratorExample
-mod InertLemmas
+pub mod InertLemmas
 mod RangeLemmas
-mod StaticLemmas
-mod ConstantTreeLemmas
+pub mod StaticLemmas
+pub mod ConstantTreeLemmas
 mod ConstantEntryLemmas
-mod ConstantLocalLemmas
+pub mod ConstantLocalLemmas
 mod ConstantUnitLemmas
 mod ConstantExample
-mod CallTreeLemmas
-mod CallBodyLemmas
-mod CallGivesLemmas
-mod CallPutLemmas
-mod CallStaticLemmas
-mod CallLocalLemmas
-mod CallUnitLemmas
+pub mod CoverLemmas
+pub mod ReadFirstLemmas
+pub mod AutomaticLemmas
+pub mod CallBodyLemmas
+pub mod CallTreeLemmas
+pub mod CallGivesLemmas
+pub mod CallPutLemmas
+pub mod CallStaticLemmas
+pub mod CallLocalLemmas
+pub mod CallUnitLemmas
 mod CallExample
+mod PassExample

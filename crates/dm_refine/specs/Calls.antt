@@ -1,14 +1,19 @@
--- Which added functions the law on calls speaks of today, and where their calls stand.
+-- Which added functions the laws on calls speak of today, and where their calls stand.
 --     HasResult unit f      the function has a result
 --     HasNoLengths tree      no type name in a tree has an array length or an enumerator's value
 --     IsCalledEvaluated f unit      no operand of sizeof in a unit names the function
-use Rattle.std.specs.Prelude.{◌≡◌, ℕ, Bool, false, ◌||◌, ◌==◌, slice_get}
+--     AreEvaluatedAtOnce runs parameters body      where a run stands, each parameter is read once in the expression, and first
+use Rattle.std.specs.Prelude.{◌≡◌, ℕ, Bool, false, ◌||◌, ◌==◌, List, slice_get}
 use Rattle.std.specs.List.{AllByRecursion}
 use Rattle.std.specs.Option.{IsSomeAnd}
+use Rattle.dm_runs.specs.declared.run.Run.{Run}
 use Rattle.dm_tree.specs.Scenes.{is_void, is_function as is_function_type}
 use Rattle.dm_tree.specs.Trees.{Label, function, convert, sizeof_tree, sizeof_kind, Tree, Trees, node, no_trees, more_trees}
 use Rattle.dm_tree.specs.Units.{Declaration, External, TypedUnit}
+use Rattle.dm_meaning.specs.Among.{IsAmong}
+use Rattle.dm_meaning.specs.CalledWithAll.{times_named}
 use Rattle.dm_effect.specs.Entities.{trees_in_form}
+use Rattle.dm_central.specs.Arguments.{ReadsFirst}
 use Rattle.dm_align.specs.Units.{result_of}
 
 -- a function returns an object type, and here one other than void (6.7.6.3p1, 6.9.1p3)
@@ -63,3 +68,14 @@ abbrev mutual
 
 abbrev pub IsCalledEvaluated : ℕ → TypedUnit → Type 0
 IsCalledEvaluated f one = AllByRecursion (λ (external : External). AllByRecursion (IsEvaluated f) (trees_in_form external.form)) one.externals
+
+-- ---- arguments
+
+-- The parameter is read once, in a part that may be evaluated as soon as the whole is: &&, ||, ?: and the comma don't choose whether it is
+-- (6.5.13p4, 6.5.14p4, 6.5.15p4, 6.5.17p2), and no sizeof has it. So its argument is evaluated once, as it is for a call (6.5.2.2p10).
+abbrev pub IsReadOnceFirst : Tree → ℕ → Type 0
+IsReadOnceFirst body p = (times_named p body ≡ 1) × ReadsFirst p body
+
+-- Nothing is asked of a function whose macro has no run.
+abbrev pub AreEvaluatedAtOnce : List Run → List ℕ → Tree → Type 0
+AreEvaluatedAtOnce runs parameters body = (run : Run) → IsAmong run runs → (p : ℕ) → IsAmong p parameters → IsReadOnceFirst body p

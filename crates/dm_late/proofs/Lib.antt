@@ -1,0 +1,14 @@
+mod ErasedLemmas
+mod ErasedWholeLemmas
+mod StableLemmas
+mod GivenLemmas
+mod LateBodyLemmas
+mod SameTreeLemmas
+mod ArgumentLemmas
+mod LateCallLemmas
+mod LateTreeLemmas
+mod LateLocalLemmas
+mod DefinitionLemmas
+mod LateStatementLemmas
+mod LateUnitLemmas
+mod MaxExample
