@@ -37,19 +37,19 @@ IsWritable loaded entry =
     is_rewritten entry.outcome ≡ true → (header_count ≤ entry.definition.place.file) × (is_held loaded entry.definition.place.file ≡ true)
 
 module _ (told : Option Files) (units : List Source) (before after : Project) (change : Change) (entry : Entry) where
-  abbrev file : ℕ
-  file = file_of change
+  abbrev edited_file : ℕ
+  edited_file = file_of change
 
-  held-lies : (edited : List ℕ) → IsEdited (bytes_at before.loaded file) change edited → is_held before.loaded file ≡ true
-  held-lies edited is = held-where-lies before.loaded file change.definition (is.0, is.1)
+  held-lies : (edited : List ℕ) → IsEdited (bytes_at before.loaded edited_file) change edited → is_held before.loaded edited_file ≡ true
+  held-lies edited is = held-where-lies before.loaded edited_file change.definition (is.0, is.1)
 
   module _ (other : ℕ) (held : is_held before.loaded other ≡ true) where
-    module _ (edited : List ℕ) (was : is_held before.loaded file ≡ true) (known : Loaded) (knows : StaysKnown (with_bytes before.loaded file edited) known) where
+    module _ (edited : List ℕ) (was : is_held before.loaded edited_file ≡ true) (known : Loaded) (knows : StaysKnown (with_bytes before.loaded edited_file edited) known) where
       at-known : (one : ℕ) → is_held before.loaded one ≡ true → is_held known one ≡ true
-      at-known one is = known-held (with_bytes before.loaded file edited) known knows one (replaced-held before.loaded file edited was one is)
+      at-known one is = known-held (with_bytes before.loaded edited_file edited) known knows one (replaced-held before.loaded edited_file edited was one is)
 
       back : after ≡ restored change before known → is_held after.loaded other ≡ true
-      back is = ap (λ (one : Project). is_held one.loaded other) is ∙ replaced-held known file (bytes_at before.loaded file) (at-known file was) other (at-known other held)
+      back is = ap (λ (one : Project). is_held one.loaded other) is ∙ replaced-held known edited_file (bytes_at before.loaded edited_file) (at-known edited_file was) other (at-known other held)
 
       still-by : (result : Result (List (Option Reading)) Stop) → EndsBy change before result known entry after → is_held after.loaded other ≡ true
       still-by (Err stop) ends = back ends.1.1
@@ -75,7 +75,7 @@ module _ (told : Option Files) (units : List Source) (before after : Project) (c
   written (inl kept) = λ rewritten. absurd (false≢true (sym (ap (λ (one : Entry). is_rewritten one.outcome) kept.1.0) ∙ rewritten))
   written (inr (edited, numbered, is, holds)) = λ rewritten.
       subst (λ (one : Definition). (header_count ≤ one.place.file) × (is_held after.loaded one.place.file ≡ true)) (sym (of-change edited holds))
-      (numbered, still-held file (held-lies edited is) (inr (edited, numbered, is, holds)))
+      (numbered, still-held edited_file (held-lies edited is) (inr (edited, numbered, is, holds)))
 
 module _ (told : Option Files) (units : List Source) where
   judged-held : (before after : Project) (definition : Definition) (answer : Proposal) (entry : Entry) → JudgesBy told units before definition answer entry after → (other : ℕ) → is_held before.loaded other ≡ true
