@@ -91,8 +91,11 @@ def prove_all(used, names, jobs):
 def build(program):
     """Proves and links the program itself. It is run once on no words, where it puts its usage line."""
     folder = os.path.join(TOP, "crates", program)
+    built = os.path.join(folder, "out", program)
+    if os.path.exists(built):
+        os.remove(built)
     ran = subprocess.run(["rt", "run"], cwd=folder, stdout=subprocess.PIPE, stderr=subprocess.STDOUT, text=True, check=False)
-    if os.path.exists(os.path.join(folder, "out", program)):
+    if os.path.exists(built):
         return 0
     print(ran.stdout)
     return ran.returncode or 2
