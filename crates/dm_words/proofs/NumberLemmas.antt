@@ -57,7 +57,8 @@ is_read text number some read few (inr bad) =
 is_read text number some read few (inl good) =
     let same : Some (number_behind 0 text) ≡ Some number = sym (cond-true _ _ None good) ∙ (sym (chosen text some few) ∙ read) in
     let is : number_behind 0 text ≡ number = cc in
-    let low : number_behind 0 text ≤ greatest_number = leb-true _ _ (and_parts _ _ good).1 in
+    let low : number_behind 0 text ≤ greatest_number =
+    leb-true (number_behind 0 text) greatest_number (and_parts (list_all is_digit text) (nat_le (number_behind 0 text) greatest_number) good).1 in
     record { some = some; few = leb-true _ _ few; digits = (and_parts _ _ good).0; is = is; small = omega arith }
 
 too_long : (text : List ℕ) → nat_le (length text) most_digits ≡ false → number_in text ≡ None
