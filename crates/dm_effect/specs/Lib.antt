@@ -11,7 +11,6 @@ pub mod Quiet
 pub mod Safe
 pub mod Scoped
 pub mod Sequencing
-pub mod Spans
 pub mod Stable
 pub mod Tables
 pub mod Walks

@@ -9,7 +9,7 @@ use Rattle.dm_syn.specs.Sources.{spelling_at}
 use Rattle.dm_tree.specs.Scenes.{is_integer, is_function}
 use Rattle.dm_tree.specs.Trees.{Tree}
 use Rattle.dm_tree.specs.Units.{Declaration}
-use Rattle.dm_effect.specs.Spans.{StandBetween}
+use Rattle.dm_scoped.specs.Spans.{StandBetween}
 use Rattle.dm_typing.specs.Known.{Known, Setting, Outcome, given, broken, after, with_it, obeys, if_given, declaring}
 use Rattle.dm_typing.specs.Conversions.{is_complete, constant_of}
 use Rattle.dm_typing.specs.Specifiers.{Said, type_said, are_allowed, Where}

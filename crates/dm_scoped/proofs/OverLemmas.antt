@@ -1,5 +1,5 @@
 -- What holds of an operand holds of it after its conversions, which stand above it.
-use Rattle.std.specs.Prelude.{◌≡◌, Bool, true, false, ◌&&◌, if◌then◌else◌, List, [], ◌∷◌, Option, Some, None, option_map}
+use Rattle.std.specs.Prelude.{◌≡◌, Bool, true, false, ◌&&◌, if◌then◌else◌, List, [], ◌∷◌, Option, Some, None, option_map, refl}
 use Rattle.std.proofs.Common.{subst}
 use Rattle.dm_int.specs.declared.Kind.{Kind}
 use Rattle.dm_int.specs.declared.Kind.TheVariants as k
@@ -19,8 +19,8 @@ use Rattle.dm_typing.specs.Rules.{Pair, pair, point_alike, points_to_complete, i
 
 -- a claim on trees that holds of a node that comes from the syntax of the tree below it, where it holds of that tree
 pub record IsKept (P : Tree → Type 0) : Type 0 where
-  pub read_kept : (kind : CType) (tree : Tree) → P tree → P (over read kind tree)
-  pub decay_kept : (kind : CType) (tree : Tree) → P tree → P (over decay kind tree)
+  pub read_kept : (kind : CType) (tree : Tree) → is_lvalue tree ≡ true → P tree → P (over read kind tree)
+  pub decay_kept : (kind : CType) (tree : Tree) → is_lvalue tree ≡ true → P tree → P (over decay kind tree)
   pub convert_kept : (kind : CType) (tree : Tree) → P tree → P (over convert kind tree)
 
 -- it holds of each tree of a list
@@ -66,16 +66,16 @@ unfolding IfUpdated
 updated-of P found it e h = subst (IfUpdated P) e h
 
 module _ (P : Tree → Type 0) (kept : IsKept P) where
-  lvalue-kept : (type : CType) (tree : Tree) → P tree → P (value_of_lvalue type tree)
-  lvalue-kept (array type n) tree h = kept.decay_kept (pointer type) tree h
-  lvalue-kept type tree h = kept.read_kept (bare type) tree h
+  lvalue-kept : (type : CType) (tree : Tree) → is_lvalue tree ≡ true → P tree → P (value_of_lvalue type tree)
+  lvalue-kept (array type n) tree is h = kept.decay_kept (pointer type) tree is h
+  lvalue-kept type tree is h = kept.read_kept (bare type) tree is h
 
   pub value-kept : (tree : Tree) → P tree → P (as_value tree)
-  value-kept tree h = by-test (is_lvalue tree)
+  value-kept tree h = by-test (is_lvalue tree) refl
     where
-      by-test : (test : Bool) → P (if test then value_of_lvalue (kind_of tree) tree else tree)
-      by-test true = lvalue-kept (kind_of tree) tree h
-      by-test false = h
+      by-test : (test : Bool) → is_lvalue tree ≡ test → P (if test then value_of_lvalue (kind_of tree) tree else tree)
+      by-test true is = lvalue-kept (kind_of tree) tree is h
+      by-test false is = h
 
   pub type-kept : (kind : CType) (tree : Tree) → P tree → P (as_type kind tree)
   type-kept kind tree h = by-test (is_same (kind_of tree) (bare kind))

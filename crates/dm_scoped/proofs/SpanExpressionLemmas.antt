@@ -12,7 +12,7 @@ use Rattle.dm_syn.specs.Grammar.{Types, tag_after, trailing_after, IsExpr, AreAr
 use Rattle.dm_syn.specs.Trees.{Expr, Exprs, TypeName, Specifiers, Words, Specifier, Members, Member, Declarators, Enumerators, Enumerator, Declarator, Direct, Parameters, Parameter}
 use Rattle.dm_syn.specs.Trees as tree
 use Rattle.dm_tree.specs.Trees.{Tree}
-use Rattle.dm_effect.specs.Spans.{IsLaidOut, StandBetween}
+use Rattle.dm_scoped.specs.Spans.{IsLaidOut, StandBetween}
 use Rattle.dm_typing.specs.Known.{Known, Setting, Outcome, given, after, if_given, meaning_of}
 use Rattle.dm_typing.specs.Conversions.{as_value}
 use Rattle.dm_typing.specs.Specifiers.{Said, nothing_said, with_type, Where, elsewhere}
@@ -159,7 +159,7 @@ module _ (setting : Setting) where
         let low = one.around.0 in
         let mid = one.around.1 in
         let high = one.around.2 in record {
-          around = (omega (arith, h.1, low), mid, omega (arith, h.4, high));
+          around = (omega (arith, h.1, low), mid, omega (arith, h.1, h.4, high));
           whole = λ used known outer around. one.whole used known outer around;
         }
     expr-laid names (tree.index span a b) h =

@@ -16,10 +16,10 @@ use Rattle.dm_syn.specs.Trees.{Expr}
 use Rattle.dm_tree.specs.declared.unit.Sort.{Sort}
 use Rattle.dm_tree.specs.declared.unit.Sort.TheVariants.{Object, Function, Typedef, Enumerator, Tag}
 use Rattle.dm_tree.specs.Scenes.{is_lvalue, is_integer, is_scalar}
-use Rattle.dm_tree.specs.Trees.{Label, Tree, label_of, kind_of, spans_of, trees, listed}
+use Rattle.dm_tree.specs.Trees.{Label, Tree, label_of, kind_of, spans_of, trees, listed, parts_of}
 use Rattle.dm_tree.specs.Trees as label
 use Rattle.dm_tree.specs.Units.{Declaration}
-use Rattle.dm_effect.specs.Spans.{IsShorter, AreInside, StandBetween}
+use Rattle.dm_scoped.specs.Spans.{IsShorter, is_conversion, EndBefore, AreInside, StandBetween}
 use Rattle.dm_typing.specs.Known.{Known, Setting, Outcome, given, broken, if_given}
 use Rattle.dm_typing.specs.Operators.{row_at, operator_of_row, operator_of_assignment, sign_of_row}
 use Rattle.dm_typing.specs.Conversions.{spans_at, made, as_value, as_type, complete_target, is_complete}
@@ -101,7 +101,7 @@ module _ (setting : Setting) (known : Known) (inner outer : Span) (around : IsAr
     arrow-yields name tree h =
         yields-if (IsMade setting.source inner outer) known (complete_target known (kind_of tree)) 12 inner.first _ (λ to e.
         yields-if (IsMade setting.source inner outer) known (member_by_name known (spelling_at setting.source name) (made setting.source (extent inner outer) label.follow to (tree ∷ []))) 12 inner.first _
-        (λ it is. there _ (same-made setting.source inner outer around (label.member it.0) it.1 (made setting.source (extent inner outer) label.follow to (tree ∷ [])) refl (one label.follow to tree refl h))))
+        (λ it is. there _ (same-made setting.source inner outer around (label.member it.0) it.1 (made setting.source (extent inner outer) label.follow to (tree ∷ [])) refl (refl, refl) (one label.follow to tree refl h))))
 
     pub count-yields : (operator : ℕ) (before : Bool) (tree : Tree) → IsMade setting.source a whole tree → Fine (typed_count setting known (extent inner outer) operator before tree)
     count-yields operator before tree h =
@@ -137,10 +137,10 @@ module _ (setting : Setting) (known : Known) (inner outer : Span) (around : IsAr
   pub sizeof-name-yields : (at behind : ℕ) (type : CType) (lengths : List Tree) → inner.first < at → behind ≤ inner.after → StandBetween at behind lengths
       → Fine (typed_sizeof_name setting known (extent inner outer) type lengths)
   sizeof-name-yields at behind type lengths low high row =
-      let inside = row-inside (spans_at setting.source (extent inner outer)) inner.first at behind lengths [] (omega (arith, low)) (omega arith) high (omega (arith, low, high)) row high in
+      let inside = row-inside (label.sizeof_kind type) (spans_at setting.source (extent inner outer)) inner.first at behind lengths [] (omega (arith, low)) (omega arith) high (omega (arith, low, high)) row high in
       yields-obeys (IsMade setting.source inner outer) known (is_complete known type) 17 inner.first _
       (there _ (straight-made setting.source inner outer around (label.sizeof_kind type) (integer k.ULong) lengths refl
-      (subst (λ list. AreInside (spans_at setting.source (extent inner outer)) inner.first list) (more-none lengths) inside) (laid-trees lengths (row-laid at behind lengths row))))
+      (subst (λ list. AreInside (label.sizeof_kind type) (spans_at setting.source (extent inner outer)) inner.first list) (more-none lengths) inside) (laid-trees lengths (row-laid at behind lengths row))))
 
   pub cast-yields : (at behind : ℕ) (a whole : Span) (type : CType) (lengths : List Tree) (operand : Tree) → inner.first < at → behind ≤ whole.first → whole.after ≤ inner.after
       → StandBetween at behind lengths → IsMade setting.source a whole operand → Fine (typed_cast setting known (extent inner outer) type lengths operand)
@@ -149,11 +149,11 @@ module _ (setting : Setting) (known : Known) (inner outer : Span) (around : IsAr
       let outer-is = outer-of setting.source a whole operand h in
       let some : whole.first < whole.after = subst (λ (it : Span). it.first < it.after) outer-is (outer-some operand h.1) in
       let length = row-length at behind lengths row in
-      let last = next-inside spans behind operand [] whole outer-is mid (omega (arith, low, length, mid, high)) high in
-      let inside = row-inside spans inner.first at behind lengths (operand ∷ []) (omega (arith, low)) (omega arith) (omega (arith, mid, some, high)) (omega (arith, low, mid, some, high)) row last in
+      let last = next-inside label.convert spans behind operand [] whole outer-is mid (omega (arith, low, length, mid, high)) high in
+      let inside = row-inside label.convert spans inner.first at behind lengths (operand ∷ []) (omega (arith, low)) (omega arith) (omega (arith, mid, some, high)) (omega (arith, low, mid, some, high)) row last in
       let order : (listed (trees lengths)) ++ operand ∷ [] ≡ lengths ++ operand ∷ [] = ap (λ list. list ++ operand ∷ []) (listed-trees lengths) in
       yields-obeys (IsMade setting.source inner outer) known (may_be_cast known operand type) 18 inner.first _
-      (there _ (refl, (around.0, around.1, around.2, (subst (λ list. AreInside spans inner.first list) (sym order) inside, tt), (h.1, laid-trees lengths (row-laid at behind lengths row)))))
+      (there _ (refl, (around.0, around.1, around.2, (subst (λ list. AreInside label.convert spans inner.first list) (sym order) inside, tt), (h.1, laid-trees lengths (row-laid at behind lengths row)), tt)))
 
   -- ---- two operands
 
@@ -167,7 +167,7 @@ module _ (setting : Setting) (known : Known) (inner outer : Span) (around : IsAr
         → Made (index_tree setting (extent inner outer) x y type to)
     index-made x y type None some h g = absurd (cc)
     index-made x y type (Some to) some h g =
-        same-made setting.source inner outer around label.follow to (made setting.source (extent inner outer) (label.binary o.Add) type (x ∷ y ∷ [])) refl
+        same-made setting.source inner outer around label.follow to (made setting.source (extent inner outer) (label.binary o.Add) type (x ∷ y ∷ [])) refl (refl, refl)
         (two (label.binary o.Add) type x y refl h g)
 
     pub index-yields : (x y : Tree) → IsMade setting.source a left x → IsMade setting.source b right y → Fine (typed_index setting known (extent inner outer) x y)
@@ -236,22 +236,25 @@ module _ (setting : Setting) (known : Known) (inner outer : Span) (around : IsAr
       yields-obeys (IsMade setting.source inner outer) known (is_name callee && is_function_label (label_of function)) 10 inner.first _
       (yields-if (IsMade setting.source inner outer) known (called known (kind_of function) values) 10 inner.first _ (λ it e.
       let passed = alike-row at behind values it.1 (called-alike known (kind_of function) values it e) row in
-      let rest = row-inside spans whole.after at behind it.1 [] mid (omega (arith, low, some)) (omega (arith, high)) (omega (arith, low, some, mid, high)) passed (omega (arith, high)) in
+      let rest = row-inside label.call spans whole.after at behind it.1 [] mid (omega (arith, low, some)) (omega (arith, high)) (omega (arith, low, some, mid, high)) passed (omega (arith, high)) in
       there _ (straight-made setting.source inner outer around label.call it.0 (function ∷ it.1) refl
-      (next-inside spans inner.first function it.1 whole outer-is low (omega (arith, mid, length, high, low))
-      (subst (λ list. AreInside spans whole.after list) (more-none it.1) rest)) (h.1, laid-trees it.1 (row-laid at behind it.1 passed)))))
+      (next-inside label.call spans inner.first function it.1 whole outer-is low (omega (arith, mid, length, high, low))
+      (subst (λ list. AreInside label.call spans whole.after list) (more-none it.1) rest)) (h.1, laid-trees it.1 (row-laid at behind it.1 passed)))))
 
-  comma-same : (at : ℕ) (first : Tree) (others : List Tree) → inner.first < at → Made first → StandBetween at inner.after others → Made (comma_tree setting (extent inner outer) first others)
-  comma-same at first [] low h row = h
-  comma-same at first (second ∷ others) low h row =
+  -- commas under one another, of which the last operand stands before the others
+  comma-same : (at : ℕ) (first : Tree) (others : List Tree) → inner.first < at → label_of first ≡ label.comma → ((behind : Tree) → at ≤ (spans_of behind).outer.first → EndBefore (parts_of first) behind)
+      → Made first → StandBetween at inner.after others → Made (comma_tree setting (extent inner outer) first others)
+  comma-same at first [] low is ends h row = h
+  comma-same at first (second ∷ others) low is ends h row =
       let spans = spans_at setting.source (extent inner outer) in
       let begins = row.0 in
       let some = outer-some second row.1 in
-      let ends = row-length (spans_of second).outer.after inner.after others row.2 in
-      comma-same (spans_of second).outer.after (made setting.source (extent inner outer) label.comma (kind_of second) (first ∷ second ∷ [])) others (omega (arith, low, begins, some))
+      let finish = row-length (spans_of second).outer.after inner.after others row.2 in
+      comma-same (spans_of second).outer.after (made setting.source (extent inner outer) label.comma (kind_of second) (first ∷ second ∷ [])) others (omega (arith, low, begins, some)) refl
+      (λ behind later. later)
       (straight-made setting.source inner outer around label.comma (kind_of second) (first ∷ second ∷ []) refl
-      (same-inside spans inner.first first (second ∷ []) h.0
-      (next-inside spans inner.first second [] (spans_of second).outer refl (omega (arith, low, begins)) (omega (arith, low, begins, ends)) ends)) (h.1, (row.1, tt))) row.2
+      (same-inside label.comma spans inner.first first (second ∷ []) h.0 (omega arith) (refl, ap is_conversion is) (ends second begins)
+      (next-inside label.comma spans (inner.first + 1) second [] (spans_of second).outer refl (omega (arith, low, begins)) (omega (arith, low, begins, finish)) finish)) (h.1, (row.1, tt))) row.2
 
   pub comma-yields : (at : ℕ) (first second : Tree) (others : List Tree) → StandBetween inner.first inner.after (first ∷ second ∷ others)
       → Fine (if_given (comma_of setting (extent inner outer) (first ∷ second ∷ others)) 1 at (λ made. given known made))
@@ -263,7 +266,7 @@ module _ (setting : Setting) (known : Known) (inner outer : Span) (around : IsAr
       let more = outer-some second row.2.1 in
       let ends = row-length (spans_of second).outer.after inner.after others row.2.2 in
       there _ (comma-same (spans_of second).outer.after (made setting.source (extent inner outer) label.comma (kind_of second) (first ∷ second ∷ [])) others
-      (omega (arith, begins, some, then_begins, more))
+      (omega (arith, begins, some, then_begins, more)) refl (λ behind later. later)
       (straight-made setting.source inner outer around label.comma (kind_of second) (first ∷ second ∷ []) refl
-      (next-inside spans inner.first first (second ∷ []) (spans_of first).outer refl begins (omega (arith, begins, then_begins, more, ends))
-      (next-inside spans (spans_of first).outer.after second [] (spans_of second).outer refl then_begins (omega (arith, begins, some, then_begins, ends)) ends)) (row.1, (row.2.1, tt))) row.2.2)
+      (next-inside label.comma spans inner.first first (second ∷ []) (spans_of first).outer refl begins (omega (arith, begins, then_begins, more, ends))
+      (next-inside label.comma spans (spans_of first).outer.after second [] (spans_of second).outer refl then_begins (omega (arith, begins, some, then_begins, ends)) ends)) (row.1, (row.2.1, tt))) row.2.2)

@@ -19,7 +19,7 @@ use Rattle.dm_tree.specs.Scenes.{is_scalar, is_void, part_type}
 use Rattle.dm_tree.specs.Trees.{Label, Tree, trees, listed, kind_of, spans_of}
 use Rattle.dm_tree.specs.Trees as label
 use Rattle.dm_tree.specs.Units.{Declaration}
-use Rattle.dm_effect.specs.Spans.{AreInside, IsLaidOut, StandBetween}
+use Rattle.dm_scoped.specs.Spans.{AreInside, IsLaidOut, StandBetween, AreApart}
 use Rattle.dm_typing.specs.Known.{Known, Setting, Outcome, given, broken, after, obeys}
 use Rattle.dm_typing.specs.Conversions.{spans_at, as_value, as_type, as_kind, constant_of, is_complete}
 use Rattle.dm_typing.specs.Rules.{is_assignable}
@@ -31,7 +31,7 @@ use Rattle.dm_edecl.specs.Initialising.{Initial, Initials, no_initials, with_fir
 use Rattle.dm_edecl.specs.Declaring.{Specified, specified, is_alone, typed_declarator, name_at, defines_object, declarable, Local, local_plain, local_initialised, with_lengths, may_be_initialised, may_define, object_defined, initialised, item_with, typed_item, typed_items, Declared, declarators_of, expressions_of, constants_of, typed_declaration}
 use Rattle.dm_edecl.specs.Statements.{Within, in_loop, in_switch, statement, Subject, subject, Labelled, AllLabelled, is_label_among, CaseValue, typed_value, typed_optional, typed_condition, typed_optional_condition, typed_subject, typed_case, full_statement, returned, typed_return, declaration_tree, declared_in, typed_start, is_there, for_statement, typed_stmt, typed_items_in, typed_item_in, typed_switch_items, typed_switch_item}
 use Rattle.dm_scoped.specs.Bare.{bare_span}
-use Rattle.dm_scoped.proofs.SpanLemmas.{listed-trees, outer-of, is_straight, all-laid, laid-trees, straight-made, row-wider, row-append, row-laid, row-inside}
+use Rattle.dm_scoped.proofs.SpanLemmas.{listed-trees, outer-of, is_straight, all-laid, laid-trees, straight-made, row-wider, row-append, row-length, row-laid, row-inside, row-apart, row-apart-behind, apart-append, append-apart}
 use Rattle.dm_scoped.proofs.CollectLemmas.{Yields, Collects, more-none, yields-so, yields-after, yields-with, yields-obeys, yields-if, collects-after, collects-with, collects-wider, said-collects, derived-collects}
 use Rattle.dm_scoped.proofs.SpanFormLemmas.{type-made}
 use Rattle.dm_scoped.proofs.SpanExpressionLemmas.{trailing-on, IsOf, Laid, laid-some, laid-typed, of-value, of-row, expr-laid, specifiers-laid, words-laid, declarator-laid}
@@ -55,9 +55,9 @@ pub stated : (setting : Setting) (span : Span) (form : Label) (at behind : ℕ) 
     → span.first < span.after → behind + span.first < span.after + at → StandBetween at behind parts → Stands span (statement setting span form parts)
 stated setting span form at behind parts straight low high some short row =
     let here = spans_at setting.source (extent span span) in
-    let inside = row-inside here span.first at behind parts [] low (omega arith) high short row high in
+    let inside = row-inside form here span.first at behind parts [] low (omega arith) high short row high in
     let made = straight-made setting.source span span (omega arith, some, omega arith) form void parts straight
-    (subst (λ list. AreInside here span.first list) (more-none parts) inside) (laid-trees parts (row-laid at behind parts row)) in
+    (subst (λ list. AreInside form here span.first list) (more-none parts) inside) (laid-trees parts (row-laid at behind parts row)) in
     (made.1, refl, refl)
 
 -- ---- progress
@@ -285,10 +285,11 @@ module _ (setting : Setting) where
 -- ---- declarators with their initialisers
 
 abbrev pub LocalBetween : ℕ → ℕ → Local → Type 0
-LocalBetween at behind local = StandBetween at behind local.constants × StandBetween at behind local.expressions
+LocalBetween at behind local = StandBetween at behind local.constants × StandBetween at behind local.expressions × AreApart local.constants local.expressions
 
 abbrev pub LocalsBetween : ℕ → ℕ → List Local → Type 0
-LocalsBetween at behind locals = StandBetween at behind (constants_of locals) × StandBetween at behind (expressions_of locals)
+LocalsBetween at behind locals =
+    StandBetween at behind (constants_of locals) × StandBetween at behind (expressions_of locals) × AreApart (constants_of locals) (expressions_of locals)
 
 pub named-clear : (known : Known) (kind : CType) (entry : Declaration) (found : Option ℕ) → (naming known kind entry found).constants ≡ known.constants
 named-clear known kind entry None = refl
@@ -306,11 +307,16 @@ declarable-ends : (P : Local → Type 0) (said : Specified) (s : Standing) (test
 declarable-ends P said s test here name entry next h =
     keeps-ends P _ 2 name _ (keeps-ends P _ 3 said.first _ (keeps-ends P _ 5 here _ (keeps-ends P _ 36 name next h)))
 
-with-ends : (at mid behind : ℕ) (constants : List Tree) (item : Progress Local) → mid ≤ behind → StandBetween at mid constants → Ends (ExpressionsBetween at behind) item
+with-ends : (at mid behind : ℕ) (constants : List Tree) (item : Progress Local) → mid ≤ behind → StandBetween at mid constants → Ends (ExpressionsBetween mid behind) item
     → Ends (LocalBetween at behind) (item_with constants item)
 with-ends at mid behind constants item on row h =
-    further-ends (ExpressionsBetween at behind) (LocalBetween at behind) item _ h
-    (λ t local clear g. ends-so (LocalBetween at behind) t (with_lengths constants local) clear (row-wider at mid at behind constants (omega arith) on row, g))
+    further-ends (ExpressionsBetween mid behind) (LocalBetween at behind) item _ h
+    (λ t local clear g.
+    ends-so (LocalBetween at behind) t (with_lengths constants local) clear (
+      row-wider at mid at behind constants (omega arith) on row,
+      row-wider mid behind at behind local.expressions (row-length at mid constants row) (omega arith) g,
+      row-apart at mid behind constants local.expressions row g,
+    ))
 
 module _ (setting : Setting) where
   pub typed-declarator-collects : (names : List Seen) (of_parameter : Bool) (known : Known) (base : CType) (declarator : Declarator) → IsDeclarator setting.source names of_parameter declarator
@@ -372,9 +378,9 @@ module _ (setting : Setting) where
             (omega (arith, begins)) (omega (arith, ends)) (typed-declarator-collects _ false s.known said.kind declarator h.1)) (λ t constants kind still row.
             let entry = entry_of setting t.known said.storage (name_at declarator) kind in
             with-ends span.first span.after span.after constants _ (omega arith) row
-            (declarable-ends (ExpressionsBetween span.first span.after) said t false (declarator_span declarator).first (name_at declarator) entry _
-            (ends-so (ExpressionsBetween span.first span.after) (declared_here t entry) (local_plain (number_here t entry) (defines_object said.storage entry.sort)) (declared-clear t entry still)
-            (omega (arith, begins, ends, on))))),
+            (declarable-ends (ExpressionsBetween span.after span.after) said t false (declarator_span declarator).first (name_at declarator) entry _
+            (ends-so (ExpressionsBetween span.after span.after) (declared_here t entry) (local_plain (number_here t entry) (defines_object said.storage entry.sort)) (declared-clear t entry still)
+            (omega arith)))),
       )
   item-laid names is_type (tree.initialised span declarator one) h =
       let shape = declarator-laid setting _ false declarator h.1 in
@@ -385,14 +391,14 @@ module _ (setting : Setting) where
       let mid = h.4 in
       let ends = h.6 in (
         omega (arith, begins, ends, on, some, mid),
-        λ said s clear. collecting-ends span.first span.after (LocalBetween span.first span.after) s _ _ clear
-            (collects-wider (declarator_span declarator).first (declarator_span declarator).after span.first span.after s.known (typed_declarator setting s.known said.kind declarator)
-            (omega (arith, begins)) (omega (arith, ends, some, mid)) (typed-declarator-collects _ false s.known said.kind declarator h.1)) (λ t constants kind still row.
+        λ said s clear. collecting-ends span.first (declarator_span declarator).after (LocalBetween span.first span.after) s _ _ clear
+            (collects-wider (declarator_span declarator).first (declarator_span declarator).after span.first (declarator_span declarator).after s.known (typed_declarator setting s.known said.kind declarator)
+            (omega (arith, begins)) (omega arith) (typed-declarator-collects _ false s.known said.kind declarator h.1)) (λ t constants kind still row.
             let entry = entry_of setting t.known said.storage (name_at declarator) kind in
-            with-ends span.first span.after span.after constants _ (omega arith) row
-            (declarable-ends (ExpressionsBetween span.first span.after) said t true (declarator_span declarator).first (name_at declarator) entry _
-            (initialised-ends span.first (initialiser_span one).first (initialiser_span one).after span.after (declared_here t entry) entry (number_here t entry) span
-            (declarator_span declarator).first (name_at declarator) (kind_seen t entry) one (declared-clear t entry still) (omega (arith, begins, on, mid)) (omega (arith, ends)) value.1))),
+            with-ends span.first (declarator_span declarator).after span.after constants _ (omega (arith, ends, some, mid)) row
+            (declarable-ends (ExpressionsBetween (declarator_span declarator).after span.after) said t true (declarator_span declarator).first (name_at declarator) entry _
+            (initialised-ends (declarator_span declarator).after (initialiser_span one).first (initialiser_span one).after span.after (declared_here t entry) entry (number_here t entry) span
+            (declarator_span declarator).first (name_at declarator) (kind_seen t entry) one (declared-clear t entry still) (omega (arith, mid)) (omega (arith, ends)) value.1))),
       )
 
   -- one before others
@@ -406,12 +412,15 @@ module _ (setting : Setting) where
       ends-so (LocalsBetween at behind) u (one ∷ others) last (
         row-append at after_first behind one.constants (constants_of others) (row-wider first after_first at after_first one.constants low (omega arith) row.0) more.0,
         row-append at after_first behind one.expressions (expressions_of others) (row-wider first after_first at after_first one.expressions low (omega arith) row.1) more.1,
+        append-apart one.constants (constants_of others) (one.expressions ++ expressions_of others)
+            (apart-append one.constants one.expressions (expressions_of others) row.2 (row-apart first after_first behind one.constants (expressions_of others) row.0 more.1))
+            (apart-append (constants_of others) one.expressions (expressions_of others) (row-apart-behind first after_first behind (constants_of others) one.expressions more.0 row.1) more.2),
       )))
 
   more-items-laid : (names : List Seen) (is_type : Bool) (at : ℕ) (items : List Item) → AreMoreItems setting.source names is_type at items
       → (at ≤ items_after at items) × ((said : Specified) (s : Standing) → IsClear s → Ends (LocalsBetween at (items_after at items)) (typed_items setting said s items))
   unfolding AreMoreItems
-  more-items-laid names is_type at [] h = (omega arith, λ said s clear. ends-so (LocalsBetween at at) s [] clear (omega arith, omega arith))
+  more-items-laid names is_type at [] h = (omega arith, λ said s clear. ends-so (LocalsBetween at at) s [] clear (omega arith, omega arith, tt))
   more-items-laid names is_type at (item ∷ items) h =
       let one = item-laid _ is_type item h.2 in
       let rest = more-items-laid (item_declares setting.source is_type item ++ names) is_type (item_span item).after items h.3 in
@@ -425,7 +434,7 @@ module _ (setting : Setting) where
   items-laid : (names : List Seen) (is_type : Bool) (at : ℕ) (items : List Item) → AreItems setting.source names is_type at items
       → (at ≤ items_after at items) × ((said : Specified) (s : Standing) → IsClear s → Ends (LocalsBetween at (items_after at items)) (typed_items setting said s items))
   unfolding AreItems
-  items-laid names is_type at [] h = (omega arith, λ said s clear. ends-so (LocalsBetween at at) s [] clear (omega arith, omega arith))
+  items-laid names is_type at [] h = (omega arith, λ said s clear. ends-so (LocalsBetween at at) s [] clear (omega arith, omega arith, tt))
   items-laid names is_type at (item ∷ items) h =
       let one = item-laid _ is_type item h.1 in
       let rest = more-items-laid (item_declares setting.source is_type item ++ names) is_type (item_span item).after items h.2 in
@@ -442,6 +451,7 @@ module _ (setting : Setting) where
 abbrev pub DeclaredIn : Span → Declared → Type 0
 DeclaredIn span one =
     (behind : ℕ) × (behind < span.after) × StandBetween span.first behind one.constants × StandBetween span.first behind (expressions_of one.locals)
+    × AreApart one.constants (expressions_of one.locals)
 
 take-front : (some more : List Tree) → take (length some) (some ++ more) ≡ some
 take-front [] [] = refl
@@ -463,9 +473,9 @@ declaration-stands setting span one some row =
     let form = label.declare (length one.constants) (declarators_of one.locals) in
     let parts = one.constants ++ expressions_of one.locals in
     let ends = row.1 in
-    let inside : (list : List Tree) → StandBetween span.first row.0 list → AreInside here span.first list =
-    λ list stands. subst (λ it. AreInside here span.first it) (more-none list)
-    (row-inside here span.first span.first row.0 list [] (omega arith) (omega arith) (omega (arith, ends)) (omega (arith, ends)) stands (omega (arith, ends))) in
+    let inside : (list : List Tree) → StandBetween span.first row.0 list → AreInside form here span.first list =
+    λ list stands. subst (λ it. AreInside form here span.first it) (more-none list)
+    (row-inside form here span.first span.first row.0 list [] (omega arith) (omega arith) (omega (arith, ends)) (omega (arith, ends)) stands (omega (arith, ends))) in
     let listed-parts = listed-trees parts in
     let front : take (length one.constants) (listed (trees parts)) ≡ one.constants = ap (λ list. take (length one.constants) list) listed-parts ∙ take-front one.constants (expressions_of one.locals) in
     let back : drop (length one.constants) (listed (trees parts)) ≡ expressions_of one.locals = ap (λ list. drop (length one.constants) list) listed-parts ∙ drop-front one.constants (expressions_of one.locals) in (
@@ -474,10 +484,11 @@ declaration-stands setting span one some row =
         some,
         omega arith,
         (
-          subst (λ list. AreInside here span.first list) (sym front) (inside one.constants row.2),
-          (subst (λ list. AreInside here span.first list) (sym back) (inside (expressions_of one.locals) row.3), tt),
+          subst (λ list. AreInside form here span.first list) (sym front) (inside one.constants row.2),
+          (subst (λ list. AreInside form here span.first list) (sym back) (inside (expressions_of one.locals) row.3), tt),
         ),
         laid-trees parts (laid-append one.constants (expressions_of one.locals) (row-laid span.first row.0 one.constants row.2) (row-laid span.first row.0 (expressions_of one.locals) row.3)),
+        subst (λ list. AreApart list (drop (length one.constants) (listed (trees parts)))) (sym front) (subst (λ list. AreApart one.constants list) (sym back) row.4),
       ),
       refl,
       refl,
@@ -507,6 +518,7 @@ module _ (setting : Setting) where
               omega (arith, ends),
               row-append span.first mid last constants (constants_of locals) (row-wider (specifiers_span specifiers).first mid span.first mid constants (omega (arith, begins)) (omega arith) row) rows.0,
               row-wider mid last span.first last (expressions_of locals) (omega (arith, begins, some)) (omega arith) rows.1,
+              append-apart constants (constants_of locals) (expressions_of locals) (row-apart (specifiers_span specifiers).first mid last constants (expressions_of locals) row rows.1) rows.2,
             )))),
       )
 

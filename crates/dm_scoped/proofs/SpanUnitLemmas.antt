@@ -17,7 +17,7 @@ use Rattle.dm_tree.specs.Trees.{Tree, spans_of}
 use Rattle.dm_tree.specs.Trees as label
 use Rattle.dm_tree.specs.Units.{Declaration, TypedUnit}
 use Rattle.dm_tree.specs.Units as unit
-use Rattle.dm_effect.specs.Spans.{IsLaidOut, StandBetween, IsLaidOutExternal, AreLaidOutFrom, IsLaidOutUnit}
+use Rattle.dm_scoped.specs.Spans.{IsLaidOut, StandBetween, IsLaidOutExternal, AreLaidOutFrom, IsLaidOutUnit}
 use Rattle.dm_typing.specs.Known.{Known, Setting, Outcome, given, broken, after}
 use Rattle.dm_typing.specs.Specifiers.{of_definition}
 use Rattle.dm_typing.specs.Typing.{typed}
@@ -28,7 +28,7 @@ use Rattle.dm_edecl.specs.Statements.{Within, statement, typed_stmt, typed_items
 use Rattle.dm_edecl.specs.Units.{own_defined, Heading, typed_heading, body_within, typed_body, function_defined, typed_external, typed_externals, unit_setting, beginning, unit_of, typed_unit}
 use Rattle.dm_edecl.specs.Placing.{AreExternals}
 use Rattle.dm_scoped.specs.Bare.{bare_span}
-use Rattle.dm_scoped.proofs.SpanLemmas.{IsMade, row-wider, row-append}
+use Rattle.dm_scoped.proofs.SpanLemmas.{IsMade, row-wider, row-append, row-length, row-apart}
 use Rattle.dm_scoped.proofs.CollectLemmas.{Yields, Collects, collects-with}
 use Rattle.dm_scoped.proofs.SpanExpressionLemmas.{laid-typed, expr-laid, specifiers-laid, declarator-laid}
 use Rattle.dm_scoped.proofs.SpanStatementLemmas.{Stands, row-next, stated, block-laid, RowIn, IsClear, Ends, ends-so, further-ends, keeps-ends, collecting-ends, closed-ends, named-clear, typed-declarator-collects, specified-collects, DeclaredIn, declaration-laid, stmt-laid}
@@ -87,9 +87,9 @@ module _ (setting : Setting) where
   declarable-ends P said s here name entry next h = keeps-ends P _ 2 name _ (keeps-ends P _ 3 said.first _ (keeps-ends P _ 5 here _ (keeps-ends P _ 36 name next h)))
 
   function-laid : (names : List Seen) (said : Specified) (s : Standing) (span : Span) (declarator : Declarator) (body : Stmt) (constants : List Tree) (heading : Heading) (entry : Declaration)
-      → IsClear s → IsBlock body → IsStmt setting.source names body → span.first ≤ (stmt_span body).first → (stmt_span body).after ≤ span.after → StandBetween span.first span.after constants
+      → IsClear s → IsBlock body → IsStmt setting.source names body → (mid : ℕ) → mid ≤ (stmt_span body).first → (stmt_span body).after ≤ span.after → StandBetween span.first mid constants
       → Ends (IsLaidAt span) (function_defined setting said s span declarator body constants heading entry)
-  function-laid names said s span declarator body constants heading entry clear block is low high row =
+  function-laid names said s span declarator body constants heading entry clear block is mid low high row =
       let t = function_here s entry in
       let still : IsClear t = named-clear s.known (kind_seen s entry) entry (number_before s entry) ∙ clear in
       keeps-ends (IsLaidAt span) _ 2 (name_at declarator) _
@@ -97,7 +97,18 @@ module _ (setting : Setting) where
       (keeps-ends (IsLaidAt span) (fits_main entry) 36 (name_at declarator) _
       (further-ends (Stands (stmt_span body)) (IsLaidAt span) (typed_body setting (body_within heading.kind) t heading.scope body) _
       (body-laid names (body_within heading.kind) t heading.scope body block is still)
-      (λ u made clear_again stands. ends-so (IsLaidAt span) u _ clear_again (refl, (row, row-next (stmt_span body) span.first span.after made [] stands low high))))))
+      (λ u made clear_again stands.
+      let behind = row-next (stmt_span body) mid span.after made [] stands low high in
+      let on = row-length mid span.after (made ∷ []) behind in
+      let some = row-length span.first mid constants row in
+      ends-so (IsLaidAt span) u _ clear_again (
+        refl,
+        (
+          row-wider span.first mid span.first span.after constants (omega arith) on row,
+          row-wider mid span.after span.first span.after (made ∷ []) some (omega arith) behind,
+          row-apart span.first mid span.after constants (made ∷ []) row behind,
+        ),
+      )))))
 
   pub external-laid : (names : List Seen) (s : Standing) (one : External) → IsExternal setting.source names one → IsClear s → Ends (IsLaidAt (external_span one)) (typed_external setting s one)
   unfolding IsExternal
@@ -110,7 +121,7 @@ module _ (setting : Setting) where
       let mid = rows.1 in
       let wider : (list : List Tree) → StandBetween d.first rows.0 list → StandBetween span.first span.after list =
       λ list row. row-wider d.first rows.0 span.first span.after list (omega (arith, begins)) (omega (arith, mid, ends)) row in
-      ends-so (IsLaidAt span) t _ still (refl, (wider it.constants rows.2, wider (expressions_of it.locals) rows.3)))
+      ends-so (IsLaidAt span) t _ still (refl, (wider it.constants rows.2, wider (expressions_of it.locals) rows.3, rows.4)))
   external-laid names s (tree.definition span specifiers declarator body) h clear =
       let words = specifiers-laid setting _ of_definition false specifiers h.1 in
       let shape = declarator-laid setting _ false declarator h.3 in
@@ -127,10 +138,9 @@ module _ (setting : Setting) where
       collecting-ends w.first w.after (IsLaidAt span) s _ _ clear (specified-collects setting _ of_definition false s.known specifiers h.1) (λ t constants said still row.
       collecting-ends d.first d.after (IsLaidAt span) t _ _ still (heading-collects _ t.known said.kind declarator h.3) (λ u more heading clear_again rows.
       function-laid _ said u span declarator body (constants ++ more) heading (entry_of setting u.known said.storage (name_at declarator) heading.kind) clear_again h.7 h.8
-      (omega (arith, begins, some, mid, on, then_mid)) (omega (arith, ends))
-      (row-wider span.first d.after span.first span.after (constants ++ more) (omega arith) (omega (arith, then_mid, most, ends))
+      d.after (omega (arith, then_mid)) (omega (arith, ends))
       (row-append span.first w.after d.after constants more (row-wider w.first w.after span.first w.after constants (omega (arith, begins)) (omega arith) row)
-      (row-wider d.first d.after w.after d.after more (omega (arith, mid)) (omega arith) rows)))))
+      (row-wider d.first d.after w.after d.after more (omega (arith, mid)) (omega arith) rows))))
 
   externals-laid : (names : List Seen) (at : ℕ) (s : Standing) (all : List External) → AreExternals setting.source names at all → IsClear s → Ends (AreLaidOutFrom at) (typed_externals setting s all)
   externals-laid names at s [] h clear = ends-so (AreLaidOutFrom at) s [] clear tt

@@ -53,8 +53,8 @@ both-true false other h g = h
 pub scoped-kept : (seen : ℕ → Bool) (declared : List Declaration) → IsKept (IsScopedIn seen declared)
 unfolding IsScopedIn
 scoped-kept seen declared = record {
-  read_kept = λ kind tree h automatic scope fits covers. both-true (is_scoped automatic scope tree) true (h automatic scope fits covers) refl;
-  decay_kept = λ kind tree h automatic scope fits covers. both-true (is_scoped automatic scope tree) true (h automatic scope fits covers) refl;
+  read_kept = λ kind tree is h automatic scope fits covers. both-true (is_scoped automatic scope tree) true (h automatic scope fits covers) refl;
+  decay_kept = λ kind tree is h automatic scope fits covers. both-true (is_scoped automatic scope tree) true (h automatic scope fits covers) refl;
   convert_kept = λ kind tree h automatic scope fits covers. both-true (is_scoped automatic scope tree) true (h automatic scope fits covers) refl;
 }
 

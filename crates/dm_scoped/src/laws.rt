@@ -13,7 +13,7 @@ ghost use Rattle.dm_tree.specs.Trees.{Tree, spans_of};
 ghost use Rattle.dm_tree.specs.Units.{External as TypedExternal, TypedUnit};
 ghost use Rattle.dm_meaning.specs.Statements.{is_automatic_sort};
 ghost use Rattle.dm_effect.specs.Scoped.{IsScopedUnit};
-ghost use Rattle.dm_effect.specs.Spans.{IsLaidOut, IsLaidOutUnit};
+ghost use Rattle.dm_scoped.specs.Spans.{IsLaidOut, IsLaidOutUnit};
 ghost use Rattle.dm_typing.specs.Known.{Known, Setting, given};
 ghost use Rattle.dm_typing.specs.Conversions.{spans_at};
 ghost use Rattle.dm_typing.specs.Typing.{extent, is_file_scope, typed};

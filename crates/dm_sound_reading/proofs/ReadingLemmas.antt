@@ -16,6 +16,8 @@ use Rattle.dm_typing.specs.Known.{Known, given}
 use Rattle.dm_typing.proofs.LaterLemmas.{begins-itself}
 use Rattle.dm_edecl.specs.Units.{typed_unit}
 use Rattle.dm_edecl.proofs.UnitFitLemmas.{units-known, units-typed}
+use Rattle.dm_scoped.specs.Spans.{IsLaidOutUnit}
+use Rattle.dm_scoped.proofs.SpanUnitLemmas.{units-laid}
 use Rattle.dm_scoped.proofs.UnitLemmas.{units-scoped}
 use Rattle.dm_reading.specs.declared.reading.Layers.{Layers}
 use Rattle.dm_reading.specs.Layered.{HasLayers}
@@ -60,6 +62,9 @@ module _ (tokens : List Token) (layers : Layers) (h : HasLayers tokens (Ok layer
 
   pub unit_scoped : IsScopedUnit unit
   unit_scoped = units-scoped layers.types.shapes layers.tokens externals typed_by.0 unit typed_by.2
+
+  pub unit_laid : IsLaidOutUnit unit
+  unit_laid = units-laid layers.types.shapes layers.tokens externals typed_by.0 unit (syntax-externals layers.tokens externals h.1) typed_by.2
 
   -- ---- its program
 

@@ -9,6 +9,7 @@ ghost use Rattle.dm_meaning.specs.Units.{machine_of, program_of};
 ghost use Rattle.dm_effect.specs.Scoped.{IsScopedUnit};
 ghost use Rattle.dm_reading.specs.declared.reading.Reading.{Reading};
 ghost use Rattle.dm_reading.specs.Layered.{IsLayered};
+ghost use Rattle.dm_scoped.specs.Spans.{IsLaidOutUnit};
 ghost use Rattle.dm_sound.specs.TypedRuns.{IsTypedProgram};
 ghost use Rattle.dm_sound.specs.TypedStates.{IsTypedState};
 ghost use Rattle.dm_sound.specs.TypedTrees.{IsSoundTable};
@@ -18,11 +19,12 @@ ghost use Rattle.dm_initialised.specs.Units.{has_first_value, IsInitialisedUnit}
 use dm_outcome::one_reading;
 
 /// The table of a reading's types is sound, its unit is well typed, each name of an automatic object in it stands in the scope of the
-/// object's declaration, and its program is typed.
+/// object's declaration, the nodes of its trees stand inside one another and in order among its tokens, and its program is typed.
 pub fn readings_are_sound()
     ensures table { (reading : Reading) → IsLayered reading → IsSoundTable reading.types }
     ensures unit { (reading : Reading) → IsLayered reading → IsWellTypedUnit reading.types (view_of_unit reading.types reading.core) }
     ensures scopes { (reading : Reading) → IsLayered reading → IsScopedUnit (view_of_unit reading.types reading.core) }
+    ensures layout { (reading : Reading) → IsLayered reading → IsLaidOutUnit (view_of_unit reading.types reading.core) }
     ensures program { (reading : Reading) → IsLayered reading → IsTypedProgram (program_of reading.types (view_of_unit reading.types reading.core)) }
 {}
 

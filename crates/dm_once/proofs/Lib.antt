@@ -1,0 +1,4 @@
+mod OccurrenceLemmas
+mod OnceLemmas
+mod UnitLemmas
+mod VisitLemmas

@@ -1,0 +1,193 @@
+-- Aligned units, where each parameter of the function that is put in occurs once in each run, and first.
+--     read_once_first      each parameter is read once in the function's expression, and first; or no run stands where alignment comes to
+use Rattle.std.specs.Prelude.{◌≡◌, refl, ◌⊎◌, ℕ, zero, suc, ◌<◌, Bool, true, false, not, ◌||◌, ◌==◌, List, [], ◌∷◌, drop, length, Option, Some, None, slice_get}
+use Rattle.std.specs.List.{AllByRecursion, list_any}
+use Rattle.std.specs.Option.{IsSomeAnd}
+use Rattle.std.proofs.Common.{ap, sym, ◌∙◌, subst, arith, inl, inr, ⊎_elim}
+use Rattle.std.proofs.lemmas.Bool.{false≢true, and_parts}
+use Rattle.std.proofs.lemmas.Bool.Decides.{nat_tests}
+use Rattle.dm_token.specs.declared.place.Span.{Span}
+use Rattle.dm_runs.specs.declared.run.Occurrence.{Occurrence}
+use Rattle.dm_runs.specs.declared.run.Run.{Run}
+use Rattle.dm_type.specs.CTypes.{CType}
+use Rattle.dm_type.specs.Tables.{Table}
+use Rattle.dm_tree.specs.Scenes.{Scene}
+use Rattle.dm_tree.specs.Trees.{Label, full, return, Tree, Trees, node, no_trees, more_trees, parts_of, listed}
+use Rattle.dm_tree.specs.Typing.{FormFits, ExternalFits, inside, IsWellTyped, AreWellTyped, IsWellTypedUnit, file_scene, body_scene}
+use Rattle.dm_tree.specs.Units.{Declaration, External, ExternalForm, declares, defines_function, TypedUnit}
+use Rattle.dm_meaning.specs.Among.{IsAmong}
+use Rattle.dm_meaning.proofs.GrowLemmas.{equal_is}
+use Rattle.dm_meaning.proofs.OptionLemmas.{none_is_some, some_is_some}
+use Rattle.dm_effect.specs.Sequencing.{is_first}
+use Rattle.dm_sites.specs.Links.{passes}
+use Rattle.dm_sites.specs.Sites.{Site, site_of}
+use Rattle.dm_agree.specs.Standing.{stands, occurrences_at}
+use Rattle.dm_agree.specs.Agreement.{Added, added_function, Rewriting, standing_for, AtRun, Passes}
+use Rattle.dm_align.specs.Units.{Insertion, IsPut, are_different, IsBodyOf, FormAdds, moved, other_externals, rewriting_of, AreAligned}
+use Rattle.dm_beside.specs.Evaluation.{is_first_in, is_first_at, is_once_first, occurrences_of}
+use Rattle.dm_told.specs.Told.{ArePlacesTold}
+use Rattle.dm_standing.specs.Calls.{IsThere, HasArguments, MayCall}
+use Rattle.dm_standing.proofs.TypedLemmas.{typed_body, all_there}
+use Rattle.dm_once.specs.Once.{IsOnceFirst, AreReadOnceFirst}
+use Rattle.dm_once.proofs.OccurrenceLemmas.{IsOnly, OccursAt, only_span, occurrences_stand}
+use Rattle.dm_once.proofs.OnceLemmas.{body_once, concluded}
+use Rattle.dm_once.proofs.VisitLemmas.{IsMet, unit_met}
+
+-- ---- lists
+
+record IsNumbered (p : ℕ) (list : List ℕ) : Type 0 where
+  number : ℕ
+  few : number < length list
+  there : slice_get list number ≡ Some p
+
+numbered : (p : ℕ) (list : List ℕ) → IsAmong p list → IsNumbered p list
+numbered p [] h = absurd h
+numbered p (d ∷ list) h =
+    ⊎_elim (λ same. record { number = 0; few = omega arith; there = ap Some (sym same) })
+    (λ more. let it = numbered p list more in let few = it.few in record { number = suc it.number; few = omega (arith, few); there = it.there }) h
+
+equal_nat : (a b : ℕ) → (a == b) ≡ true → a ≡ b
+equal_nat a b e = grind (arith, e)
+
+or_right : (a b : Bool) → b ≡ true → (a || b) ≡ true
+or_right true b e = refl
+or_right false b e = e
+
+or_left : (a b : Bool) → a ≡ true → (a || b) ≡ true
+or_left true b e = refl
+or_left false b e = absurd (false≢true e)
+
+any_there : (d : ℕ) (list : List ℕ) (n : ℕ) → slice_get list n ≡ Some d → list_any (λ (c : ℕ). c == d) list ≡ true
+any_there d [] n e = absurd (none_is_some d e)
+any_there d (c ∷ list) zero e = or_left (c == d) (list_any (λ (x : ℕ). x == d) list) (equal_is c d (some_is_some c d e))
+any_there d (c ∷ list) (suc n) e = or_right (c == d) (list_any (λ (x : ℕ). x == d) list) (any_there d list n e)
+
+one_number : (list : List ℕ) → are_different list ≡ true → (m n p : ℕ) → slice_get list m ≡ Some p → slice_get list n ≡ Some p → m ≡ n
+one_number [] h m n p e g = absurd (none_is_some p e)
+one_number (d ∷ list) h zero zero p e g = refl
+one_number (d ∷ list) h zero (suc n) p e g =
+    let both = and_parts (not (list_any (λ (c : ℕ). c == d) list)) (are_different list) h in
+    let same = some_is_some d p e in
+    absurd (false≢true (sym (ap not (any_there d list n (g ∙ ap Some (sym same)))) ∙ both.0))
+one_number (d ∷ list) h (suc m) zero p e g =
+    let both = and_parts (not (list_any (λ (c : ℕ). c == d) list)) (are_different list) h in
+    let same = some_is_some d p g in
+    absurd (false≢true (sym (ap not (any_there d list m (e ∙ ap Some (sym same)))) ∙ both.0))
+one_number (d ∷ list) h (suc m) (suc n) p e g =
+    ap suc (one_number list (and_parts (not (list_any (λ (c : ℕ). c == d) list)) (are_different list) h).1 m n p e g)
+
+number_has : (P : ℕ → Type 0) (list : List ℕ) → AllByRecursion P list → (n p : ℕ) → slice_get list n ≡ Some p → P p
+number_has P [] h n p e = absurd (none_is_some p e)
+number_has P (d ∷ list) h zero p e = subst P (some_is_some d p e) h.0
+number_has P (d ∷ list) h (suc n) p e = number_has P list h.1 n p e
+
+-- ---- the rule
+
+record IsOnlyFirst (first : Span → Bool) (spans : List Span) : Type 0 where
+  only : Span
+  alone : spans ≡ only ∷ []
+  is : first only ≡ true
+
+only_first : (first : Span → Bool) (spans : List Span) → is_once_first first spans ≡ true → IsOnlyFirst first spans
+only_first first [] e = absurd (false≢true e)
+only_first first (only ∷ []) e = record { only = only; alone = refl; is = e }
+only_first first (only ∷ another ∷ rest) e = absurd (false≢true e)
+
+record IsArgument (one : TypedUnit) (site : Site) (only : Span) : Type 0 where
+  argument : Site
+  found : site_of one only ≡ Some argument
+  first : is_first_in site argument ≡ true
+
+argument_of : (one : TypedUnit) (site : Site) (only : Span) → passes (is_first_in site) (site_of one only) ≡ true → IsArgument one site only
+argument_of one site only e = by_found (site_of one only) refl e
+  where
+    by_found : (o : Option Site) → site_of one only ≡ o → passes (is_first_in site) o ≡ true → IsArgument one site only
+    by_found None is k = absurd (false≢true k)
+    by_found (Some argument) is k = record { argument = argument; found = is; first = k }
+
+-- ---- what is put in
+
+record HasTyped (body : Tree) : Type 0 where
+  scene : Scene
+  typed : IsWellTyped scene body
+
+item_typed : (scene : Scene) (result : CType) (body : Tree) (items : Trees) → IsBodyOf result body (listed items) → AreWellTyped scene items → HasTyped body
+item_typed scene result body (more_trees (node return kind spans (more_trees value no_trees)) no_trees) h typed =
+    record { scene = inside scene return (value ∷ []); typed = subst (IsWellTyped (inside scene return (value ∷ []))) (sym h.0) typed.0.1.0 }
+item_typed scene result body (more_trees (node full kind spans (more_trees value no_trees)) no_trees) h typed =
+    record { scene = inside scene full (value ∷ []); typed = subst (IsWellTyped (inside scene full (value ∷ []))) (sym h.0) typed.0.1.0 }
+item_typed scene result body items h typed = absurd h
+
+whole_typed : (scene : Scene) (result : CType) (body whole : Tree) → IsBodyOf result body (parts_of whole) → IsWellTyped scene whole → HasTyped body
+whole_typed scene result body (node label kind spans parts) h typed = item_typed (inside scene label (listed parts)) result body parts h typed.1
+
+record IsPutFunction (put : Insertion) (parameters : List ℕ) (body : Tree) : Type 0 where
+  own : AllByRecursion (IsPut put) parameters
+  different : are_different parameters ≡ true
+  typed : HasTyped body
+
+some_body : (found : Option Declaration) (Name Sort Linkage : Declaration → Type 0) (result_in : Declaration → CType) (body : Tree) (parts : List Tree)
+    → IsSomeAnd found (λ (entry : Declaration). Name entry × (Sort entry × Linkage entry × IsBodyOf (result_in entry) body parts)) → (result : CType) × IsBodyOf result body parts
+some_body None Name Sort Linkage result_in body parts h = absurd h
+some_body (Some entry) Name Sort Linkage result_in body parts h = (result_in entry, h.1.2)
+
+form_puts : (types : Table) (new : TypedUnit) (put : Insertion) (f : ℕ) (parameters : List ℕ) (body : Tree) (form : ExternalForm) → FormFits (file_scene types new.declared) form
+    → FormAdds types new put (added_function f parameters body) form → IsPutFunction put parameters body
+form_puts types new put f parameters body (declares declarators trees) fits h = absurd h
+form_puts types new put f parameters body (defines_function g others whole) fits h =
+    let it = typed_body types new.declared g others whole fits in
+    let is = some_body (slice_get new.declared f) _ _ _ _ body (parts_of whole) h.3.1 in
+    record { own = h.2.0; different = h.2.1; typed = whole_typed (body_scene (file_scene types new.declared) it.result) is.0 body whole is.1 it.typed }
+
+moved_apart : (put : Insertion) (d : ℕ) → IsPut put (moved (Some put) d) → ⊥
+moved_apart put d h = grind (arith, nat_tests, h)
+
+-- ---- units
+
+module _ (old_types new_types : Table) (old new : TypedUnit) (runs : List Run) (put : Insertion) (f : ℕ) (parameters : List ℕ) (body : Tree)
+    (adds : put.added ≡ added_function f parameters body)
+    (keep : AllByRecursion (λ (run : Run). MayCall old_types old run × HasArguments (rewriting_of old_types old runs (Some put)) old (length parameters) run × IsOnceFirst old (length parameters) run) runs) where
+  abbrev it : Rewriting
+  it = rewriting_of old_types old runs (Some put)
+
+  abbrev Keeps : Run → Type 0
+  Keeps run = MayCall old_types old run × HasArguments it old (length parameters) run × IsOnceFirst old (length parameters) run
+
+  module _ (is_put : IsPutFunction put parameters body) where
+    visit : (run : Run) (inner : List Run) (label : Label) (kind : CType) (parts : Trees) (other : Tree) → IsMet old it Keeps (AreReadOnceFirst parameters body) keep run inner label kind parts other
+        → AreReadOnceFirst parameters body
+    visit run inner label kind parts other met p among =
+        let number = numbered p parameters among in
+        let n = number.number in
+        let at = subst (λ (added : Added). AtRun it added run inner label kind parts other (Passes it parts run inner other)) adds met.at in
+        let place = met.own run.span met.keeps.1 met.keeps.2 in
+        let rule = only_first (is_first_at old run) (occurrences_of run n) (met.keeps.0.2 n number.few) in
+        let argument = argument_of old met.site rule.only (sym (ap (passes (λ (site : Site). passes (is_first_in site) (site_of old rule.only))) place) ∙ rule.is) in
+        let occurs = only_span run n rule.only rule.alone in
+        let here = at_site n rule.only (occurrences_at run.occurrences other) (occurrences_stand (IsOnly n rule.only) run.occurrences other occurs) in
+        let distinct : (m : ℕ) → slice_get parameters m ≡ Some p → m ≡ n = λ m is. one_number parameters is_put.different m n p is number.there in
+        let apart : (d : ℕ) → it.rename d ≡ p → ⊥ = λ d is. moved_apart put d (subst (IsPut put) (sym is) (number_has (IsPut put) parameters is_put.own n p number.there)) in
+        let claim = body_once old it parameters run n p number.there distinct rule.only argument.argument argument.found apart occurs (occurrences_at run.occurrences other) inner body other met.site
+        is_put.typed.scene met.same met.expression met.told here is_put.typed.typed at.0.3 in
+        concluded old it parameters run n p number.there distinct rule.only argument.argument argument.found apart occurs body other met.site (standing_for it run inner n other) claim
+        (subst (λ (t : Tree). IsThere (standing_for it run inner n t)) met.same (met.keeps.0.1 inner met.site place n number.few))
+        (subst (λ (t : Tree). is_first (drop (length met.site.path) argument.argument.path) t ≡ true) met.same argument.first)
+      where
+        at_site : (n : ℕ) (only : Span) (all : List Occurrence) → AllByRecursion (OccursAt (IsOnly n only) true other) all → AllByRecursion (OccursAt (IsOnly n only) met.site.apart met.site.tree) all
+        at_site n only [] h = tt
+        at_site n only (first ∷ all) h = ((h.0.0, met.keeps.1, subst (λ (t : Tree). stands first.span t ≡ true) (sym met.same) h.0.2), at_site n only all h.1)
+
+  by_external : IsWellTypedUnit new_types new → (found : Option External) → slice_get new.externals put.external ≡ found
+      → IsSomeAnd found (λ external. FormAdds new_types new put put.added external.form) → IsPutFunction put parameters body
+  by_external typed None e h = absurd h
+  by_external typed (Some external) e h =
+      form_puts new_types new put f parameters body external.form (all_there (ExternalFits (file_scene new_types new.declared)) new.externals typed.externals put.external external e).2
+      (subst (λ (added : Added). FormAdds new_types new put added external.form) adds h)
+
+  pub read_once_first : IsWellTypedUnit old_types old → IsWellTypedUnit new_types new → AreAligned old_types new_types old new runs (Some put) → ArePlacesTold old
+      → AreReadOnceFirst parameters body ⊎ AreAligned old_types new_types old new [] (Some put)
+  read_once_first old_typed typed h told =
+      ⊎_elim (λ r. inl r)
+      (λ rest. inr (record { structs = h.structs; added = h.added; declared = h.declared; externals = rest; placed = tt }))
+      (unit_met old it Keeps (AreReadOnceFirst parameters body) keep (visit (by_external typed (slice_get new.externals put.external) refl h.added)) old_types
+      (other_externals (Some put) new.externals) old_typed told h.externals)

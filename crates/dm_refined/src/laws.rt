@@ -1,0 +1,97 @@
+//! What follows from alignment and from verdicts.
+
+ghost use Rattle.std.specs.Prelude.{◌≡◌, ℕ, true, false, List, [], Some, None, length};
+ghost use Rattle.std.specs.List.{AllByRecursion};
+ghost use Rattle.dm_token.specs.declared.expansion.Definition.{Definition};
+ghost use Rattle.dm_runs.specs.declared.run.Run.{Run};
+ghost use Rattle.dm_tree.specs.Trees.{Tree};
+ghost use Rattle.dm_edit.specs.declared.change.Change.{Change};
+ghost use Rattle.dm_reading.specs.declared.reading.Reading.{Reading};
+ghost use Rattle.dm_reading.specs.Layered.{IsLayered};
+ghost use Rattle.dm_rules.specs.Uses.{reads, runs_in};
+ghost use Rattle.dm_meanings.specs.Types.{unit_in};
+ghost use Rattle.dm_agree.specs.Agreement.{added_function};
+ghost use Rattle.dm_align.specs.Units.{Insertion, AreAligned, rewriting_of};
+ghost use Rattle.dm_refine.specs.Calls.{HasNoLengths, HasResult, IsEvaluated};
+ghost use Rattle.dm_standing.specs.Calls.{HasArguments, MayCall};
+ghost use Rattle.dm_once.specs.Once.{IsOnceFirst};
+ghost use Rattle.dm_alignment.specs.Readings.{AreAlignedReadings};
+ghost use Rattle.dm_verdict.specs.declared.verdict.Verdict.TheVariants.{Allowed};
+ghost use Rattle.dm_judge.specs.Rules.{broken_first};
+ghost use Rattle.dm_verdict.specs.Verdicts.{IsVerdict, rules_in};
+ghost use Rattle.dm_refined.specs.Programs.{AreOfExpansions, KeepsRunRules, NeedsNoCall, RefinesReading};
+
+use dm_once::parameters_are_read_once_first;
+use dm_refine::{
+    calling_units_refine, object_like_macros_refine, passing_units_refine, unread_units_refine,
+};
+use dm_sound_reading::readings_are_sound;
+use dm_standing::calls_are_evaluated;
+use dm_told::places_are_told;
+
+/// Where the unit doesn't read the definition, each of the two programs refines the other.
+pub fn readings_without_the_definition_refine()
+    ensures new { (old new : Reading) (change : Change) → IsLayered old → IsLayered new → AreAlignedReadings old new change
+        → reads change.definition old ≡ false → RefinesReading new old }
+    ensures old { (old new : Reading) (change : Change) → IsLayered old → IsLayered new → AreAlignedReadings old new change
+        → reads change.definition old ≡ false → RefinesReading old new }
+{
+    // The laws on which its proof rests.
+    readings_are_sound();
+    unread_units_refine();
+}
+
+/// Where the macro becomes an enumerator or a const object, the new program refines the old one.
+pub fn aligned_readings_refine()
+    ensures { (old new : Reading) (change : Change) → IsLayered old → IsLayered new → AreAlignedReadings old new change → NeedsNoCall change
+        → RefinesReading new old }
+{
+    readings_are_sound();
+    object_like_macros_refine();
+}
+
+/// So it does where such an edit is allowed.
+pub fn allowed_edits_refine()
+    ensures { (old new : Reading) (change : Change) → IsLayered old → IsLayered new → IsVerdict old new change Allowed → NeedsNoCall change
+        → RefinesReading new old }
+{
+    aligned_readings_refine();
+}
+
+/// Where a unit that reads a definition breaks none of the rules that it alone can break, each run keeps the rules that ask where runs stand. Each
+/// run is of one of the expansions that the rules look at.
+pub fn runs_keep_the_rules()
+    ensures { (definition : Definition) (reading : Reading) → broken_first (rules_in definition reading) ≡ None → reads definition reading ≡ true
+        → AreOfExpansions definition reading → AllByRecursion (KeepsRunRules definition reading) (runs_in definition reading) }
+{}
+
+/// Where the macro becomes a function without parameters, and no run stands where a constant is wanted or nothing is evaluated, the new program
+/// refines the old one. The function has a result, no type name in its expression has an array length or an enumerator's value, and no operand of
+/// sizeof in it calls the function itself.
+pub fn aligned_calls_refine()
+    ensures { (old new : Reading) (change : Change) (put : Insertion) (f : ℕ) (body : Tree) → IsLayered old → IsLayered new
+        → AreAligned old.types new.types (unit_in old) (unit_in new) (runs_in change.definition old) (Some put) → put.added ≡ added_function f [] body
+        → AllByRecursion (MayCall old.types (unit_in old)) (runs_in change.definition old)
+        → HasResult (unit_in new) f → HasNoLengths body → IsEvaluated f body → RefinesReading new old }
+{
+    readings_are_sound();
+    places_are_told();
+    calls_are_evaluated();
+    calling_units_refine();
+}
+
+/// So it does where the function has parameters, each of which has an argument in each run and occurs there once, and first.
+pub fn aligned_functions_refine()
+    ensures { (old new : Reading) (change : Change) (put : Insertion) (f : ℕ) (parameters : List ℕ) (body : Tree) → IsLayered old → IsLayered new
+        → AreAligned old.types new.types (unit_in old) (unit_in new) (runs_in change.definition old) (Some put) → put.added ≡ added_function f parameters body
+        → AllByRecursion (λ (run : Run). MayCall old.types (unit_in old) run
+        × HasArguments (rewriting_of old.types (unit_in old) (runs_in change.definition old) (Some put)) (unit_in old) (length parameters) run
+        × IsOnceFirst (unit_in old) (length parameters) run) (runs_in change.definition old)
+        → HasResult (unit_in new) f → HasNoLengths body → IsEvaluated f body → RefinesReading new old }
+{
+    readings_are_sound();
+    places_are_told();
+    calls_are_evaluated();
+    parameters_are_read_once_first();
+    passing_units_refine();
+}

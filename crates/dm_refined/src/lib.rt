@@ -1,0 +1,10 @@
+//! What the edit of a macro's definition does to the program of a unit (ISO/IEC 9899:2011, 5.1.2.3): where the readings before and after it are
+//! aligned, the new program refines the old one.
+#![tactic(auto)]
+
+mod laws;
+
+pub use laws::{
+    aligned_calls_refine, aligned_functions_refine, aligned_readings_refine, allowed_edits_refine,
+    readings_without_the_definition_refine, runs_keep_the_rules,
+};

@@ -1,0 +1,5 @@
+pub mod ArityLemmas
+pub mod CallLemmas
+pub mod RunLemmas
+pub mod TypedLemmas
+pub mod UnitLemmas
