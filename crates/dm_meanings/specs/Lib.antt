@@ -1,3 +1,4 @@
 pub mod Captures
 pub mod First
 pub mod Types
+pub mod Own

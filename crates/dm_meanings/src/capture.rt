@@ -1,35 +1,18 @@
 //! What the names of replacement lists mean.
 
-ghost use Rattle.std.specs.Prelude.{◌≡◌, ◌&&◌, not, IfOk};
+ghost use Rattle.std.specs.Prelude.{◌≡◌, ◌<◌, ◌≤◌, ◌&&◌, not, IfOk};
 ghost use Rattle.dm_meanings.specs.Captures as captures;
 ghost use Rattle.dm_meanings.specs.First.{readings_of};
+ghost use Rattle.dm_meanings.specs.Own.{AreOwn};
 ghost use Rattle.dm_rules.specs.Places.{externals_behind};
 
 use crate::meanings::Meanings;
+use crate::own::{is_own, own_tokens};
 use dm_names::Identifier;
 use dm_rules::{Instances, names_of};
 use dm_runs::Run;
-use dm_token::{Definition, Memory, Place, Span, Text};
+use dm_token::{Definition, Memory, Place, Text};
 use std::alloc::Global;
-
-fn has_token(at: u32, span: Span) -> bool
-    ensures { result ≡ captures.has_token at span }
-{
-    span.first <= at && at < span.after
-}
-
-/// Whether a token of a run stands outside the occurrences of parameters.
-fn is_own(run: &Run, at: u32) -> bool
-    ensures { result ≡ captures.is_own run.now at }
-{
-    let occurrences = run.occurrences.items();
-    for one in occurrences {
-        if has_token(at, one.span) {
-            return false;
-        }
-    }
-    true
-}
 
 fn is_parameter_name(definition: &Definition, name: &Text) -> bool
     ensures { result ≡ captures.is_parameter_name definition.now name.now }
@@ -65,25 +48,41 @@ fn is_kept(definition: &Definition, unit: &Meanings, behind: u32, at: u32) -> bo
     }
 }
 
-/// Whether a token of a run is the macro's own, and means something else where the definition stands.
-fn is_captured(definition: &Definition, unit: &Meanings, behind: u32, run: &Run, at: u32) -> bool
-    requires { behind ≡ externals_behind definition.now unit.now.index.now.reading.now }
+/// Whether a token of a run is one of the macro's own, and means something else where the definition stands.
+fn is_captured(
+    definition: &Definition,
+    unit: &Meanings,
+    behind: u32,
+    own: &[bool],
+    run: &Run,
+    at: u32,
+) -> bool
+    requires behind { behind ≡ externals_behind definition.now unit.now.index.now.reading.now }
+    requires own { AreOwn run.now own.now }
+    requires inside { (run.now.span.first ≤ at) × (at < run.now.span.after) }
     ensures { result ≡ (captures.is_own run.now at && not (captures.is_kept definition.now unit.now.index.now.reading.now at)) }
 {
-    is_own(run, at) && !is_kept(definition, unit, behind, at)
+    is_own(own, run, at) && !is_kept(definition, unit, behind, at)
 }
 
 /// Whether all names among the macro's own tokens mean the same where the definition stands.
-fn keeps_meanings(definition: &Definition, unit: &Meanings, behind: u32, run: &Run) -> bool
+fn keeps_meanings(
+    alloc: Global,
+    definition: &Definition,
+    unit: &Meanings,
+    behind: u32,
+    run: &Run,
+) -> Result<bool, Memory>
     requires { behind ≡ externals_behind definition.now unit.now.index.now.reading.now }
-    ensures { result ≡ captures.keeps_meanings definition.now unit.now.index.now.reading.now run.now }
+    ensures { IfOk result (λ keeps. keeps ≡ captures.keeps_meanings definition.now unit.now.index.now.reading.now run.now) }
 {
+    let own = own_tokens(alloc, run)?;
     for at in run.span.first..run.span.after {
-        if is_captured(definition, unit, behind, run, at) {
-            return false;
+        if is_captured(definition, unit, behind, own.as_slice(), run, at) {
+            return Ok(false);
         }
     }
-    true
+    Ok(true)
 }
 
 /// The first expansion in a unit in which a name means something else.
@@ -98,7 +97,7 @@ fn capture_in(
     let mut instances = Instances::new(alloc);
     let runs = unit.index.runs_of(definition);
     for run in runs {
-        let keeps = keeps_meanings(definition, unit, behind, run);
+        let keeps = keeps_meanings(alloc, definition, unit, behind, run)?;
         instances.add_if(run, !keeps)?;
     }
     Ok(unit.index.first_with(definition, &instances))

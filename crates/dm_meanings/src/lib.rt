@@ -4,6 +4,7 @@
 
 mod capture;
 mod meanings;
+mod own;
 mod typed;
 mod types;
 
