@@ -50,6 +50,14 @@ nothing-held loaded file is = by (held_at loaded file) refl
 no-bytes : (loaded : Loaded) (file : ℕ) → is_held loaded file ≡ false → bytes_at loaded file ≡ []
 no-bytes loaded file is = ap (λ (held : Option (List ℕ)). unwrap_or held []) (nothing-held loaded file is)
 
+-- the bytes of a file that is held
+pub bytes-held : (loaded : Loaded) (file : ℕ) → is_held loaded file ≡ true → held_at loaded file ≡ Some (bytes_at loaded file)
+bytes-held loaded file is = by (held_at loaded file) refl
+  where
+    by : (held : Option (List ℕ)) → held_at loaded file ≡ held → held_at loaded file ≡ Some (bytes_at loaded file)
+    by None e = absurd (false≢true (sym (ap is_some e) ∙ is))
+    by (Some bytes) e = e ∙ ap Some (sym (ap (λ (held : Option (List ℕ)). unwrap_or held []) e))
+
 -- a file in which a definition lies is held
 pub held-where-lies : (loaded : Loaded) (file : ℕ) (definition : Definition) → LiesIn (bytes_at loaded file) definition → is_held loaded file ≡ true
 held-where-lies loaded file definition lies = by (is_held loaded file) refl

@@ -2,6 +2,7 @@
 
 ghost use Rattle.std.specs.Prelude.{◌≡◌, ◌↔◌, ◌<◌, ◌≤◌, ◌+◌, All, IfOk, IfErr, IsTrue, OnOk, true, false, length};
 ghost use Rattle.dm_search.specs.Loaded.{is_held, with_bytes};
+ghost use Rattle.dm_search.specs.Readable.{IsReadable};
 ghost use Rattle.dm_unit.specs.Loaders.{most_names};
 ghost use Rattle.dm_unit.specs.Views.{stop_of};
 ghost use Rattle.dm_project.specs.Again.{put_in as readings_with, reader_count};
@@ -15,7 +16,7 @@ use dm_io::Folder;
 use dm_project::read_again;
 use dm_read::Steps;
 use dm_reading::Reading;
-use dm_search::Loader;
+use dm_search::{Loader, readable_bytes_are_not_refused};
 use dm_subjects::{are_all_aligned, bytes_at};
 use dm_token::{Definition, HEADER_COUNT, List, Memory, Stop, Unit};
 use std::alloc::Global;
@@ -50,6 +51,7 @@ pub(crate) fn edit_one<F: Folder, L: Ledger>(
         return Ok(kept_entry(change));
     }
     let before = List::from_vec(Vec::from_slice(alloc, bytes_at(loader, file))?);
+    loader.held_are_readable();
     if !hold_edited(alloc, loader, &change)? {
         return Ok(kept_entry(change));
     }
@@ -143,14 +145,19 @@ fn put_in(alloc: Global, kept: &mut List<Reading>, news: List<Option<Reading>>)
     *kept = List::from_vec(readings);
 }
 
-/// Holds the bytes again that a file had. They could be read before, so only memory can be wanting.
+/// Holds the bytes again that a file had. They can be read, so only memory can be wanting.
 fn put_back(loader: &mut Loader, file: u32, bytes: List<u8>) -> Result<(), Memory>
-    requires { is_held loader.old file ≡ true }
+    requires held { is_held loader.old file ≡ true }
+    requires readable { IsReadable file bytes }
     ensures { OnOk result (loader.new ≡ with_bytes loader.old file bytes) }
 {
+    readable_bytes_are_not_refused();
     match loader.replace(file, bytes) {
         Ok(()) => Ok(()),
-        Err(_) => Err(Memory),
+        Err(Stop::Memory) => Err(Memory),
+        Err(Stop::Refused(_)) => unreachable!(),
+        Err(Stop::Limit(_)) => unreachable!(),
+        Err(Stop::ReadFault(_)) => unreachable!(),
     }
 }
 

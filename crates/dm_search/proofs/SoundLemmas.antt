@@ -11,6 +11,7 @@ use Rattle.std.proofs.lemmas.List.Sums.{sum_by-append}
 use Rattle.std.specs.List.{list_any}
 use Rattle.dm_search.specs.declared.content.Content.{Content}
 use Rattle.dm_search.specs.Headers.{header_names, header_texts}
+use Rattle.dm_search.specs.Readable.{IsReadable}
 use Rattle.dm_search.specs.Sound.{bytes_of, bytes_in, AreSound, AreContents, IsContent}
 
 -- what no index finds in a list, it doesn't find with nothing behind it
@@ -76,6 +77,16 @@ pub held-inside : {A : Type 0} (xs : List (Option A)) (i : ℕ) → is_some (get
 held-inside [] i h = absurd (true≢false (sym h))
 held-inside (x ∷ xs) zero h = omega arith
 held-inside (x ∷ xs) (suc i) h = let rest = held-inside xs i h in omega (arith, rest)
+
+-- what is held can be read
+pub readable-held : (contents : List (Option Content)) (file : ℕ) (bytes : List ℕ) → AreContents contents → get_or (bytes_of contents) file None ≡ Some bytes → IsReadable file bytes
+readable-held contents file bytes are held = by (get_or contents file None) refl (sym (map_at bytes_in contents file None) ∙ held)
+  where
+    by : (content : Option Content) → get_or contents file None ≡ content → bytes_in content ≡ Some bytes → IsReadable file bytes
+    by None at is = absurd (cc is)
+    by (Some content) at is =
+        let read = are file content at in
+        subst (IsReadable file) (injected content.bytes bytes is) (read.0, content.tokens, read.1)
 
 -- the contents are counted as their bytes are
 count-map : (contents : List (Option Content)) → count_by is_some (bytes_of contents) ≡ count_by is_some contents

@@ -7,5 +7,7 @@ mod joining;
 mod laws;
 mod loader;
 
-pub use laws::{searched_names_are_normal, the_first_file_is_found};
+pub use laws::{
+    readable_bytes_are_not_refused, searched_names_are_normal, the_first_file_is_found,
+};
 pub use loader::Loader;

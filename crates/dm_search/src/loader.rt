@@ -93,6 +93,13 @@ impl Loader {
         let _names = self.numbers.as_slice();
     }
 
+    /// The bytes that are held can be read.
+    pub fn held_are_readable(&self)
+        ensures { (file : ℕ) (bytes : Sequence ℕ) → held_at self.now file ≡ Some bytes → IsReadable file bytes }
+    {
+        let _contents = &self.contents;
+    }
+
     /// The name of a number.
     pub fn name(&self, file: u32) -> &Text
         requires { file < length self.now.names }

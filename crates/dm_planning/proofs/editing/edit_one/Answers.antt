@@ -2,9 +2,11 @@
 use Rattle.std.proofs.Common.{◌≡◌, true, false, Option, Some, None, refl, sym, ap, ◌∙◌, subst, rules}
 use Rattle.dm_token.specs.declared.stop.Stop.{Stop}
 use Rattle.dm_search.specs.Loaded.{is_held, with_bytes}
+use Rattle.dm_search.specs.Readable.{IsReadable}
 use Rattle.dm_subjects.specs.Subjects.{bytes_at}
 use Rattle.dm_planning.specs.Judging.{CanBeEdited, file_of}
 use Rattle.dm_planning.specs.Steps.{Holds, LeavesProject, RereadsTo}
+use Rattle.dm_planning.proofs.EditLemmas.{bytes-held}
 use Rattle.dm_planning.proofs.EditingLemmas.{edits-back, edits-stand, held-can, leaves-held, when-true}
 use Rattle.dm_planning.proofs.LeaveLemmas.{handed-on, leaves-replaced, leaves-trans, none-memory}
 use Rattle.dm_planning.proofs.editing.edit_one.Goals as goal
@@ -72,8 +74,8 @@ returns-then-branch-clause-leaves g c =
     let early = leaves-held files room faults change c.args.loader.now c.hold_edited.new.loader c.requires.room first holds in
     leaves-trans files files new_files room room new_room faults faults new_faults c.args.loader.now c.hold_edited.new.loader c.read_edited.new.loader None early c.in_ok-read_edited.ensures.leaves
 
-pub put_back-requires : goal.put_back-requires
-put_back-requires g c =
+pub put_back-requires-clause-held : goal.put_back-requires-clause-held
+put_back-requires-clause-held g c =
     let change = c.args.change in
     let file = file_of change in
     let can : CanBeEdited c.args.loader.now change.definition = when-true c.can_be_edited.result (CanBeEdited c.args.loader.now change.definition) c.can_be_edited.ensures (search rules) in
@@ -91,6 +93,15 @@ put_back-requires g c =
     let there = early.held_too none-memory file first in
     let still : is_held c.read_edited.new.loader file ≡ true = c.in_ok-read_edited.ensures.leaves.held_too none-memory file there in
     still
+
+pub put_back-requires-clause-readable : goal.put_back-requires-clause-readable
+put_back-requires-clause-readable g c =
+    let change = c.args.change in
+    let file = file_of change in
+    let can : CanBeEdited c.args.loader.now change.definition = when-true c.can_be_edited.result (CanBeEdited c.args.loader.now change.definition) c.can_be_edited.ensures (search rules) in
+    let bytes = c.from_vec-before.ensures ∙ c.in_ok-from_slice.ensures.items ∙ c.bytes_at.ensures in
+    subst (IsReadable file) (sym bytes)
+    (c.held_are_readable.ensures file (bytes_at c.args.loader.now file) (bytes-held c.args.loader.now file (held-can c.args.loader.now change.definition can)))
 
 pub returns-clause-edits : goal.returns-clause-edits
 returns-clause-edits g c =
