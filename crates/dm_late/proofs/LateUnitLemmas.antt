@@ -45,7 +45,7 @@ use Rattle.dm_central.specs.QuietFrames as quiet
 use Rattle.dm_central.proofs.QuietTreeLemmas.{writes_nothing}
 use Rattle.dm_central.proofs.RefineLemmas.{known_calls_refine}
 use Rattle.dm_central.proofs.WholeLemmas.{no_statements}
-use Rattle.dm_refine.specs.Calls.{HasResult, HasNoLengths, IsEvaluated, IsCalledEvaluated}
+use Rattle.dm_refine.specs.Calls.{HasResult, HasNoLengths, IsEvaluated, AreOthersEvaluated}
 use Rattle.dm_refine.proofs.AutomaticLemmas.{nowhere_local}
 use Rattle.dm_refine.proofs.CallBodyLemmas.{not_true}
 use Rattle.dm_refine.proofs.CallGivesLemmas.{gives}
@@ -105,17 +105,20 @@ items_whole scene (node label kind spans parts) is typed =
 
 module _ (old_types new_types : Table) (old new : TypedUnit) (runs : List Run) (old_typed : IsWellTypedUnit old_types old) (typed : IsWellTypedUnit new_types new) (scoped : IsScopedUnit new)
     (put : Insertion) (h : AreAligned old_types new_types old new runs (Some put)) (f : ℕ) (parameters : List ℕ) (body : Tree) (adds : put.added ≡ added_function f parameters body)
-    (lengths : HasNoLengths body) (evaluated : IsCalledEvaluated f new) (judged : Judged) (first : AreReadFirst judged runs parameters body)
+    (lengths : HasNoLengths body) (evaluated : AreOthersEvaluated f put new) (judged : Judged) (first : AreReadFirst judged runs parameters body)
     (alike : EvaluateAlike judged (rewriting_of old_types old runs (Some put)) parameters (other_externals (Some put) new.externals) old.externals)
     (closed : AreClosed judged old (moved (Some put)) (program_of new_types new)) (silent : late.AreQuiet judged (program_of old_types old)) where
   abbrev Fits : External → Type 0
   Fits external = ExternalFits (file_scene new_types new.declared) external × AllByRecursion (IsEvaluated f) (trees_in_form external.form)
 
-  abbrev all_evaluated : All (λ (external : External). AllByRecursion (IsEvaluated f) (trees_in_form external.form)) new.externals
-  all_evaluated = All-from_recursion (λ (external : External). AllByRecursion (IsEvaluated f) (trees_in_form external.form)) new.externals evaluated
+  abbrev others_fit : All (ExternalFits (file_scene new_types new.declared)) (other_externals (Some put) new.externals)
+  others_fit = all_without (ExternalFits (file_scene new_types new.declared)) put.external new.externals typed.externals
 
-  abbrev all_fit : All Fits new.externals
-  all_fit k default inside = (typed.externals k default inside, all_evaluated k default inside)
+  abbrev others_evaluated : All (λ (external : External). AllByRecursion (IsEvaluated f) (trees_in_form external.form)) (other_externals (Some put) new.externals)
+  others_evaluated = All-from_recursion (λ (external : External). AllByRecursion (IsEvaluated f) (trees_in_form external.form)) (other_externals (Some put) new.externals) evaluated
+
+  abbrev all_fit : All Fits (other_externals (Some put) new.externals)
+  all_fit k default inside = (others_fit k default inside, others_evaluated k default inside)
 
   abbrev OldFits : External → Type 0
   OldFits external = ExternalFits (file_scene old_types old.declared) external
@@ -311,7 +314,7 @@ module _ (old_types new_types : Table) (old new : TypedUnit) (runs : List Run) (
         by_side (inr k) = among_right definition (definitions_in before) (added ∷ definitions_in behind) (inr k)
 
     both_agree : Zipped Both (before ++ behind) old.externals
-    both_agree = all_agree (before ++ behind) old.externals (all_without Fits put.external new.externals all_fit) old_typed.externals h.externals alike only_there
+    both_agree = all_agree (before ++ behind) old.externals all_fit old_typed.externals h.externals alike only_there
 
     abbrev olds : List Definition
     olds = map erased_definition (definitions_in old.externals)

@@ -7,7 +7,7 @@ ghost use Rattle.dm_meaning.specs.Units.{program_of};
 ghost use Rattle.dm_effect.specs.Scoped.{IsScopedUnit};
 ghost use Rattle.dm_align.specs.Examples as examples;
 ghost use Rattle.dm_align.specs.Units.{AreAligned, moved, other_externals};
-ghost use Rattle.dm_refine.specs.Calls.{HasNoLengths, HasResult, IsCalledEvaluated};
+ghost use Rattle.dm_refine.specs.Calls.{AreOthersEvaluated, HasNoLengths, HasResult};
 ghost use Rattle.dm_late.specs.Examples.{judged};
 ghost use Rattle.dm_late.specs.Late.{AreClosed, AreQuiet, AreReadFirst, EvaluateAlike};
 
@@ -20,7 +20,7 @@ pub fn a_maximum_refines()
     ensures aligned { AreAligned no_type no_type examples.max_old examples.max_new (examples.run_of_max ∷ []) (Some examples.max_put) }
     ensures result { HasResult examples.max_new 2 }
     ensures lengths { HasNoLengths examples.max_body }
-    ensures evaluated { IsCalledEvaluated 2 examples.max_new }
+    ensures evaluated { AreOthersEvaluated 2 examples.max_put examples.max_new }
     ensures first { AreReadFirst judged (examples.run_of_max ∷ []) (0 ∷ 1 ∷ []) examples.max_body }
     ensures alike { EvaluateAlike judged examples.max_rewriting (0 ∷ 1 ∷ []) (other_externals (Some examples.max_put) examples.max_new.externals)
         examples.max_old.externals }

@@ -39,7 +39,7 @@ use Rattle.dm_agree.specs.Agreement.{Added, added_function, here_at, AgreesWhole
 use Rattle.dm_agree.specs.Standing.{runs_at, extents_of}
 use Rattle.dm_align.specs.Units as aligned
 use Rattle.dm_align.specs.Units.{Insertion, are_different, moved, other_externals, FormAdds, rewriting_of, AreAligned}
-use Rattle.dm_refine.specs.Calls.{HasResult, HasNoLengths, IsEvaluated, IsCalledEvaluated, AreEvaluatedAtOnce}
+use Rattle.dm_refine.specs.Calls.{HasResult, HasNoLengths, IsEvaluated, AreOthersEvaluated, AreEvaluatedAtOnce}
 use Rattle.dm_refine.proofs.AutomaticLemmas.{nowhere_local}
 use Rattle.dm_refine.proofs.CallGivesLemmas.{gives}
 use Rattle.dm_refine.proofs.CallLocalLemmas.{declarators_agree, locals_agree}
@@ -157,16 +157,24 @@ all_put put (q ∷ ps) h p (inr k) = all_put put ps h.1 p k
 
 module _ (old_types new_types : Table) (old new : TypedUnit) (runs : List Run) (old_typed : IsWellTypedUnit old_types old) (typed : IsWellTypedUnit new_types new) (scoped : IsScopedUnit new)
     (put : Insertion) (h : AreAligned old_types new_types old new runs (Some put)) (f : ℕ) (parameters : List ℕ) (body : Tree) (adds : put.added ≡ added_function f parameters body)
-    (lengths : HasNoLengths body) (evaluated : IsCalledEvaluated f new) (at_once : AreEvaluatedAtOnce runs parameters body) where
+    (lengths : HasNoLengths body) (evaluated : AreOthersEvaluated f put new) (at_once : AreEvaluatedAtOnce runs parameters body) where
   -- an external declaration that fits, in whose scopes names stand, and whose operands of sizeof don't name the function
   abbrev Fits : External → Type 0
   Fits external = ExternalFits (file_scene new_types new.declared) external × IsTrue (is_scoped_external new.declared external) × AllByRecursion (IsEvaluated f) (trees_in_form external.form)
 
-  abbrev all_evaluated : All (λ (external : External). AllByRecursion (IsEvaluated f) (trees_in_form external.form)) new.externals
-  all_evaluated = All-from_recursion (λ (external : External). AllByRecursion (IsEvaluated f) (trees_in_form external.form)) new.externals evaluated
+  abbrev others_fit : All (ExternalFits (file_scene new_types new.declared)) (other_externals (Some put) new.externals)
+  others_fit = all_without (ExternalFits (file_scene new_types new.declared)) put.external new.externals typed.externals
 
-  abbrev all_fit : All Fits new.externals
-  all_fit k default inside = (typed.externals k default inside, all_passing (is_scoped_external new.declared) new.externals scoped k default inside, all_evaluated k default inside)
+  abbrev others_scoped : All (λ (external : External). IsTrue (is_scoped_external new.declared external)) (other_externals (Some put) new.externals)
+  others_scoped =
+      all_without (λ (external : External). IsTrue (is_scoped_external new.declared external)) put.external new.externals
+      (all_passing (is_scoped_external new.declared) new.externals scoped)
+
+  abbrev others_evaluated : All (λ (external : External). AllByRecursion (IsEvaluated f) (trees_in_form external.form)) (other_externals (Some put) new.externals)
+  others_evaluated = All-from_recursion (λ (external : External). AllByRecursion (IsEvaluated f) (trees_in_form external.form)) (other_externals (Some put) new.externals) evaluated
+
+  abbrev all_fit : All Fits (other_externals (Some put) new.externals)
+  all_fit k default inside = (others_fit k default inside, others_scoped k default inside, others_evaluated k default inside)
 
   abbrev told : (d : ℕ) → option_map facts_of (declaration_at new.declared (moved (Some put) d)) ≡ option_map facts_of (declaration_at old.declared d)
   told = entry_told (Some put) new.declared old.declared h.declared
@@ -262,7 +270,7 @@ module _ (old_types new_types : Table) (old new : TypedUnit) (runs : List Run) (
     both_agree =
         zipped_typed Fits (ExternalFits (file_scene old_types old.declared)) (aligned.ExternalsAgree (rewriting_of old_types old runs (Some put))) Both
         (λ first other fits other_fits agree. forms_agree first.form other.form fits.0.2 fits.2 agree.1) (other_externals (Some put) new.externals) old.externals
-        (all_without Fits put.external new.externals all_fit) old_typed.externals h.externals
+        all_fit old_typed.externals h.externals
 
     zipped_weaker : (R S : External → External → Type 0) → ((x y : External) → R x y → S x y) → (xs ys : List External) → Zipped R xs ys → Zipped S xs ys
     zipped_weaker R S g [] [] k = tt

@@ -1,9 +1,9 @@
 -- Which added functions the laws on calls speak of today, and where their calls stand.
 --     HasResult unit f      the function has a result
 --     HasNoLengths tree      no type name in a tree has an array length or an enumerator's value
---     IsCalledEvaluated f unit      no operand of sizeof in a unit names the function
+--     AreOthersEvaluated f put new      no operand of sizeof names the function, in any declaration but the one that is put in
 --     AreEvaluatedAtOnce runs parameters body      where a run stands, each parameter is read once in the expression, and first
-use Rattle.std.specs.Prelude.{◌≡◌, ℕ, Bool, false, ◌||◌, ◌==◌, List, slice_get}
+use Rattle.std.specs.Prelude.{◌≡◌, ℕ, Bool, false, ◌||◌, ◌==◌, List, Some, slice_get}
 use Rattle.std.specs.List.{AllByRecursion}
 use Rattle.std.specs.Option.{IsSomeAnd}
 use Rattle.dm_runs.specs.declared.run.Run.{Run}
@@ -14,7 +14,7 @@ use Rattle.dm_meaning.specs.Among.{IsAmong}
 use Rattle.dm_meaning.specs.CalledWithAll.{times_named}
 use Rattle.dm_effect.specs.Entities.{trees_in_form}
 use Rattle.dm_central.specs.Arguments.{ReadsFirst}
-use Rattle.dm_align.specs.Units.{result_of}
+use Rattle.dm_align.specs.Units.{Insertion, other_externals, result_of}
 
 -- a function returns an object type, and here one other than void (6.7.6.3p1, 6.9.1p3)
 abbrev pub HasResult : TypedUnit → ℕ → Type 0
@@ -66,8 +66,8 @@ abbrev mutual
   AreEvaluated f no_trees = Unit {0}
   AreEvaluated f (more_trees first rest) = IsEvaluated f first × AreEvaluated f rest
 
-abbrev pub IsCalledEvaluated : ℕ → TypedUnit → Type 0
-IsCalledEvaluated f one = AllByRecursion (λ (external : External). AllByRecursion (IsEvaluated f) (trees_in_form external.form)) one.externals
+abbrev pub AreOthersEvaluated : ℕ → Insertion → TypedUnit → Type 0
+AreOthersEvaluated f put new = AllByRecursion (λ (external : External). AllByRecursion (IsEvaluated f) (trees_in_form external.form)) (other_externals (Some put) new.externals)
 
 -- ---- arguments
 

@@ -9,7 +9,7 @@ ghost use Rattle.dm_effect.specs.Scoped.{IsScopedUnit};
 ghost use Rattle.dm_sound.specs.TypedTrees.{IsSoundTable};
 ghost use Rattle.dm_align.specs.Examples as examples;
 ghost use Rattle.dm_align.specs.Units.{AreAligned};
-ghost use Rattle.dm_refine.specs.Calls.{AreEvaluatedAtOnce, HasNoLengths, HasResult, IsCalledEvaluated};
+ghost use Rattle.dm_refine.specs.Calls.{AreEvaluatedAtOnce, AreOthersEvaluated, HasNoLengths, HasResult};
 ghost use Rattle.dm_refine.specs.Examples as calls;
 
 /// `int f(void) { return TWO; }` with `enum { TWO = (1+1) };` in place of `#define TWO (1+1)` refines the unit with the macro. That unit and
@@ -40,7 +40,7 @@ pub fn a_function_refines()
     ensures aligned { AreAligned no_type no_type calls.old calls.new (calls.run ∷ []) (Some calls.put) }
     ensures result { HasResult calls.new 1 }
     ensures lengths { HasNoLengths (calls.value_at 12) }
-    ensures evaluated { IsCalledEvaluated 1 calls.new }
+    ensures evaluated { AreOthersEvaluated 1 calls.put calls.new }
 {}
 
 /// `int f(int y) { return NEXT(y); }` with `static inline int NEXT(int x) { return ((x)+1); }` in place of `#define NEXT(x) ((x)+1)` refines the
@@ -52,6 +52,6 @@ pub fn a_function_with_a_parameter_refines()
     ensures aligned { AreAligned no_type no_type calls.next_old calls.next_new (calls.next_run ∷ []) (Some calls.next_put) }
     ensures result { HasResult calls.next_new 1 }
     ensures lengths { HasNoLengths calls.next_body }
-    ensures evaluated { IsCalledEvaluated 1 calls.next_new }
+    ensures evaluated { AreOthersEvaluated 1 calls.next_put calls.next_new }
     ensures at_once { AreEvaluatedAtOnce (calls.next_run ∷ []) (0 ∷ []) calls.next_body }
 {}

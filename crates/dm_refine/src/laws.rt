@@ -12,7 +12,7 @@ ghost use Rattle.dm_effect.specs.Scoped.{IsScopedUnit};
 ghost use Rattle.dm_sound.specs.TypedTrees.{IsSoundTable};
 ghost use Rattle.dm_agree.specs.Agreement.{added_constant, added_enumerator, added_function};
 ghost use Rattle.dm_align.specs.Units.{Insertion, AreAligned, added_by};
-ghost use Rattle.dm_refine.specs.Calls.{AreEvaluatedAtOnce, HasNoLengths, HasResult, IsCalledEvaluated};
+ghost use Rattle.dm_refine.specs.Calls.{AreEvaluatedAtOnce, AreOthersEvaluated, HasNoLengths, HasResult};
 ghost use Rattle.dm_refine.specs.Kinds.{IsNoFunction};
 
 use dm_rewrite::named_units_refine;
@@ -61,14 +61,14 @@ pub fn object_like_macros_refine()
 }
 
 /// Where a function is put in, which is called in place of the runs, the new program refines the old one. The function has a result, no type name
-/// in its expression has an array length or an enumerator's value, no operand of sizeof calls it, and where the macro has a run, each parameter is
-/// read once, and first. The expression may have effects, and calls in it, and so may the arguments; that each function means the same by the names
-/// in it follows from their scopes.
+/// in its expression has an array length or an enumerator's value, no operand of sizeof in the rest of the new unit calls it, and where the macro
+/// has a run, each parameter is read once, and first. The expression may have effects, and calls in it, and so may the arguments; that each function
+/// means the same by the names in it follows from their scopes.
 pub fn passing_units_refine()
     ensures { (old_types new_types : Table) (old new : TypedUnit) (runs : List Run) (put : Insertion) (f : ℕ) (parameters : List ℕ) (body : Tree)
         → IsWellTypedUnit old_types old → IsWellTypedUnit new_types new → IsScopedUnit new
         → AreAligned old_types new_types old new runs (Some put) → put.added ≡ added_function f parameters body
-        → HasResult new f → HasNoLengths body → IsCalledEvaluated f new → AreEvaluatedAtOnce runs parameters body
+        → HasResult new f → HasNoLengths body → AreOthersEvaluated f put new → AreEvaluatedAtOnce runs parameters body
         → Refines (machine_of (program_of new_types new)) (machine_of (program_of old_types old)) }
 {}
 
@@ -77,7 +77,7 @@ pub fn calling_units_refine()
     ensures { (old_types new_types : Table) (old new : TypedUnit) (runs : List Run) (put : Insertion) (f : ℕ) (body : Tree)
         → IsWellTypedUnit old_types old → IsWellTypedUnit new_types new → IsScopedUnit new
         → AreAligned old_types new_types old new runs (Some put) → put.added ≡ added_function f [] body
-        → HasResult new f → HasNoLengths body → IsCalledEvaluated f new
+        → HasResult new f → HasNoLengths body → AreOthersEvaluated f put new
         → Refines (machine_of (program_of new_types new)) (machine_of (program_of old_types old)) }
 {
     // The law of which it is a case.

@@ -12,7 +12,7 @@ ghost use Rattle.dm_rules.specs.Uses.{reads, runs_in};
 ghost use Rattle.dm_meanings.specs.Types.{unit_in};
 ghost use Rattle.dm_agree.specs.Agreement.{added_function};
 ghost use Rattle.dm_align.specs.Units.{Insertion, AreAligned, rewriting_of};
-ghost use Rattle.dm_refine.specs.Calls.{HasNoLengths, HasResult, IsEvaluated};
+ghost use Rattle.dm_refine.specs.Calls.{HasNoLengths, HasResult};
 ghost use Rattle.dm_standing.specs.Calls.{HasArguments, MayCall};
 ghost use Rattle.dm_once.specs.Once.{IsOnceFirst};
 ghost use Rattle.dm_alignment.specs.Readings.{AreAlignedReadings};
@@ -66,13 +66,12 @@ pub fn runs_keep_the_rules()
 {}
 
 /// Where the macro becomes a function without parameters, and no run stands where a constant is wanted or nothing is evaluated, the new program
-/// refines the old one. The function has a result, no type name in its expression has an array length or an enumerator's value, and no operand of
-/// sizeof in it calls the function itself.
+/// refines the old one. The function has a result, and no type name in its expression has an array length or an enumerator's value.
 pub fn aligned_calls_refine()
     ensures { (old new : Reading) (change : Change) (put : Insertion) (f : ℕ) (body : Tree) → IsLayered old → IsLayered new
         → AreAligned old.types new.types (unit_in old) (unit_in new) (runs_in change.definition old) (Some put) → put.added ≡ added_function f [] body
         → AllByRecursion (MayCall old.types (unit_in old)) (runs_in change.definition old)
-        → HasResult (unit_in new) f → HasNoLengths body → IsEvaluated f body → RefinesReading new old }
+        → HasResult (unit_in new) f → HasNoLengths body → RefinesReading new old }
 {
     readings_are_sound();
     places_are_told();
@@ -87,7 +86,7 @@ pub fn aligned_functions_refine()
         → AllByRecursion (λ (run : Run). MayCall old.types (unit_in old) run
         × HasArguments (rewriting_of old.types (unit_in old) (runs_in change.definition old) (Some put)) (unit_in old) (length parameters) run
         × IsOnceFirst (unit_in old) (length parameters) run) (runs_in change.definition old)
-        → HasResult (unit_in new) f → HasNoLengths body → IsEvaluated f body → RefinesReading new old }
+        → HasResult (unit_in new) f → HasNoLengths body → RefinesReading new old }
 {
     readings_are_sound();
     places_are_told();

@@ -29,9 +29,9 @@ use Rattle.dm_agree.specs.Standing.{extents, stands, runs_at, runs_below}
 use Rattle.dm_agree.specs.Agreement.{Added, added_function, Rewriting, Agrees, AllAgree, AgreesWhole, AllAgreeWhole}
 use Rattle.dm_align.specs.Units as aligned
 use Rattle.dm_align.specs.Units.{Insertion, IsPut, moved, other_externals, FormAdds, rewriting_of, AreAligned}
-use Rattle.dm_refine.specs.Calls.{any_names, NotInSizeof, IsEvaluated, AreEvaluated}
+use Rattle.dm_refine.specs.Calls.{any_names, NotInSizeof, IsEvaluated, AreEvaluated, AreOthersEvaluated}
 use Rattle.dm_told.specs.Told.{IsTold, ArePlacesTold}
-use Rattle.dm_standing.specs.Calls.{HasArguments, MayCall, AreOthersEvaluated}
+use Rattle.dm_standing.specs.Calls.{HasArguments, MayCall}
 use Rattle.dm_standing.proofs.ArityLemmas.{IsDefinedAs}
 use Rattle.dm_standing.proofs.CallLemmas.{AllTold, expression_called}
 use Rattle.dm_standing.proofs.TypedLemmas.{inside_declared, typed_body, all_without, all_there}

@@ -1,20 +1,13 @@
 -- Where runs stand, and what is called in their place.
 --     MayCall types unit run      a call may stand where the run stands: the rule 10 for a macro with a parameter list
 --     HasArguments it unit count run      each parameter has an argument somewhere in the run
---     AreOthersEvaluated f put new      no operand of sizeof names the function, in any declaration but the one that is put in
 use Rattle.std.specs.Prelude.{◌≡◌, ℕ, ◌<◌, true, List, [], ◌∷◌, Some, IsTrue}
-use Rattle.std.specs.List.{AllByRecursion}
 use Rattle.dm_runs.specs.declared.run.Run.{Run}
 use Rattle.dm_type.specs.Tables.{Table}
-use Rattle.dm_tree.specs.Units.{External, TypedUnit}
+use Rattle.dm_tree.specs.Units.{TypedUnit}
 use Rattle.dm_sites.specs.Sites.{Site, site_of}
 use Rattle.dm_agree.specs.Agreement.{Rewriting, Left, standing_for}
-use Rattle.dm_align.specs.Units.{Insertion, other_externals}
 use Rattle.dm_beside.specs.Places.{may_be_constant}
-use Rattle.dm_refine.specs.Calls.{IsEvaluated}
-use Rattle.dm_effect.specs.Entities.{trees_in_form}
-
--- ---- runs
 
 -- some tree stands there
 abbrev pub IsThere : List Left → Type 0
@@ -29,8 +22,3 @@ HasArguments it one count run =
 -- no run stands where a constant is wanted or nothing is evaluated (6.5.3.4p2, 6.6): a call may stand there
 abbrev pub MayCall : Table → TypedUnit → Run → Type 0
 MayCall types one run = IsTrue (may_be_constant types one true run)
-
--- ---- calls
-
-abbrev pub AreOthersEvaluated : ℕ → Insertion → TypedUnit → Type 0
-AreOthersEvaluated f put new = AllByRecursion (λ (external : External). AllByRecursion (IsEvaluated f) (trees_in_form external.form)) (other_externals (Some put) new.externals)

@@ -9,8 +9,9 @@ ghost use Rattle.dm_tree.specs.Typing.{IsWellTypedUnit};
 ghost use Rattle.dm_tree.specs.Units.{TypedUnit};
 ghost use Rattle.dm_agree.specs.Agreement.{added_function};
 ghost use Rattle.dm_align.specs.Units.{Insertion, AreAligned, rewriting_of};
+ghost use Rattle.dm_refine.specs.Calls.{AreOthersEvaluated};
 ghost use Rattle.dm_told.specs.Told.{ArePlacesTold};
-ghost use Rattle.dm_standing.specs.Calls.{AreOthersEvaluated, HasArguments, MayCall};
+ghost use Rattle.dm_standing.specs.Calls.{HasArguments, MayCall};
 
 /// Where a function is put in, no operand of sizeof in the rest of the new unit calls it, if no run breaks the rule 10 and each parameter has
 /// an argument in each run. The places of the old unit are to be told by their tokens.
