@@ -19,6 +19,7 @@ use Rattle.dm_unit.proofs.FileLemmas.{header-held}
 use Rattle.dm_unit.proofs.GrowLemmas.{known-grows, held-now, held-other}
 use Rattle.dm_unit.proofs.OutcomeLemmas.{one-outcome}
 use Rattle.dm_local.specs.Kept.{Keeps}
+use Rattle.dm_local.specs.Marks.{AreListed}
 use Rattle.dm_local.specs.Order.{AreAscending}
 use Rattle.dm_local.proofs.CatalogueLemmas.{called, IsThere, Grown, grown-trans, grown-numbered, longer, there-kept, own-numbered, number-kept, number-numbered, numbered-known, slots-numbered}
 use Rattle.dm_local.proofs.OrderLemmas.{between-ascend}
@@ -39,7 +40,7 @@ module _ (files : Files) (unit : Source) (old new : Loaded) (starts : StartsWith
   abbrev setting : Setting
   setting = setting_of old new files unit
 
-  first-fits : Fits setting.main begins [] [] [] 0 0
+  first-fits : Fits setting.main begins [] [] [] [] 0 0
   first-fits = record {
     main_named = (own-numbered (shown old) unit.file).0;
     slots = slots-numbered (shown old) unit.file (length-map old.held is_some ∙ slots);
@@ -49,11 +50,12 @@ module _ (files : Files) (unit : Source) (old new : Loaded) (starts : StartsWith
     bodies = tt;
     owned = λ file among. absurd (true≢false (sym among));
     ascending = omega arith;
+    listed = tt;
     little = omega arith;
   }
 
   -- a reading's files have the numbers of their names, and are held
-  final-fits : (final : State) → ReadsUnit setting unit.file unit.define (state_with begins) (Ok final) → Fits setting.main final.files final.table.read final.files_read final.expansions final.instance final.spent
+  final-fits : (final : State) → ReadsUnit setting unit.file unit.define (state_with begins) (Ok final) → Fits setting.main final.files final.table.read final.files_read final.tokens final.expansions final.instance final.spent
   final-fits final reads =
       (unit-stays setting setting.source setting.looked (called final.files) final.files final.files_read (λ name h. h) (λ name h. refl) (λ number h. refl) (λ file h. refl) unit.file unit.define (state_with begins) final first-fits reads).0
 
@@ -67,6 +69,10 @@ module _ (files : Files) (unit : Source) (old new : Loaded) (starts : StartsWith
   pub expansions-ascend : (pp : UnitTokens) → IsReadAs setting unit old (Ok pp) new → AreAscending 0 pp.expansions
   expansions-ascend pp is =
       subst (AreAscending 0) (sym (ap (λ (tokens : UnitTokens). tokens.expansions) is.2)) (between-ascend 0 is.0.expansions is.0.instance (final-fits is.0 is.1.1).ascending)
+
+  -- the expansions that its tokens came through are listed
+  pub marks-listed : (pp : UnitTokens) → IsReadAs setting unit old (Ok pp) new → AreListed pp.expansions pp.tokens
+  marks-listed pp is = subst (λ (tokens : UnitTokens). AreListed tokens.expansions tokens.tokens) (sym is.2) (final-fits is.0 is.1.1).listed
 
 -- A LOADER THAT KEEPS WHAT WAS KNOWN
 
@@ -90,7 +96,7 @@ module _ (before after : Files) (unit : Source) (old new known : Loaded) (starts
   bytes-stay : (file : ℕ) → is_among file final.files_read ≡ true → file_for known after (called (shown known) file) ≡ file_for old before (called (shown known) file)
   bytes-stay file h = keeps.bytes file (ap (λ (tokens : UnitTokens). is_among file tokens.files) is.2 ∙ h)
 
-  stays : Fits one.main final.files final.table.read final.files_read final.expansions final.instance final.spent × Grown begins_with [] final.files final.files_read
+  stays : Fits one.main final.files final.table.read final.files_read final.tokens final.expansions final.instance final.spent × Grown begins_with [] final.files final.files_read
       × (Grown final.files final.files_read (shown known) final.files_read → ReadsUnit (record one { source = file_for known after; looked = is_known known; named = name_of known }) unit.file unit.define (state_with (shown known)) (Ok (record final { files = shown known })))
   stays =
       unit-stays one (file_for known after) (is_known known) (name_of known) (shown known) final.files_read keeps.knows keeps.there (λ number h. refl) bytes-stay unit.file unit.define (state_with begins_with) final

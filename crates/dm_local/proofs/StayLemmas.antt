@@ -40,7 +40,9 @@ use Rattle.dm_unit.specs.Conditions.{Tested, tested, with_uses, no_condition, Ju
 use Rattle.dm_unit.specs.Readings.{is_among, with_text, after_expansion, after_text, within, pushed, opens, Opens, lost, DoesElifAt, DoesElif, else_in, endif_in, end_in, is_once, with_number, after_pragma, counted, Includes, DoesInclude, DoesRead, DoesDirective, ReadsPart, ReadsParts, begun, ReadsFile, is_passed, Enters, most_nested, DoesManifests, ReadsFound, ReadsMain, ReadsUnit}
 use Rattle.dm_unit.specs.Views.{AreIn}
 use Rattle.dm_local.proofs.CatalogueLemmas.{called, IsThere, Grown, grown-itself, grown-trans, grown-over, grown-again, longer, called-kept, number-kept, own-kept, there-kept, own-numbered, called-numbered, number-numbered, grown-numbered, numbered-known, slots-numbered, grown-found, found-now, slots-found, among-more, among-last, among-cases}
-use Rattle.dm_local.proofs.ExpansionLemmas.{DefinitionsIn, TokensIn, expansion-alike}
+use Rattle.dm_local.specs.Marks.{IsListed, AreListed}
+use Rattle.dm_local.proofs.ExpansionLemmas.{DefinitionsIn, TokensIn, all-append, expansion-alike}
+use Rattle.dm_local.proofs.MarkLemmas.{front-covers, back-covers, listed-later}
 use Rattle.dm_local.proofs.OrderLemmas.{AreBetween, between-later, between-append, Ordered, in_unit-ordered}
 use Rattle.dm_local.proofs.TokenLemmas.{IsPartAt, bodies-weaker, at-under, at-drop, define_line-at, defines-in, replaced-in, reading-at, parts-at}
 
@@ -49,14 +51,15 @@ abbrev pub IsUnder : ℕ → Place → Type 0
 IsUnder count place = place.file < count
 
 -- What holds of each state of a reading: the main file and the built-in headers have numbers, so have files in which macros' tokens stand, and
--- a file that was read has that of its name; expansions ascend, and the work keeps its limit.
-pub record Fits (main : ℕ) (files : Catalogue) (macros : List Definition) (read : List ℕ) (expansions : List Expansion) (instance spent : ℕ) : Type 0 where
+-- a file that was read has that of its name; expansions ascend, those that tokens came through are listed, and the work keeps its limit.
+pub record Fits (main : ℕ) (files : Catalogue) (macros : List Definition) (read : List ℕ) (tokens : List Token) (expansions : List Expansion) (instance spent : ℕ) : Type 0 where
   pub main_named : main < length files.names
   pub slots : length files.found ≡ length files.names
   pub headers : (name : List ℕ) (file : ℕ) → header_number name ≡ Some file → IsThere files file
   pub bodies : DefinitionsIn (IsUnder (length files.names)) macros
   pub owned : (file : ℕ) → is_among file read ≡ true → IsThere files file
   pub ascending : AreBetween 0 expansions instance
+  pub listed : AreListed expansions tokens
   pub little : spent ≤ most_work
 
 -- a step that ends in a state
@@ -190,7 +193,7 @@ module _ (one : Setting) (source : List ℕ → Option (List ℕ)) (looked : Lis
   over state = record state { files = all }
 
   abbrev pub FitsIn : State → Type 0
-  FitsIn state = Fits one.main state.files state.table.read state.files_read state.expansions state.instance state.spent
+  FitsIn state = Fits one.main state.files state.table.read state.files_read state.tokens state.expansions state.instance state.spent
 
   abbrev pub Grows : State → State → Type 0
   Grows before after = Grown before.files before.files_read after.files after.files_read
@@ -256,6 +259,9 @@ module _ (one : Setting) (source : List ℕ → Option (List ℕ)) (looked : Lis
         bodies = fits.bodies;
         owned = fits.owned;
         ascending = between-append 0 s.expansions answer.expansions s.instance fits.ascending (ordered answer refl).numbered;
+        listed = all-append (λ (one : Token). AllByRecursion (IsListed (s.expansions ++ answer.expansions)) one.trail) s.tokens answer.tokens
+            (listed-later s.expansions (s.expansions ++ answer.expansions) (front-covers s.expansions answer.expansions) s.tokens fits.listed)
+            (listed-later answer.expansions (s.expansions ++ answer.expansions) (back-covers s.expansions answer.expansions) answer.tokens (ordered answer refl).listed);
         little = (ordered answer refl).spent;
       }
 
@@ -291,6 +297,7 @@ module _ (one : Setting) (source : List ℕ → Option (List ℕ)) (looked : Lis
         bodies = fits.bodies;
         owned = fits.owned;
         ascending = between-later 0 s.expansions s.instance (s.instance + length answer.expansions) (omega arith) fits.ascending;
+        listed = fits.listed;
         little = (ordered answer refl).spent;
       }
 
@@ -391,7 +398,7 @@ module _ (one : Setting) (source : List ℕ → Option (List ℕ)) (looked : Lis
           let below = ltb-true s.spent most_work room in
           subst (λ t. Stays s t (((table : Table) × Defines s.table line origin plain table × (Comes (over t) (Ok (with_definition table (over s))))) ⊎ ((stop : Stop) × CannotDefine s.table line origin plain stop × (Comes (over t) (Err stop)))))
           (sym (ok-is t (with_definition x.0 s) x.2)) (
-            record { main_named = fits.main_named; slots = fits.slots; headers = fits.headers; bodies = defines-in (IsUnder (length s.files.names)) s.table x.0 line origin plain fits.bodies under x.1; owned = fits.owned; ascending = fits.ascending; little = omega (arith, below) },
+            record { main_named = fits.main_named; slots = fits.slots; headers = fits.headers; bodies = defines-in (IsUnder (length s.files.names)) s.table x.0 line origin plain fits.bodies under x.1; owned = fits.owned; ascending = fits.ascending; listed = fits.listed; little = omega (arith, below) },
             grown-itself s.files s.files_read,
             λ ends. inl (x.0, x.1, refl),
           )
@@ -447,7 +454,7 @@ module _ (one : Setting) (source : List ℕ → Option (List ℕ)) (looked : Lis
   -- INCLUSION
 
   -- the same state over files that were found
-  fits-found : (s : State) (files : Catalogue) → FitsIn s → Grown s.files [] files [] → length files.found ≡ length files.names → Fits one.main files s.table.read s.files_read s.expansions s.instance s.spent
+  fits-found : (s : State) (files : Catalogue) → FitsIn s → Grown s.files [] files [] → length files.found ≡ length files.names → Fits one.main files s.table.read s.files_read s.tokens s.expansions s.instance s.spent
   fits-found s files fits grown slots =
       let more = longer s.files files [] [] grown in
       record {
@@ -457,6 +464,7 @@ module _ (one : Setting) (source : List ℕ → Option (List ℕ)) (looked : Lis
         bodies = bodies-weaker (IsUnder (length s.files.names)) (IsUnder (length files.names)) (λ place under. omega (arith, under, more)) s.table.read fits.bodies;
         owned = λ file read. there-kept s.files files [] [] file grown (fits.owned file read);
         ascending = fits.ascending;
+        listed = fits.listed;
         little = fits.little;
       }
 
@@ -577,7 +585,7 @@ module _ (one : Setting) (source : List ℕ → Option (List ℕ)) (looked : Lis
       (λ m. part-stays E E' enters file part s m fits read are.0) (λ m fits' grows. parts-stay E E' enters file parts m t fits' (grows.reads file read) are.1)
 
   fits-begun : (s : State) (file : ℕ) → FitsIn s → IsThere s.files file → FitsIn (begun file s)
-  fits-begun s file fits own = record { main_named = fits.main_named; slots = fits.slots; headers = fits.headers; bodies = fits.bodies; owned = λ number read. by number (among-cases number file s.files_read read); ascending = fits.ascending; little = fits.little }
+  fits-begun s file fits own = record { main_named = fits.main_named; slots = fits.slots; headers = fits.headers; bodies = fits.bodies; owned = λ number read. by number (among-cases number file s.files_read read); ascending = fits.ascending; listed = fits.listed; little = fits.little }
     where
       by : (number : ℕ) → (is_among number s.files_read ≡ true) ⊎ (number ≡ file) → IsThere s.files number
       by number (inl read) = fits.owned number read

@@ -1,3 +1,4 @@
 pub mod Examples
 pub mod Kept
+pub mod Marks
 pub mod Order

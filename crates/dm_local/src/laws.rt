@@ -11,6 +11,7 @@ ghost use Rattle.dm_unit.specs.Units.{setting_of};
 ghost use Rattle.dm_reading.specs.declared.reading.Reading.{Reading};
 ghost use Rattle.dm_read.specs.Reading.{IsReading, AreOneReading};
 ghost use Rattle.dm_local.specs.Kept.{IsOfLoader, IsReadBy, Keeps};
+ghost use Rattle.dm_local.specs.Marks.{AreListed};
 ghost use Rattle.dm_local.specs.Order.{AreAscending};
 
 use dm_read::one_reading_of_unit;
@@ -61,4 +62,10 @@ pub fn readings_learn_nothing()
 pub fn expansions_ascend()
     ensures { (files : Files) (unit : Source) (old new : Loaded) (reading : Reading) →
         IsReading (setting_of old new files unit) unit old (Ok reading) new → IsOfLoader old → AreAscending 0 reading.pp.expansions }
+{}
+
+/// Each expansion that a token of a unit came through is listed.
+pub fn marks_are_listed()
+    ensures { (files : Files) (unit : Source) (old new : Loaded) (reading : Reading) →
+        IsReading (setting_of old new files unit) unit old (Ok reading) new → IsOfLoader old → AreListed reading.pp.expansions reading.pp.tokens }
 {}

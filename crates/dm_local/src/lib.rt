@@ -6,6 +6,6 @@ mod laws;
 
 pub use examples::reading_of_empty_file;
 pub use laws::{
-    expansions_ascend, readings_hang_on_the_loader, readings_learn_nothing, readings_stay,
-    readings_stay_known, readings_stay_where_not_edited,
+    expansions_ascend, marks_are_listed, readings_hang_on_the_loader, readings_learn_nothing,
+    readings_stay, readings_stay_known, readings_stay_where_not_edited,
 };

@@ -1,1 +1,2 @@
 mod RuleLemmas
+mod RunLemmas

@@ -1,8 +1,14 @@
 //! What follows from alignment and from verdicts.
 
-ghost use Rattle.std.specs.Prelude.{◌≡◌, ℕ, true, false, List, [], Some, None, length};
+ghost use Rattle.std.specs.Prelude.{◌≡◌, ℕ, true, false, List, [], Some, None, Ok, length};
 ghost use Rattle.std.specs.List.{AllByRecursion};
 ghost use Rattle.dm_token.specs.declared.expansion.Definition.{Definition};
+ghost use Rattle.dm_token.specs.declared.unit.Unit.{Unit as Source};
+ghost use Rattle.dm_io.specs.Files.{Files};
+ghost use Rattle.dm_search.specs.Loaded.{Loaded};
+ghost use Rattle.dm_unit.specs.Units.{setting_of};
+ghost use Rattle.dm_read.specs.Reading.{IsReading};
+ghost use Rattle.dm_local.specs.Kept.{IsOfLoader};
 ghost use Rattle.dm_runs.specs.declared.run.Run.{Run};
 ghost use Rattle.dm_tree.specs.Trees.{Tree};
 ghost use Rattle.dm_edit.specs.declared.change.Change.{Change};
@@ -21,6 +27,7 @@ ghost use Rattle.dm_judge.specs.Rules.{broken_first};
 ghost use Rattle.dm_verdict.specs.Verdicts.{IsVerdict, rules_in};
 ghost use Rattle.dm_refined.specs.Programs.{AreOfExpansions, KeepsRunRules, NeedsNoCall, RefinesReading};
 
+use dm_local::marks_are_listed;
 use dm_once::parameters_are_read_once_first;
 use dm_refine::{
     calling_units_refine, object_like_macros_refine, passing_units_refine, unread_units_refine,
@@ -58,12 +65,23 @@ pub fn allowed_edits_refine()
     aligned_readings_refine();
 }
 
-/// Where a unit that reads a definition breaks none of the rules that it alone can break, each run keeps the rules that ask where runs stand. Each
-/// run is of one of the expansions that the rules look at.
+/// Each run of a unit that is read is of one of the expansions that the rules look at.
+pub fn runs_are_of_expansions()
+    ensures { (definition : Definition) (files : Files) (unit : Source) (old new : Loaded) (reading : Reading) →
+        IsReading (setting_of old new files unit) unit old (Ok reading) new → IsOfLoader old → AreOfExpansions definition reading }
+{
+    marks_are_listed();
+}
+
+/// So where a unit that reads a definition breaks none of the rules that it alone can break, each run keeps the rules that ask where runs stand.
 pub fn runs_keep_the_rules()
-    ensures { (definition : Definition) (reading : Reading) → broken_first (rules_in definition reading) ≡ None → reads definition reading ≡ true
-        → AreOfExpansions definition reading → AllByRecursion (KeepsRunRules definition reading) (runs_in definition reading) }
-{}
+    ensures { (definition : Definition) (files : Files) (unit : Source) (old new : Loaded) (reading : Reading) →
+        IsReading (setting_of old new files unit) unit old (Ok reading) new → IsOfLoader old →
+        broken_first (rules_in definition reading) ≡ None → reads definition reading ≡ true →
+        AllByRecursion (KeepsRunRules definition reading) (runs_in definition reading) }
+{
+    runs_are_of_expansions();
+}
 
 /// Where the macro becomes a function without parameters, and no run stands where a constant is wanted or nothing is evaluated, the new program
 /// refines the old one. The function has a result, and no type name in its expression has an array length or an enumerator's value.
