@@ -1,6 +1,6 @@
 //! What follows from alignment and from verdicts.
 
-ghost use Rattle.std.specs.Prelude.{◌≡◌, ℕ, true, false, List, [], Some, None, Ok, length};
+ghost use Rattle.std.specs.Prelude.{◌≡◌, ℕ, true, false, List, [], Some, None, Ok, is_some, length};
 ghost use Rattle.std.specs.List.{AllByRecursion};
 ghost use Rattle.dm_token.specs.declared.expansion.Definition.{Definition};
 ghost use Rattle.dm_token.specs.declared.unit.Unit.{Unit as Source};
@@ -111,4 +111,17 @@ pub fn aligned_functions_refine()
     calls_are_evaluated();
     parameters_are_read_once_first();
     passing_units_refine();
+}
+
+/// Where a unit that reads a definition breaks none of the rules that it alone can break, and the macro has a parameter list and becomes a function
+/// without parameters, the new program refines the old one: what `aligned_calls_refine` asks of runs the rules give.
+pub fn unbroken_calls_refine()
+    ensures { (files : Files) (unit : Source) (before after : Loaded) (old new : Reading) (change : Change) (put : Insertion) (f : ℕ) (body : Tree) →
+        IsReading (setting_of before after files unit) unit before (Ok old) after → IsOfLoader before → IsLayered old → IsLayered new
+        → broken_first (rules_in change.definition old) ≡ None → reads change.definition old ≡ true → is_some change.definition.parameters ≡ true
+        → AreAligned old.types new.types (unit_in old) (unit_in new) (runs_in change.definition old) (Some put) → put.added ≡ added_function f [] body
+        → HasResult (unit_in new) f → HasNoLengths body → RefinesReading new old }
+{
+    runs_keep_the_rules();
+    aligned_calls_refine();
 }

@@ -7,4 +7,5 @@ mod laws;
 pub use laws::{
     aligned_calls_refine, aligned_functions_refine, aligned_readings_refine, allowed_edits_refine,
     readings_without_the_definition_refine, runs_are_of_expansions, runs_keep_the_rules,
+    unbroken_calls_refine,
 };
