@@ -1,5 +1,5 @@
 #!/bin/sh
-# Shows what the tool makes of the macros of an example project, in two minutes or so: builds the tool without proving it, plans the
+# Shows what the tool makes of the macros of an example project, in two or three minutes: builds the tool without proving it, plans the
 # project, and shows the report. Ends with the status of the build, or else of the plan.
 top=$(cd "$(dirname "$0")/.." && pwd) || exit 2
 work=$(mktemp -d) || exit 2
