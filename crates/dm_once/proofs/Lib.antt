@@ -1,4 +1,4 @@
-mod OccurrenceLemmas
-mod OnceLemmas
-mod UnitLemmas
-mod VisitLemmas
+pub mod OccurrenceLemmas
+pub mod OnceLemmas
+pub mod UnitLemmas
+pub mod VisitLemmas

@@ -43,7 +43,7 @@ cancelled : {A : Type 0} (front one other : List A) → front ++ one ≡ front +
 cancelled [] one other e = e
 cancelled (x ∷ front) one other e = cancelled front one other (cc)
 
-behind_front : {A : Type 0} (front rest : List A) → drop (length front) (front ++ rest) ≡ rest
+pub behind_front : {A : Type 0} (front rest : List A) → drop (length front) (front ++ rest) ≡ rest
 behind_front [] [] = refl
 behind_front [] (x ∷ rest) = refl
 behind_front (y ∷ front) rest = behind_front front rest
@@ -53,7 +53,7 @@ same_head a b xs ys e = cc
 
 -- ---- which operands may be evaluated
 
-abbrev OpenAt : Open → ℕ → Type 0
+abbrev pub OpenAt : Open → ℕ → Type 0
 OpenAt opens zero = IsTrue (first_open opens)
 OpenAt opens (suc k) = OpenAt (others_open opens) k
 
@@ -65,7 +65,7 @@ first_alone : (k : ℕ) → (k == 0) ≡ true → OpenAt only_first k
 first_alone zero e = refl
 first_alone (suc k) e = let same = equal_nat (suc k) 0 e in absurd (omega (arith, same))
 
-comes_open : (label : Label) (k : ℕ) → comes_first label k ≡ true → (label ≡ call → k ≡ 0 → ⊥) → OpenAt (open_of label) k
+pub comes_open : (label : Label) (k : ℕ) → comes_first label k ≡ true → (label ≡ call → k ≡ 0 → ⊥) → OpenAt (open_of label) k
 comes_open both k e unless = first_alone k e
 comes_open either k e unless = first_alone k e
 comes_open choose k e unless = first_alone k e
@@ -77,16 +77,16 @@ comes_open call zero e unless = absurd (unless refl refl)
 comes_open call (suc k) e unless = every_open k
 comes_open label k e unless = every_open k
 
-same_open : (rename : ℕ → ℕ) (label : Label) → open_of (relabelled rename label) ≡ open_of label
+pub same_open : (rename : ℕ → ℕ) (label : Label) → open_of (relabelled rename label) ≡ open_of label
 same_open rename both = refl
 same_open rename label = refl
 
 -- ---- reads of parameters
 
-abbrev IsNamed : ℕ → CType → Trees → Type 0
+abbrev pub IsNamed : ℕ → CType → Trees → Type 0
 IsNamed d kind parts = (named_kind : CType) × (named_spans : Spans) × (parts ≡ more_trees (node (object d) named_kind named_spans no_trees) no_trees)
 
-read_parts : (scene : Scene) (kind : CType) (parts : Trees) (d : ℕ) → FitsExpression scene read kind (listed parts) → AreWellTyped (inside scene read (listed parts)) parts
+pub read_parts : (scene : Scene) (kind : CType) (parts : Trees) (d : ℕ) → FitsExpression scene read kind (listed parts) → AreWellTyped (inside scene read (listed parts)) parts
     → object_first parts ≡ Some d → IsNamed d kind parts
 read_parts scene kind (more_trees (node (object e) named_kind named_spans no_trees) no_trees) d fits typed first =
     (named_kind, named_spans, ap (λ (n : ℕ). more_trees (node (object n) named_kind named_spans no_trees) no_trees) (some_is_some e d first))

@@ -35,12 +35,12 @@ use Rattle.dm_once.proofs.VisitLemmas.{IsMet, unit_met}
 
 -- ---- lists
 
-record IsNumbered (p : ℕ) (list : List ℕ) : Type 0 where
-  number : ℕ
-  few : number < length list
-  there : slice_get list number ≡ Some p
+pub record IsNumbered (p : ℕ) (list : List ℕ) : Type 0 where
+  pub number : ℕ
+  pub few : number < length list
+  pub there : slice_get list number ≡ Some p
 
-numbered : (p : ℕ) (list : List ℕ) → IsAmong p list → IsNumbered p list
+pub numbered : (p : ℕ) (list : List ℕ) → IsAmong p list → IsNumbered p list
 numbered p [] h = absurd h
 numbered p (d ∷ list) h =
     ⊎_elim (λ same. record { number = 0; few = omega arith; there = ap Some (sym same) })
@@ -62,7 +62,7 @@ any_there d [] n e = absurd (none_is_some d e)
 any_there d (c ∷ list) zero e = or_left (c == d) (list_any (λ (x : ℕ). x == d) list) (equal_is c d (some_is_some c d e))
 any_there d (c ∷ list) (suc n) e = or_right (c == d) (list_any (λ (x : ℕ). x == d) list) (any_there d list n e)
 
-one_number : (list : List ℕ) → are_different list ≡ true → (m n p : ℕ) → slice_get list m ≡ Some p → slice_get list n ≡ Some p → m ≡ n
+pub one_number : (list : List ℕ) → are_different list ≡ true → (m n p : ℕ) → slice_get list m ≡ Some p → slice_get list n ≡ Some p → m ≡ n
 one_number [] h m n p e g = absurd (none_is_some p e)
 one_number (d ∷ list) h zero zero p e g = refl
 one_number (d ∷ list) h zero (suc n) p e g =
@@ -76,29 +76,29 @@ one_number (d ∷ list) h (suc m) zero p e g =
 one_number (d ∷ list) h (suc m) (suc n) p e g =
     ap suc (one_number list (and_parts (not (list_any (λ (c : ℕ). c == d) list)) (are_different list) h).1 m n p e g)
 
-number_has : (P : ℕ → Type 0) (list : List ℕ) → AllByRecursion P list → (n p : ℕ) → slice_get list n ≡ Some p → P p
+pub number_has : (P : ℕ → Type 0) (list : List ℕ) → AllByRecursion P list → (n p : ℕ) → slice_get list n ≡ Some p → P p
 number_has P [] h n p e = absurd (none_is_some p e)
 number_has P (d ∷ list) h zero p e = subst P (some_is_some d p e) h.0
 number_has P (d ∷ list) h (suc n) p e = number_has P list h.1 n p e
 
 -- ---- the rule
 
-record IsOnlyFirst (first : Span → Bool) (spans : List Span) : Type 0 where
-  only : Span
-  alone : spans ≡ only ∷ []
-  is : first only ≡ true
+pub record IsOnlyFirst (first : Span → Bool) (spans : List Span) : Type 0 where
+  pub only : Span
+  pub alone : spans ≡ only ∷ []
+  pub is : first only ≡ true
 
-only_first : (first : Span → Bool) (spans : List Span) → is_once_first first spans ≡ true → IsOnlyFirst first spans
+pub only_first : (first : Span → Bool) (spans : List Span) → is_once_first first spans ≡ true → IsOnlyFirst first spans
 only_first first [] e = absurd (false≢true e)
 only_first first (only ∷ []) e = record { only = only; alone = refl; is = e }
 only_first first (only ∷ another ∷ rest) e = absurd (false≢true e)
 
-record IsArgument (one : TypedUnit) (site : Site) (only : Span) : Type 0 where
-  argument : Site
-  found : site_of one only ≡ Some argument
-  first : is_first_in site argument ≡ true
+pub record IsArgument (one : TypedUnit) (site : Site) (only : Span) : Type 0 where
+  pub argument : Site
+  pub found : site_of one only ≡ Some argument
+  pub first : is_first_in site argument ≡ true
 
-argument_of : (one : TypedUnit) (site : Site) (only : Span) → passes (is_first_in site) (site_of one only) ≡ true → IsArgument one site only
+pub argument_of : (one : TypedUnit) (site : Site) (only : Span) → passes (is_first_in site) (site_of one only) ≡ true → IsArgument one site only
 argument_of one site only e = by_found (site_of one only) refl e
   where
     by_found : (o : Option Site) → site_of one only ≡ o → passes (is_first_in site) o ≡ true → IsArgument one site only
@@ -107,9 +107,9 @@ argument_of one site only e = by_found (site_of one only) refl e
 
 -- ---- what is put in
 
-record HasTyped (body : Tree) : Type 0 where
-  scene : Scene
-  typed : IsWellTyped scene body
+pub record HasTyped (body : Tree) : Type 0 where
+  pub scene : Scene
+  pub typed : IsWellTyped scene body
 
 item_typed : (scene : Scene) (result : CType) (body : Tree) (items : Trees) → IsBodyOf result body (listed items) → AreWellTyped scene items → HasTyped body
 item_typed scene result body (more_trees (node return kind spans (more_trees value no_trees)) no_trees) h typed =
@@ -121,17 +121,17 @@ item_typed scene result body items h typed = absurd h
 whole_typed : (scene : Scene) (result : CType) (body whole : Tree) → IsBodyOf result body (parts_of whole) → IsWellTyped scene whole → HasTyped body
 whole_typed scene result body (node label kind spans parts) h typed = item_typed (inside scene label (listed parts)) result body parts h typed.1
 
-record IsPutFunction (put : Insertion) (parameters : List ℕ) (body : Tree) : Type 0 where
-  own : AllByRecursion (IsPut put) parameters
-  different : are_different parameters ≡ true
-  typed : HasTyped body
+pub record IsPutFunction (put : Insertion) (parameters : List ℕ) (body : Tree) : Type 0 where
+  pub own : AllByRecursion (IsPut put) parameters
+  pub different : are_different parameters ≡ true
+  pub typed : HasTyped body
 
 some_body : (found : Option Declaration) (Name Sort Linkage : Declaration → Type 0) (result_in : Declaration → CType) (body : Tree) (parts : List Tree)
     → IsSomeAnd found (λ (entry : Declaration). Name entry × (Sort entry × Linkage entry × IsBodyOf (result_in entry) body parts)) → (result : CType) × IsBodyOf result body parts
 some_body None Name Sort Linkage result_in body parts h = absurd h
 some_body (Some entry) Name Sort Linkage result_in body parts h = (result_in entry, h.1.2)
 
-form_puts : (types : Table) (new : TypedUnit) (put : Insertion) (f : ℕ) (parameters : List ℕ) (body : Tree) (form : ExternalForm) → FormFits (file_scene types new.declared) form
+pub form_puts : (types : Table) (new : TypedUnit) (put : Insertion) (f : ℕ) (parameters : List ℕ) (body : Tree) (form : ExternalForm) → FormFits (file_scene types new.declared) form
     → FormAdds types new put (added_function f parameters body) form → IsPutFunction put parameters body
 form_puts types new put f parameters body (declares declarators trees) fits h = absurd h
 form_puts types new put f parameters body (defines_function g others whole) fits h =
@@ -139,7 +139,7 @@ form_puts types new put f parameters body (defines_function g others whole) fits
     let is = some_body (slice_get new.declared f) _ _ _ _ body (parts_of whole) h.3.1 in
     record { own = h.2.0; different = h.2.1; typed = whole_typed (body_scene (file_scene types new.declared) it.result) is.0 body whole is.1 it.typed }
 
-moved_apart : (put : Insertion) (d : ℕ) → IsPut put (moved (Some put) d) → ⊥
+pub moved_apart : (put : Insertion) (d : ℕ) → IsPut put (moved (Some put) d) → ⊥
 moved_apart put d h = grind (arith, nat_tests, h)
 
 -- ---- units

@@ -62,6 +62,7 @@ module _ (one : TypedUnit) (it : Rewriting) (Keeps : Run → Type 0) (R : Type 0
     pub told : AllTold one (sites_in one.declared other site)
     pub own : IsTold one site
     pub keeps : StandsAt Keeps site.apart site.tree run
+    pub inner_stand : Standing site inner
     pub at : AtRun it it.added run inner label kind parts other (Passes it parts run inner other)
 
   module _ (visit : (run : Run) (inner : List Run) (label : Label) (kind : CType) (parts : Trees) (other : Tree) → IsMet run inner label kind parts other → R) where
@@ -76,7 +77,7 @@ module _ (one : TypedUnit) (it : Rewriting) (Keeps : Run → Type 0) (R : Type 0
           let plain = and_parts (not (is_statement other)) (are_expressions others) expression in
           let places = own_and_parts one other other_kind other_spans others site (not_true (is_statement other) plain.0) told in
           inl (visit run inner label kind parts (node other other_kind other_spans others)
-          (record { site = site; same = same; expression = expression; told = told; own = places.0; keeps = stand.0; at = h }))
+          (record { site = site; same = same; expression = expression; told = told; own = places.0; keeps = stand.0; inner_stand = stand.1; at = h }))
 
       parts_met : (label : Label) (spans : Spans) (above : Site) (from : ℕ) (trees others : Trees) → are_expressions others ≡ true
           → AllTold one (sites_below one.declared others (operand_sites above label spans from (listed others))) → AllAgree it label spans trees others → R ⊎ AllAgree (unmet it) label spans trees others

@@ -1,5 +1,6 @@
 pub mod ArityLemmas
 pub mod CallLemmas
+pub mod OccurrenceLemmas
 pub mod RunLemmas
 pub mod TypedLemmas
 pub mod UnitLemmas

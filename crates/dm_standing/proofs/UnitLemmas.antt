@@ -257,7 +257,7 @@ module _ (types : Table) (new : TypedUnit) (put : Insertion) (f : ℕ) (paramete
   some_entry P None h = absurd h
   some_entry P (Some entry) h = tt
 
-  defined_by : (form : ExternalForm) → FormFits scene form → FormAdds types new put (added_function f parameters body) form → IsPut put f × IsDefinedAs new.declared f parameters
+  pub defined_by : (form : ExternalForm) → FormFits scene form → FormAdds types new put (added_function f parameters body) form → IsPut put f × IsDefinedAs new.declared f parameters
   defined_by (declares declarators trees) fits h = absurd h
   defined_by (defines_function g others whole) fits h =
       let fits_it = subst (FormFits scene) (ap (λ n. defines_function n others whole) (sym h.0) ∙ ap (λ ps. defines_function f ps whole) (sym h.1)) fits in

@@ -6,4 +6,4 @@ mod examples;
 mod laws;
 
 pub use examples::a_run_may_be_a_call;
-pub use laws::calls_are_evaluated;
+pub use laws::{arguments_stand, calls_are_evaluated, occurrences_stand};

@@ -1,7 +1,7 @@
 -- Where the places in an expression stand, by its parts.
 --     IsKnownExpression site      of an expression and the places below it: they are told by their tokens, and those below it are shorter than it is
 --     expression_known      so it is of each expression that is laid out
-use Rattle.std.specs.Prelude.{◌≡◌, refl, ℕ, suc, ◌+◌, ◌<◌, ◌≤◌, Bool, true, false, not, ◌&&◌, ◌||◌, ◌==◌, List, [], ◌∷◌, ◌++◌, map, Some, None, if◌then◌else◌}
+use Rattle.std.specs.Prelude.{◌≡◌, refl, ℕ, suc, ◌+◌, ◌<◌, ◌≤◌, Bool, true, false, not, ◌&&◌, ◌||◌, ◌==◌, List, [], ◌∷◌, ◌++◌, find, map, Some, None, if◌then◌else◌}
 use Rattle.std.specs.List.{AllByRecursion}
 use Rattle.std.proofs.Common.{ap, sym, ◌∙◌, subst, arith, ⊎_elim}
 use Rattle.std.proofs.lemmas.Bool.{true≢false, false≢true, and_parts}
@@ -15,9 +15,10 @@ use Rattle.dm_sites.specs.Standing.{is_value, is_implied_conversion, is_apart}
 use Rattle.dm_sites.specs.Standing as sites
 use Rattle.dm_sites.proofs.PlaceLemmas.{Divides, operand-trees, expression-sites}
 use Rattle.dm_scoped.specs.Spans.{IsShorter, is_conversion, MayShare, EndBefore, IsBehind, AreInside, in_source_order, EachInside, IsLaidOut, AreLaidOut}
-use Rattle.dm_told.proofs.FindLemmas.{all_append, all_of, all_weaker}
-use Rattle.dm_told.proofs.OnlyLemmas.{Only, only_none, only_append, IsDistinct, AreDistinct, Each, each_weaker, each_append, distinct, IsIn, Region, in_other_order, IsAround, site_is, extent_has}
-use Rattle.dm_told.proofs.RowLemmas.{tree_of, InOrder, AllShort, HasTokens, order_bound, order_before, inside_order, IsAroundSite, IsKnown, tokens_of, row_arounds, row_known, row_short}
+use Rattle.dm_told.specs.Told.{Meet}
+use Rattle.dm_told.proofs.FindLemmas.{all_append, all_of, all_weaker, found_has}
+use Rattle.dm_told.proofs.OnlyLemmas.{Told, told_none, told_append, told_own, IsShortOf, IsDistinct, AreDistinct, Each, each_weaker, each_append, distinct, separate, IsIn, Region, in_other_order, IsAround, HasAll, site_is, extent_has}
+use Rattle.dm_told.proofs.RowLemmas.{tree_of, InOrder, AllShort, HasTokens, order_bound, order_before, inside_order, IsSettled, IsSeated, MeetsParts, IsKnown, tokens_of, row_arounds, row_known, row_short}
 
 -- ---- labels
 
@@ -90,13 +91,6 @@ each_both : (P Q : Span → Type 0) (list : List Site) → Each P list → Each 
 each_both P Q [] h k = tt
 each_both P Q (site ∷ list) h k = ((λ span is. (h.0 span is, k.0 span is)), each_both P Q list h.1 k.1)
 
-only_one : (site : Site) → Only (site ∷ [])
-only_one site span found e = ((λ is. by_test (is_site_of span site) is e), tt)
-  where
-    by_test : (b : Bool) → b ≡ true → (if b then Some site else None) ≡ Some found → found ≡ site
-    by_test true is k = cc
-    by_test false is k = absurd (false≢true is)
-
 distinct_none : (front : List Site) → AreDistinct front []
 distinct_none front = all_of (λ (f : Site). AllByRecursion (IsDistinct f) []) (λ f. tt) front
 
@@ -112,7 +106,7 @@ module _ (declared : List Declaration) where
   IsInner spans span = (spans.inner.first ≤ span.first) × (span.first < span.after) × (span.after ≤ spans.inner.after) × IsShorter span spans.inner
 
   abbrev pub EndsAt : ℕ → Span → Type 0
-  EndsAt at span = span.after ≤ at
+  EndsAt at span = (span.first < span.after) × (span.after ≤ at)
 
   pub record IsKnownExpression (site : Site) : Type 0 where
     pub around : IsAround (spans_of site.tree)
@@ -123,7 +117,7 @@ module _ (declared : List Declaration) where
 
   -- what is below a node
   record IsBelow (site : Site) : Type 0 where
-    only : Only (below site)
+    told : Told declared (below site)
     region : Region (spans_of site.tree).outer.first (spans_of site.tree).outer.after (below site)
     shorter : is_implied_conversion site.tree ≡ false → Each (IsInner (spans_of site.tree)) (below site)
     ends : is_conversion (label_of site.tree) ≡ false → (next : Tree) → EndBefore (parts_of site.tree) next → Each (EndsAt (spans_of next).outer.first) (below site)
@@ -131,32 +125,68 @@ module _ (declared : List Declaration) where
   -- ---- a node above them
 
   -- the node has all its own tokens, and what is below it hasn't
-  own_distinct : (site : Site) → IsAround (spans_of site.tree) → (is_implied_conversion site.tree ≡ false → Each (IsInner (spans_of site.tree)) (below site)) → AreDistinct (site ∷ []) (below site)
-  own_distinct site around shorter = (by_implied (is_implied_conversion site.tree) refl, tt)
+  own_short : (site : Site) → IsAround (spans_of site.tree) → (is_implied_conversion site.tree ≡ false → Each (IsInner (spans_of site.tree)) (below site)) → AllByRecursion (IsShortOf declared site) (below site)
+  own_short site around shorter = by_implied (is_implied_conversion site.tree) refl
     where
-      by_implied : (b : Bool) → is_implied_conversion site.tree ≡ b → AllByRecursion (IsDistinct site) (below site)
+      by_implied : (b : Bool) → is_implied_conversion site.tree ≡ b → AllByRecursion (IsShortOf declared site) (below site)
       by_implied true is =
-          all_of (IsDistinct site) (λ other span own it.
+          all_of (IsShortOf declared site) (λ other span another own it.
           let value = and_parts (not (is_statement (label_of site.tree))) (not (is_implied_conversion site.tree)) (site_is span site own).1 in
-          false≢true (sym (ap not is) ∙ value.1)) (below site)
+          absurd (false≢true (sym (ap not is) ∙ value.1))) (below site)
       by_implied false is =
-          all_weaker (λ (s : Site). (span : Span) → is_site_of span s ≡ true → IsInner (spans_of site.tree) span) (IsDistinct site)
-          (λ other inner span own it.
+          all_weaker (λ (s : Site). (span : Span) → is_site_of span s ≡ true → IsInner (spans_of site.tree) span) (IsShortOf declared site)
+          (λ other inner span another own it within.
           let has = extent_has span (spans_of site.tree) around (site_is span site own).2 in
-          let short = (inner span it).3 in
+          let short = (inner another it).3 in
           let low = has.1 in
           let high = has.2 in
-          omega (arith, short, low, high)) (below site) (shorter is)
+          let first = within.0 in
+          let last = within.1 in
+          omega (arith, short, low, high, first, last)) (below site) (shorter is)
 
-  finish : (site : Site) → IsAround (spans_of site.tree) → sites_in declared site.tree site ≡ site ∷ below site → AllByRecursion IsAroundSite (below site) → IsBelow site → IsKnownExpression site
-  finish site around whole arounds it =
-      let outer = (spans_of site.tree).outer in record {
+  -- what is below a node has tokens of it
+  meets_parts : (site : Site) → IsAround (spans_of site.tree) → sites_in declared site.tree site ≡ site ∷ below site
+      → (is_implied_conversion site.tree ≡ false → Each (IsInner (spans_of site.tree)) (below site)) → MeetsParts declared site
+  meets_parts site around whole shorter span own =
+      let standing = site_is span site own in
+      let value = and_parts (not (is_statement (label_of site.tree))) (not (is_implied_conversion site.tree)) standing.1 in
+      let has = extent_has span (spans_of site.tree) around standing.2 in (
+        ap (find (is_site_of span)) whole ∙ ap (λ (b : Bool). if b then Some site else find (is_site_of span) (below site)) own,
+        λ part other there.
+            by_own has (shorter (not_true (is_implied_conversion site.tree) value.1)) part other (is_site_of part site) refl (sym (ap (find (is_site_of part)) whole) ∙ there),
+      )
+    where
+      by_own : HasAll (spans_of site.tree) span → Each (IsInner (spans_of site.tree)) (below site) → (part : Span) (other : Site) (b : Bool) → is_site_of part site ≡ b
+          → (if b then Some site else find (is_site_of part) (below site)) ≡ Some other → Meet part span
+      by_own has inner part other true is e =
+          let its = extent_has part (spans_of site.tree) around (site_is part site is).2 in
+          let low = has.1 in
+          let high = has.2 in
+          let first = its.1 in
+          let last = its.2 in
+          let some = around.1 in
+          (omega (arith, first, some, high), omega (arith, low, some, last))
+      by_own has inner part other false is e =
+          let it = found_has (is_site_of part) (λ (s : Site). (each : Span) → is_site_of each s ≡ true → IsInner (spans_of site.tree) each) (below site) other inner e in
+          let within = it.0 part it.1 in
+          let low = has.1 in
+          let high = has.2 in
+          let first = within.0 in
+          let some = within.1 in
+          let last = within.2 in
+          (omega (arith, some, last, high), omega (arith, low, first, some))
+
+  finish : (site : Site) → is_expression site.tree ≡ true → IsAround (spans_of site.tree) → sites_in declared site.tree site ≡ site ∷ below site → AllByRecursion (IsSeated declared) (below site) → IsBelow site → IsKnownExpression site
+  finish site expression around whole arounds it =
+      let outer = (spans_of site.tree).outer in
+      let own : IsSettled declared site = (around.0, meets_parts site around whole it.shorter, expression) in record {
         around = around;
         whole = whole;
         known = record {
           tokens = let low = around.0 in let some = around.1 in let both = around.2 in omega (arith, low, some, both);
-          arounds = subst (AllByRecursion IsAroundSite) (sym whole) (around.0, arounds);
-          only = subst Only (sym whole) (only_append (site ∷ []) (below site) (only_one site) it.only (own_distinct site around it.shorter));
+          arounds = subst (AllByRecursion (IsSeated declared)) (sym whole)
+              ((own, subst (AllByRecursion (IsSettled declared)) (sym whole) (own, all_weaker (IsSeated declared) (IsSettled declared) (λ s k. k.0) (below site) arounds)), arounds);
+          told = subst (Told declared) (sym whole) (told_own declared site (below site) whole it.told (own_short site around it.shorter));
           region = subst (Region outer.first outer.after) (sym whole) ((λ span is. (extent_has span (spans_of site.tree) around (site_is span site is).2).0), it.region);
         };
         shorter = it.shorter;
@@ -169,7 +199,7 @@ module _ (declared : List Declaration) where
   knowns list h = all_weaker IsKnownExpression (IsKnown declared) (λ site k. k.known) list h
 
   record IsRow (spans : Spans) (row : List Site) : Type 0 where
-    only : Only (all_sites declared row)
+    told : Told declared (all_sites declared row)
     inner : Each (IsInner spans) (all_sites declared row)
     ends : (next : Tree) → EndBefore (map tree_of row) next → Each (EndsAt (spans_of next).outer.first) (all_sites declared row)
 
@@ -180,14 +210,14 @@ module _ (declared : List Declaration) where
       → Each (EndsAt (spans_of next).outer.first) (all_sites declared row)
   row_ends lo hi [] known h next ends = tt
   row_ends lo hi (site ∷ row) known h next ends =
-      each_weaker (IsIn lo (spans_of next).outer.first) (EndsAt (spans_of next).outer.first) (λ span k. k.2) (all_sites declared (site ∷ row))
+      each_weaker (IsIn lo (spans_of next).outer.first) (EndsAt (spans_of next).outer.first) (λ span k. (k.1, k.2)) (all_sites declared (site ∷ row))
       (row_known declared lo (spans_of next).outer.first (site ∷ row) known (order_before lo hi site.tree (map tree_of row) next ends h)).1
 
   strict_row : (spans : Spans) (row : List Site) → AllByRecursion (IsKnown declared) row → InOrder spans.inner.first spans.inner.after (map tree_of row) → AllShort spans.inner (map tree_of row)
       → IsRow spans row
   strict_row spans row known order short =
       let them = row_known declared spans.inner.first spans.inner.after row known order in record {
-        only = them.0;
+        told = them.0;
         inner = each_weaker (λ span. IsIn spans.inner.first spans.inner.after span × IsShorter span spans.inner) (IsInner spans) (to_inner spans) (all_sites declared row)
             (each_both (IsIn spans.inner.first spans.inner.after) (λ span. IsShorter span spans.inner) (all_sites declared row) them.1 (row_short declared spans.inner row known short));
         ends = row_ends spans.inner.first spans.inner.after row known order;
@@ -203,12 +233,12 @@ module _ (declared : List Declaration) where
   behind_shared spans label site [] known rest_known same none plain behind inside =
       let here = sites_in declared site.tree site in
       let outer = (spans_of site.tree).outer in record {
-        only = only_append here [] known.known.only only_none (distinct_none here);
+        told = told_append declared here [] known.known.told (told_none declared) (distinct_none here);
         inner = each_append (IsInner spans) here [] (each_whole (IsInner spans) site known none
             (subst (λ (it : Spans). Each (IsInner it) (below site)) same (known.shorter (not_implied site.tree plain)))) tt;
         ends = λ next end.
             each_append (EndsAt (spans_of next).outer.first) here []
-            (each_weaker (IsIn outer.first outer.after) (EndsAt (spans_of next).outer.first) (λ span k. let high = k.2 in omega (arith, high, end)) here known.known.region) tt;
+            (each_weaker (IsIn outer.first outer.after) (EndsAt (spans_of next).outer.first) (λ span k. let high = k.2 in (k.1, omega (arith, high, end))) here known.known.region) tt;
       }
   behind_shared spans label site (second ∷ rest) known rest_known same none plain behind inside =
       let here = sites_in declared site.tree site in
@@ -218,15 +248,15 @@ module _ (declared : List Declaration) where
       let them = strict_row spans (second ∷ rest) rest_known (wider_order spans.inner.first (spans.inner.first + 1) spans.inner.after (map tree_of (second ∷ rest)) (omega arith) rows.0) rows.1 in
       let later = (row_known declared at spans.inner.after (second ∷ rest) rest_known (omega arith, rows.0.1)).1 in
       let before = each_whole (EndsAt at) site known none (known.ends plain second.tree behind) in record {
-        only = only_append here more known.known.only them.only
-            (distinct (EndsAt at) (IsIn at spans.inner.after) (λ span ends k. let begins = k.0 in let some = k.1 in omega (arith, ends, begins, some)) here more before later);
+        told = told_append declared here more known.known.told them.told
+            (distinct (EndsAt at) (IsIn at spans.inner.after) (λ one other ends k. let begins = k.0 in let last = ends.1 in separate one other ends.0 k.1 (omega (arith, last, begins))) here more before later);
         inner = each_append (IsInner spans) here more
             (each_whole (IsInner spans) site known none (subst (λ (it : Spans). Each (IsInner it) (below site)) same (known.shorter (not_implied site.tree plain)))) them.inner;
         ends = λ next end.
             let bound = order_bound at (spans_of next).outer.first (map tree_of (second ∷ rest)) (tokens_of declared (second ∷ rest) rest_known)
             (order_before at spans.inner.after second.tree (map tree_of rest) next end (omega arith, rows.0.1)) in
             each_append (EndsAt (spans_of next).outer.first) here more
-            (each_weaker (EndsAt at) (EndsAt (spans_of next).outer.first) (λ span ends. omega (arith, ends, bound)) here before) (them.ends next end);
+            (each_weaker (EndsAt at) (EndsAt (spans_of next).outer.first) (λ span ends. let some = ends.1 in (ends.0, omega (arith, some, bound))) here before) (them.ends next end);
       }
     where
       wider_order : (low lo hi : ℕ) (trees : List Tree) → low ≤ lo → InOrder lo hi trees → InOrder low hi trees
@@ -235,7 +265,7 @@ module _ (declared : List Declaration) where
 
   plain_row : (label : Label) (spans : Spans) → is_conversion label ≡ false → (row : List Site) → AllByRecursion IsKnownExpression row
       → AllByRecursion (λ (site : Site). site.apart ≡ is_apart label spans site.tree) row → AreInside label spans spans.inner.first (map tree_of row) → IsRow spans row
-  plain_row label spans plain [] known apart inside = record { only = only_none; inner = tt; ends = λ next end. tt }
+  plain_row label spans plain [] known apart inside = record { told = told_none declared; inner = tt; ends = λ next end. tt }
   plain_row label spans plain (site ∷ rest) known apart inside =
       ⊎_elim (λ same.
       let none : is_apart label spans site.tree ≡ false = ap (λ (b : Bool). b || not (shares_tokens spans site.tree)) (same_conversion label ∙ plain) ∙ ap not (shares spans site.tree same.0) in
@@ -251,7 +281,7 @@ module _ (declared : List Declaration) where
   of_row : (site : Site) → IsAround (spans_of site.tree) → IsRow (spans_of site.tree) (operands site) → map tree_of (operands site) ≡ parts_of site.tree → IsBelow site
   of_row site around row trees =
       let spans = spans_of site.tree in record {
-        only = row.only;
+        told = row.told;
         region = each_weaker (IsInner spans) (IsIn spans.outer.first spans.outer.after)
             (λ span k. let a = around.0 in let b = around.2 in let low = k.0 in let high = k.2 in (omega (arith, a, low), k.1, omega (arith, a, b, high))) (below site) row.inner;
         shorter = λ is. row.inner;
@@ -259,7 +289,7 @@ module _ (declared : List Declaration) where
       }
 
   record IsTurned (spans : Spans) (implied_here : Bool) (row : List Site) : Type 0 where
-    only : Only (all_sites declared row)
+    told : Told declared (all_sites declared row)
     region : Region spans.outer.first spans.outer.after (all_sites declared row)
     inner : implied_here ≡ false → Each (IsInner spans) (all_sites declared row)
 
@@ -279,7 +309,7 @@ module _ (declared : List Declaration) where
       (λ span k. let ends = k.0.2 in (k.0.0, k.0.1, omega (arith, ends, tokens, high), k.1)) more
       (each_both (IsIn spans.inner.first outer.first) (λ span. IsShorter span spans.inner) more them.1 (row_short declared spans.inner lengths lengths_known shorts.0)) in
       let both = each_append (IsInner spans) here more (drop_none here alone.inner) others in record {
-        only = only_append here more known.only them.0 (in_other_order spans.inner.first outer.first outer.after here more known.region them.1);
+        told = told_append declared here more known.told them.0 (in_other_order spans.inner.first outer.first outer.after here more known.region them.1);
         region = each_weaker (IsInner spans) (IsIn spans.outer.first spans.outer.after)
             (λ span k. let a = around.0 in let c = around.2 in let low = k.0 in let top = k.2 in (omega (arith, a, low), k.1, omega (arith, a, c, top))) (here ++ more) both;
         inner = λ is. both;
@@ -294,7 +324,7 @@ module _ (declared : List Declaration) where
   turned spans b operand [] around known lengths_known is inside =
       ⊎_elim (λ same.
       let here = sites_in declared operand.tree operand in record {
-        only = only_append here [] known.only only_none (distinct_none here);
+        told = told_append declared here [] known.told (told_none declared) (distinct_none here);
         region = each_append (IsIn spans.outer.first spans.outer.after) here [] (subst (λ (it : Spans). Region it.outer.first it.outer.after here) same.0 known.region) tt;
         inner = λ no. absurd (true≢false (sym (is same.0) ∙ no));
       })
@@ -316,7 +346,7 @@ module _ (declared : List Declaration) where
       → AllByRecursion IsKnownExpression row → EachInside convert (spans_of site.tree) (in_source_order convert (map tree_of row)) → IsBelow site
   of_conversion site around conversion [] is trees known inside =
       let none : below site ≡ [] = ap (all_sites declared) is in record {
-        only = subst Only (sym none) only_none;
+        told = subst (Told declared) (sym none) (told_none declared);
         region = subst (Region (spans_of site.tree).outer.first (spans_of site.tree).outer.after) (sym none) tt;
         shorter = λ no. subst (Each (IsInner (spans_of site.tree))) (sym none) tt;
         ends = λ no next end. absurd (true≢false (sym (ap is_conversion conversion) ∙ no));
@@ -325,7 +355,7 @@ module _ (declared : List Declaration) where
       let them = turned (spans_of site.tree) (is_implied_conversion site.tree) operand lengths around known.0.known (knowns lengths known.1)
       (λ same. implied site.tree operand.tree (map tree_of lengths) conversion (sym trees) same) inside.0 in
       let all : below site ≡ all_sites declared (operand ∷ lengths) = ap (all_sites declared) is in record {
-        only = subst Only (sym all) them.only;
+        told = subst (Told declared) (sym all) them.told;
         region = subst (Region (spans_of site.tree).outer.first (spans_of site.tree).outer.after) (sym all) them.region;
         shorter = λ no. subst (Each (IsInner (spans_of site.tree))) (sym all) (them.inner no);
         ends = λ no next end. absurd (true≢false (sym (ap is_conversion conversion) ∙ no));
@@ -341,10 +371,10 @@ module _ (declared : List Declaration) where
   abbrev LaidBy : Tree → Type 0
   LaidBy tree = IsAround (spans_of tree) × EachInside (label_of tree) (spans_of tree) (in_source_order (label_of tree) (parts_of tree))
 
-  node_known : (site : Site) → is_statement (label_of site.tree) ≡ false → LaidBy site.tree → AllByRecursion IsKnownExpression (operands site) → IsKnownExpression site
-  node_known site expression laid known =
+  node_known : (site : Site) → is_expression site.tree ≡ true → is_statement (label_of site.tree) ≡ false → LaidBy site.tree → AllByRecursion IsKnownExpression (operands site) → IsKnownExpression site
+  node_known site all expression laid known =
       let trees = operand-trees site (label_of site.tree) (spans_of site.tree) 0 (parts_of site.tree) in
-      finish site laid.0 (expression-sites declared site (divides (label_of site.tree) (parts_of site.tree) expression) expression) (row_arounds declared (operands site) (knowns (operands site) known))
+      finish site all laid.0 (expression-sites declared site (divides (label_of site.tree) (parts_of site.tree) expression) expression) (row_arounds declared (operands site) (knowns (operands site) known))
       (by_label (is_conversion (label_of site.tree)) refl trees)
     where
       by_label : (b : Bool) → is_conversion (label_of site.tree) ≡ b → map tree_of (operands site) ≡ parts_of site.tree → IsBelow site
@@ -363,7 +393,7 @@ module _ (declared : List Declaration) where
     pub expression_known : (tree : Tree) (site : Site) → site.tree ≡ tree → is_expression tree ≡ true → IsLaidOut tree → IsKnownExpression site
     expression_known (node label kind spans parts) site same expression laid =
         let plain = and_parts (not (is_statement label)) (are_expressions parts) expression in
-        node_known site (subst (λ (t : Tree). is_statement (label_of t) ≡ false) (sym same) (not_true (is_statement label) plain.0))
+        node_known site (subst (λ (t : Tree). is_expression t ≡ true) (sym same) expression) (subst (λ (t : Tree). is_statement (label_of t) ≡ false) (sym same) (not_true (is_statement label) plain.0))
         (subst LaidBy (sym same) ((laid.0, laid.1, laid.2), laid.3))
         (subst (λ (t : Tree). AllByRecursion IsKnownExpression (operand_sites site (label_of t) (spans_of t) 0 (parts_of t))) (sym same)
         (expressions_known parts site label spans 0 plain.1 laid.4))

@@ -2,16 +2,18 @@
 --     InOrder lo hi trees      trees stand behind one another between two tokens
 --     AllShort span trees      each is shorter than a span
 --     row_known      the places in such trees, of which it is known where they stand in each
-use Rattle.std.specs.Prelude.{ℕ, ◌<◌, ◌≤◌, List, [], ◌∷◌, map}
+use Rattle.std.specs.Prelude.{◌≡◌, ℕ, ◌<◌, ◌≤◌, true, List, [], ◌∷◌, find, map, Some}
 use Rattle.std.specs.List.{AllByRecursion}
 use Rattle.std.proofs.Common.{arith, ⊎_elim}
 use Rattle.dm_token.specs.declared.place.Span.{Span}
 use Rattle.dm_tree.specs.Trees.{Label, Spans, Tree, spans_of}
 use Rattle.dm_tree.specs.Units.{Declaration}
-use Rattle.dm_sites.specs.Sites.{Site, sites_in, all_sites}
+use Rattle.dm_meaning.specs.Wholes.{is_expression}
+use Rattle.dm_sites.specs.Sites.{Site, is_site_of, sites_in, all_sites}
 use Rattle.dm_scoped.specs.Spans.{IsShorter, EndBefore, AreInside}
+use Rattle.dm_told.specs.Told.{Meet}
 use Rattle.dm_told.proofs.FindLemmas.{all_append}
-use Rattle.dm_told.proofs.OnlyLemmas.{Only, only_none, only_append, Each, each_weaker, each_append, IsIn, Region, wider, in_order}
+use Rattle.dm_told.proofs.OnlyLemmas.{Told, told_none, told_append, Each, each_weaker, each_append, IsIn, Region, wider, in_order}
 
 abbrev pub tree_of : Site → Tree
 tree_of site = site.tree
@@ -58,24 +60,37 @@ abbrev pub IsAroundSite : Site → Type 0
 IsAroundSite site = (spans_of site.tree).outer.first ≤ (spans_of site.tree).inner.first
 
 module _ (declared : List Declaration) where
+  -- in its own tree it is found, and what is found there has tokens of it
+  abbrev pub MeetsParts : Site → Type 0
+  MeetsParts site =
+      (span : Span) → is_site_of span site ≡ true
+      → (find (is_site_of span) (sites_in declared site.tree site) ≡ Some site)
+      × ((part : Span) (other : Site) → find (is_site_of part) (sites_in declared site.tree site) ≡ Some other → Meet part span)
+
+  abbrev pub IsSettled : Site → Type 0
+  IsSettled site = IsAroundSite site × MeetsParts site × (is_expression site.tree ≡ true)
+
+  abbrev pub IsSeated : Site → Type 0
+  IsSeated site = IsSettled site × AllByRecursion IsSettled (sites_in declared site.tree site)
+
   -- the places in a tree, of which it is known where they stand
   pub record IsKnown (site : Site) : Type 0 where
     pub tokens : HasTokens site.tree
-    pub arounds : AllByRecursion IsAroundSite (sites_in declared site.tree site)
-    pub only : Only (sites_in declared site.tree site)
+    pub arounds : AllByRecursion IsSeated (sites_in declared site.tree site)
+    pub told : Told declared (sites_in declared site.tree site)
     pub region : Region (spans_of site.tree).outer.first (spans_of site.tree).outer.after (sites_in declared site.tree site)
 
   pub tokens_of : (sites : List Site) → AllByRecursion IsKnown sites → AllByRecursion HasTokens (map tree_of sites)
   tokens_of [] h = tt
   tokens_of (site ∷ sites) h = (h.0.tokens, tokens_of sites h.1)
 
-  pub row_arounds : (sites : List Site) → AllByRecursion IsKnown sites → AllByRecursion IsAroundSite (all_sites declared sites)
+  pub row_arounds : (sites : List Site) → AllByRecursion IsKnown sites → AllByRecursion IsSeated (all_sites declared sites)
   row_arounds [] h = tt
-  row_arounds (site ∷ sites) h = all_append IsAroundSite (sites_in declared site.tree site) (all_sites declared sites) h.0.arounds (row_arounds sites h.1)
+  row_arounds (site ∷ sites) h = all_append IsSeated (sites_in declared site.tree site) (all_sites declared sites) h.0.arounds (row_arounds sites h.1)
 
   pub row_known : (lo hi : ℕ) (sites : List Site) → AllByRecursion IsKnown sites → InOrder lo hi (map tree_of sites)
-      → Only (all_sites declared sites) × Region lo hi (all_sites declared sites)
-  row_known lo hi [] known h = (only_none, tt)
+      → Told declared (all_sites declared sites) × Region lo hi (all_sites declared sites)
+  row_known lo hi [] known h = (told_none declared, tt)
   row_known lo hi (site ∷ sites) known h =
       let outer = (spans_of site.tree).outer in
       let here = sites_in declared site.tree site in
@@ -83,7 +98,7 @@ module _ (declared : List Declaration) where
       let bound = order_bound outer.after hi (map tree_of sites) (tokens_of sites known.1) h.1 in
       let begins = h.0 in
       let tokens = known.0.tokens in (
-        only_append here (all_sites declared sites) known.0.only rest.0 (in_order outer.first outer.after hi here (all_sites declared sites) known.0.region rest.1),
+        told_append declared here (all_sites declared sites) known.0.told rest.0 (in_order outer.first outer.after hi here (all_sites declared sites) known.0.region rest.1),
         each_append (IsIn lo hi) here (all_sites declared sites) (wider outer.first outer.after lo hi begins bound here known.0.region)
             (wider outer.after hi lo hi (omega (arith, begins, tokens)) (omega arith) (all_sites declared sites) rest.1),
       )

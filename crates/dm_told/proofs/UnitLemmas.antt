@@ -1,7 +1,7 @@
 -- Places in statements, external declarations and units.
 --     tree_known      the places in a tree that is well typed and laid out
 --     unit_told      the places of a unit
-use Rattle.std.specs.Prelude.{◌≡◌, refl, ℕ, zero, suc, ◌+◌, ◌-◌, ◌<◌, ◌≤◌, Bool, true, false, not, ◌&&◌, ◌||◌, ◌==◌, nat_le, All, IfSome, IsSome, List, [], ◌∷◌, ◌++◌, map, take, drop, flat_map, Option, Some, None, slice_get, if◌then◌else◌}
+use Rattle.std.specs.Prelude.{◌≡◌, refl, ℕ, zero, suc, ◌+◌, ◌-◌, ◌<◌, ◌≤◌, Bool, true, false, not, ◌&&◌, ◌||◌, ◌==◌, nat_le, All, IfSome, IsSome, List, [], ◌∷◌, ◌++◌, find, map, take, drop, flat_map, Option, Some, None, slice_get, if◌then◌else◌}
 use Rattle.std.specs.List.{AllByRecursion, list_any}
 use Rattle.std.specs.Option.{option_map_or}
 use Rattle.std.proofs.Common.{ap, sym, ◌∙◌, subst, arith, ⊎_elim}
@@ -18,6 +18,7 @@ use Rattle.dm_tree.specs.Scenes.{Scene}
 use Rattle.dm_tree.specs.Trees.{Label, read, decay, convert, follow, member, comma, declare, expressions_in, Declarator, Initialiser, Spans, Tree, Trees, node, no_trees, more_trees, label_of, spans_of, parts_of, listed, is_statement}
 use Rattle.dm_tree.specs.Typing.{Fits, FormFits, ExternalFits, inside, IsWellTyped, AreWellTyped, IsWellTypedUnit, DefinitionFits, FunctionFits, file_scene, body_scene}
 use Rattle.dm_tree.specs.Units.{Declaration, External, ExternalForm, declares, defines_function, TypedUnit}
+use Rattle.dm_meaning.specs.Wholes.{is_expression}
 use Rattle.dm_meaning.specs.Statements.{Local, expressions_of, with_expressions}
 use Rattle.dm_meaning.proofs.WholeLemmas.{typed-expression}
 use Rattle.dm_effect.specs.Entities.{trees_in_form}
@@ -27,10 +28,10 @@ use Rattle.dm_sites.specs.Standing as site_standing
 use Rattle.dm_sites.proofs.PlaceLemmas.{Divides, whole-trees, declarator-trees, statement-trees, statement-sites}
 use Rattle.dm_agree.specs.Standing.{widened, narrowing, extents, stands}
 use Rattle.dm_scoped.specs.Spans.{MayShare, AreInside, in_source_order, EachInside, IsLaidOut, AreLaidOut, StandBetween, IsLaidOutForm, IsLaidOutExternal, AreLaidOutFrom, IsLaidOutUnit, IsApart, IsApartFrom, AreApart, StandApart}
-use Rattle.dm_told.specs.Told.{IsTold, ArePlacesTold}
-use Rattle.dm_told.proofs.FindLemmas.{all_append, all_weaker, all_both, all_swapped}
-use Rattle.dm_told.proofs.OnlyLemmas.{Only, only_none, only_append, only_found, IsDistinct, AreDistinct, Each, each_weaker, each_append, distinct, IsIn, Region, wider}
-use Rattle.dm_told.proofs.RowLemmas.{tree_of, InOrder, HasTokens, IsAroundSite, IsKnown, row_arounds, row_known}
+use Rattle.dm_told.specs.Told.{IsInside, IsAroundParts, AreAroundParts, IsTold, ArePlacesExpressions, ArePlacesNested, ArePlacesTold}
+use Rattle.dm_told.proofs.FindLemmas.{all_append, all_weaker, all_both, all_swapped, found_has}
+use Rattle.dm_told.proofs.OnlyLemmas.{Told, told_none, told_append, only_found, IsDistinct, AreDistinct, Each, each_weaker, each_append, distinct, separate, swapped, IsIn, Region, wider}
+use Rattle.dm_told.proofs.RowLemmas.{tree_of, InOrder, HasTokens, IsAroundSite, IsSettled, IsSeated, IsKnown, row_arounds, row_known}
 use Rattle.dm_told.proofs.ExpressionLemmas.{expression_known}
 
 -- ---- statements
@@ -82,13 +83,12 @@ module _ (declared : List Declaration) where
       let a = (spans_of one.tree).outer in
       let b = (spans_of other.tree).outer in
       distinct (IsIn a.first a.after) (IsIn b.first b.after)
-      (λ span h k.
+      (λ span next h k.
       let ends = h.2 in
       let begins = k.0 in
-      let some = h.1 in
       let first = h.0 in
       let last = k.2 in
-      ⊎_elim (λ before. absurd (omega (arith, ends, begins, some, before))) (λ behind. absurd (omega (arith, first, last, some, behind))) apart)
+      ⊎_elim (λ before. separate span next h.1 k.1 (omega (arith, ends, begins, before))) (λ behind. swapped next span (separate next span k.1 h.1 (omega (arith, first, last, behind)))) apart)
       (sites_in declared one.tree one) (sites_in declared other.tree other) known.region more.region
 
   tree_distinct : (one : Site) (list : List Site) → IsKnown declared one → AllByRecursion (IsKnown declared) list → IsApartFrom one.tree (map tree_of list)
@@ -106,14 +106,14 @@ module _ (declared : List Declaration) where
       (tree_distinct one back known.0 more apart.0) (rows_distinct front back known.1 more apart.1)
 
   abbrev Rows : ℕ → ℕ → List Site → Type 0
-  Rows lo hi sites = Only (all_sites declared sites) × Region lo hi (all_sites declared sites)
+  Rows lo hi sites = Told declared (all_sites declared sites) × Region lo hi (all_sites declared sites)
 
   both_rows : (lo hi : ℕ) (front back : List Site) → AllByRecursion (IsKnown declared) front → AllByRecursion (IsKnown declared) back → Rows lo hi front → Rows lo hi back
       → AreApart (map tree_of front) (map tree_of back) → Rows lo hi (front ++ back)
   both_rows lo hi front back known more h k apart =
       let them = flat_map-append (λ (site : Site). sites_in declared site.tree site) front back in
-      subst (λ (sites : List Site). Only sites × Region lo hi sites) (sym them) (
-        only_append (all_sites declared front) (all_sites declared back) h.0 k.0 (rows_distinct front back known more apart),
+      subst (λ (sites : List Site). Told declared sites × Region lo hi sites) (sym them) (
+        told_append declared (all_sites declared front) (all_sites declared back) h.0 k.0 (rows_distinct front back known more apart),
         each_append (IsIn lo hi) (all_sites declared front) (all_sites declared back) h.1 k.1,
       )
 
@@ -162,8 +162,8 @@ module _ (declared : List Declaration) where
       let some = laid.1 in
       let both = laid.2 in record {
         tokens = subst HasTokens (sym same) (omega (arith, low, some, both));
-        arounds = subst (AllByRecursion IsAroundSite) (sym places) (row_arounds declared (statement_parts declared label (listed parts)) known);
-        only = subst Only (sym places) rows.0;
+        arounds = subst (AllByRecursion (IsSeated declared)) (sym places) (row_arounds declared (statement_parts declared label (listed parts)) known);
+        told = subst (Told declared) (sym places) rows.0;
         region = subst (Region (spans_of site.tree).outer.first (spans_of site.tree).outer.after) (sym places)
             (subst (λ (t : Tree). Region (spans_of t).outer.first (spans_of t).outer.after (all_sites declared (statement_parts declared label (listed parts)))) (sym same)
             (wider spans.inner.first spans.inner.after spans.outer.first spans.outer.after low (omega (arith, low, both)) (all_sites declared (statement_parts declared label (listed parts))) rows.1));
@@ -275,8 +275,8 @@ module _ (declared : List Declaration) where
 
   externals_rows : (types : Table) (at : ℕ) (externals : List External) → All (ExternalFits (file_scene types declared)) externals → AreLaidOutFrom at externals
       → AllByRecursion (IsKnown declared) (flat_map (external_sites declared) externals)
-      × Only (all_sites declared (flat_map (external_sites declared) externals)) × Each (IsFrom at) (all_sites declared (flat_map (external_sites declared) externals))
-  externals_rows types at [] fits laid = (tt, only_none, tt)
+      × Told declared (all_sites declared (flat_map (external_sites declared) externals)) × Each (IsFrom at) (all_sites declared (flat_map (external_sites declared) externals))
+  externals_rows types at [] fits laid = (tt, told_none declared, tt)
   externals_rows types at (one ∷ externals) fits laid =
       let own = external_rows types one (All-head (ExternalFits (file_scene types declared)) one externals fits) laid.1 in
       let rest = externals_rows types one.span.after externals (All-tail (ExternalFits (file_scene types declared)) one externals fits) laid.2 in
@@ -288,8 +288,8 @@ module _ (declared : List Declaration) where
       let begins = laid.0 in
       let order = span_order one laid.1 in (
         all_append (IsKnown declared) front back own.0 rest.0,
-        subst Only (sym them) (only_append here behind own.1.0 rest.1
-            (distinct (IsIn one.span.first one.span.after) (IsFrom one.span.after) (λ span a b. let ends = a.2 in let first = b.0 in let some = b.1 in omega (arith, ends, first, some)) here behind
+        subst (Told declared) (sym them) (told_append declared here behind own.1.0 rest.1
+            (distinct (IsIn one.span.first one.span.after) (IsFrom one.span.after) (λ span next a b. let ends = a.2 in let first = b.0 in separate span next a.1 b.1 (omega (arith, ends, first))) here behind
             own.1.1 rest.2)),
         subst (Each (IsFrom at)) (sym them) (each_append (IsFrom at) here behind
             (each_weaker (IsIn one.span.first one.span.after) (IsFrom at) (λ span k. let low = k.0 in (omega (arith, low, begins), k.1)) here own.1.1)
@@ -342,7 +342,28 @@ unit_told types one typed laid =
     let rows = externals_rows one.declared types 0 one.externals typed.externals laid in
     let sites = sites_of_unit one in
     let roots = flat_map (external_sites one.declared) one.externals in
-    let Told : Span → Site → Type 0 = λ span site. is_site_of span site ≡ true → site_of one span ≡ Some site in
-    all_weaker (λ (site : Site). IsAroundSite site × ((span : Span) → Told span site)) (IsTold one)
-    (λ site both span apart stand. both.1 span (stands_there span site both.0 apart stand)) sites
-    (all_both IsAroundSite (λ (site : Site). (span : Span) → Told span site) sites (row_arounds one.declared roots rows.0) (all_swapped Told sites (only_found sites rows.1)))
+    let Found : Span → Site → Type 0 = λ span site. is_site_of span site ≡ true → site_of one span ≡ Some site in
+    all_weaker (λ (site : Site). IsSeated one.declared site × ((span : Span) → Found span site)) (IsTold one)
+    (λ site both span apart stand. both.1 span (stands_there span site both.0.0.0 apart stand)) sites
+    (all_both (IsSeated one.declared) (λ (site : Site). (span : Span) → Found span site) sites (row_arounds one.declared roots rows.0) (all_swapped Found sites (only_found sites rows.1.0)))
+
+pub unit_nested : (types : Table) (one : TypedUnit) → IsWellTypedUnit types one → IsLaidOutUnit one → ArePlacesNested one
+unit_nested types one typed laid =
+    let rows = externals_rows one.declared types 0 one.externals typed.externals laid in
+    let sites = sites_of_unit one in
+    let roots = flat_map (external_sites one.declared) one.externals in
+    record {
+      inside = λ span part site other is found within.
+          let it = found_has (is_site_of span)
+          (λ (s : Site). (own : Span) → is_site_of own s ≡ true → IsInside part own → find (is_site_of part) (sites_in one.declared s.tree s) ≡ Some other) sites site (rows.1.1 part other found) is in
+          it.0 span it.1 within;
+      around = all_weaker (IsSeated one.declared) (AreAroundParts one) (λ site seated.
+          all_weaker (IsSettled one.declared) (IsAroundParts one) (λ each settled span apart stand. settled.1 span (stands_there span each settled.0 apart stand))
+          (sites_in one.declared site.tree site) seated.1) sites (row_arounds one.declared roots rows.0);
+    }
+
+pub unit_expressions : (types : Table) (one : TypedUnit) → IsWellTypedUnit types one → IsLaidOutUnit one → ArePlacesExpressions one
+unit_expressions types one typed laid =
+    let rows = externals_rows one.declared types 0 one.externals typed.externals laid in
+    all_weaker (IsSeated one.declared) (λ (site : Site). is_expression site.tree ≡ true) (λ site seated. seated.0.2) (sites_of_unit one)
+    (row_arounds one.declared (flat_map (external_sites one.declared) one.externals) rows.0)

@@ -3,4 +3,4 @@
 
 mod laws;
 
-pub use laws::places_are_told;
+pub use laws::{places_are_nested, places_are_told};

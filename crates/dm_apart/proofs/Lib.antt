@@ -1,0 +1,4 @@
+mod NameLemmas
+mod SpanLemmas
+mod RunLemmas
+mod OccurLemmas

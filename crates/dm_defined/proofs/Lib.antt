@@ -1,0 +1,4 @@
+mod PartLemmas
+mod MadeLemmas
+mod OrderLemmas
+mod SameLemmas

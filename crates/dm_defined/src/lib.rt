@@ -1,0 +1,6 @@
+//! The definitions that a unit reads from files, by the bytes of those (ISO/IEC 9899:2011, 6.10.3).
+#![tactic(auto)]
+
+mod laws;
+
+pub use laws::{definitions_are_made, one_definition, parameters_differ};
