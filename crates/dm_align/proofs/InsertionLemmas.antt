@@ -3,15 +3,15 @@ use Rattle.std.proofs.Common.{◌≡◌, ◌≤◌, ◌<◌, ◌+◌, ℕ, zero,
 use Rattle.std.specs.List.{list_all}
 use Rattle.std.specs.Option.{IsSomeAnd}
 use Rattle.std.specs.Prelude.{IfSome, IfNone}
-use Rattle.std.proofs.lemmas.Bool.{and_parts}
-use Rattle.dm_type.specs.CTypes.{CType}
+use Rattle.std.proofs.lemmas.Bool.{and_parts, true≢false, false≢true}
+use Rattle.dm_type.specs.CTypes.{CType, void as void_type, integer, pointer, array, struct, function as function_type, const}
 use Rattle.dm_type.specs.Tables.{Table}
 use Rattle.dm_tree.specs.declared.unit.CoreExternalForm.TheVariants as code
 use Rattle.dm_tree.specs.declared.unit.Sort.TheVariants.{Function}
 use Rattle.dm_tree.specs.declared.unit.Linkage.TheVariants.{Internal}
 use Rattle.dm_tree.specs.declared.tree.Core.{Core}
 use Rattle.dm_tree.specs.declared.tree.Local.{Local}
-use Rattle.dm_tree.specs.Scenes.{is_void}
+use Rattle.dm_tree.specs.Scenes.{is_void, is_function as is_function_type}
 use Rattle.dm_tree.specs.Trees.{full, return, Declarator, Tree, node, no_trees, more_trees, parts_of}
 use Rattle.dm_tree.specs.Units.{Declaration, External, ExternalForm, declares, defines_function, TypedUnit}
 use Rattle.dm_tree.specs.Views.{OpenedLocal, view, view_of_form, view_of_local}
@@ -47,15 +47,30 @@ body-value result body (node full kind spans (more_trees value no_trees) ∷ [])
     ap (λ void. value_in void (node full kind spans (more_trees value no_trees) ∷ [])) is.1 ∙ ap Some (sym is.0)
 body-value result body items is = absurd is
 
-item-body : (result : CType) (body : Tree) (void : Bool) (item : Tree) → is_void result ≡ void → value_of void item ≡ Some body → IsBodyOf result body (item ∷ [])
-item-body result body false (node return kind spans (more_trees value no_trees)) is found = (let same : body ≡ value = cc in same, is)
-item-body result body true (node full kind spans (more_trees value no_trees)) is found = (let same : body ≡ value = cc in same, is)
-item-body result body void item is found = absurd (cc)
+item-body : (result : CType) (body : Tree) (void : Bool) (item : Tree) → is_function_type result ≡ false → is_void result ≡ void → value_of void item ≡ Some body → IsBodyOf result body (item ∷ [])
+item-body result body false (node return kind spans (more_trees value no_trees)) object is found = (let same : body ≡ value = cc in same, is, object)
+item-body result body true (node full kind spans (more_trees value no_trees)) object is found = (let same : body ≡ value = cc in same, is)
+item-body result body void item object is found = absurd (cc)
 
-pub value-body : (result : CType) (body : Tree) (items : List Tree) → value_in (is_void result) items ≡ Some body → IsBodyOf result body items
-value-body result body [] found = absurd (cc)
-value-body result body (item ∷ []) found = item-body result body (is_void result) item refl found
-value-body result body (item ∷ next ∷ items) found = absurd (cc)
+pub value-body : (result : CType) (body : Tree) (items : List Tree) → is_function_type result ≡ false → value_in (is_void result) items ≡ Some body → IsBodyOf result body items
+value-body result body [] object found = absurd (cc)
+value-body result body (item ∷ []) object found = item-body result body (is_void result) item object refl found
+value-body result body (item ∷ next ∷ items) object found = absurd (cc)
+
+-- what has no value is no function
+void-object : (result : CType) → is_void result ≡ true → is_function_type result ≡ false
+void-object void_type e = refl
+void-object (integer kind) e = refl
+void-object (pointer type) e = refl
+void-object (array type n) e = refl
+void-object (struct n) e = refl
+void-object (const type) e = refl
+void-object (function_type result kinds) e = absurd (false≢true e)
+
+pub body-object : (result : CType) (body : Tree) (items : List Tree) → IsBodyOf result body items → is_function_type result ≡ false
+body-object result body (node return kind spans (more_trees value no_trees) ∷ []) is = is.2
+body-object result body (node full kind spans (more_trees value no_trees) ∷ []) is = void-object result is.1
+body-object result body items is = absurd is
 
 pub no-value : (void : Bool) (items : List Tree) → (length items ≡ 1 → ⊥) → None ≡ value_in void items
 no-value void [] other = refl
@@ -113,17 +128,17 @@ module _ (types : Table) (new : TypedUnit) (it : Inserted) (entry : Declaration)
   function-only kind g others whole (added_enumerator d value) adds = absurd (subst (λ (k : As). IsOfKind k (added_enumerator d value)) kind adds.0.0)
   function-only kind g others whole (added_constant d value) adds = absurd (subst (λ (k : As). IsOfKind k (added_constant d value)) kind adds.0.0)
 
-  function-adds : it.kind ≡ kinds.Function → (g : ℕ) (others : List ℕ) (whole body : Tree) → g ≡ it.number → IsFunction others → value_in (is_void (result_of entry.kind)) (parts_of whole) ≡ Some body
+  function-adds : it.kind ≡ kinds.Function → (g : ℕ) (others : List ℕ) (whole body : Tree) → g ≡ it.number → IsFunction others → is_function_type (result_of entry.kind) ≡ false → value_in (is_void (result_of entry.kind)) (parts_of whole) ≡ Some body
       → FormAddsIt types new it (defines_function g others whole) (added_function g others body)
-  function-adds kind g others whole body is facts value = (
+  function-adds kind g others whole body is facts object value = (
     (subst (λ (k : As). IsOfKind k (added_function g others body)) (sym kind) tt, is),
-    (refl, refl, facts.0, (put-there g is, here g _ is (name, (facts.1, facts.2, value-body (result_of entry.kind) body (parts_of whole) value)))),
+    (refl, refl, facts.0, (put-there g is, here g _ is (name, (facts.1, facts.2, value-body (result_of entry.kind) body (parts_of whole) object value)))),
   )
 
-  pub function-found : it.kind ≡ kinds.Function → (g : ℕ) (others : List ℕ) (whole body : Tree) → g ≡ it.number → IsFunction others → value_in (is_void (result_of entry.kind)) (parts_of whole) ≡ Some body
+  pub function-found : it.kind ≡ kinds.Function → (g : ℕ) (others : List ℕ) (whole body : Tree) → g ≡ it.number → IsFunction others → is_function_type (result_of entry.kind) ≡ false → value_in (is_void (result_of entry.kind)) (parts_of whole) ≡ Some body
       → IsOnly (FormAddsIt types new it (defines_function g others whole)) (Some (added_function g others body))
-  function-found kind g others whole body is facts value = (
-    function-adds kind g others whole body is facts value,
+  function-found kind g others whole body is facts object value = (
+    function-adds kind g others whole body is facts object value,
     λ x adds.
         let only = function-only kind g others whole x adds in
         let both = sym only.4 ∙ value in
@@ -135,6 +150,16 @@ module _ (types : Table) (new : TypedUnit) (it : Inserted) (entry : Declaration)
       → IsOnly (FormAddsIt types new it (defines_function g others whole)) None
   no-function kind g others whole value x adds =
       let only = function-only kind g others whole x adds in let gone = value ∙ only.4 in absurd (cc)
+
+  -- a function that returns one adds nothing
+  returned-object : it.kind ≡ kinds.Function → (g : ℕ) (others : List ℕ) (whole : Tree) (added : Added) → FormAddsIt types new it (defines_function g others whole) added → is_function_type (result_of entry.kind) ≡ false
+  returned-object kind g others whole nothing adds = absurd adds.1
+  returned-object kind g others whole (added_function f parameters body) adds = body-object (result_of entry.kind) body (parts_of whole) (there f _ adds.0.1 adds.1.3.1).1.2
+  returned-object kind g others whole (added_enumerator d value) adds = absurd (subst (λ (k : As). IsOfKind k (added_enumerator d value)) kind adds.0.0)
+  returned-object kind g others whole (added_constant d value) adds = absurd (subst (λ (k : As). IsOfKind k (added_constant d value)) kind adds.0.0)
+
+  pub none-returned : it.kind ≡ kinds.Function → (g : ℕ) (others : List ℕ) (whole : Tree) → is_function_type (result_of entry.kind) ≡ true → IsOnly (FormAddsIt types new it (defines_function g others whole)) None
+  none-returned kind g others whole function x adds = absurd (true≢false (sym function ∙ returned-object kind g others whole x adds))
 
 -- what has a form is what the unit has
 module _ (types : Table) (new : TypedUnit) (it : Inserted) (external : External) (at : slice_get new.externals it.external ≡ Some external) where

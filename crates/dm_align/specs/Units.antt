@@ -18,7 +18,7 @@ use Rattle.dm_tree.specs.declared.unit.Linkage.{Linkage}
 use Rattle.dm_tree.specs.declared.unit.Linkage.TheVariants.{Internal}
 use Rattle.dm_tree.specs.Constants.{constant}
 use Rattle.dm_tree.specs.Paths.{all_in_trees}
-use Rattle.dm_tree.specs.Scenes.{is_void}
+use Rattle.dm_tree.specs.Scenes.{is_void, is_function as is_function_type}
 use Rattle.dm_tree.specs.Trees.{Label, sizeof_tree, sizeof_kind, full, return, Declarator, one_expression, Tree, node, no_trees, more_trees, label_of, trees_of, parts_of}
 use Rattle.dm_tree.specs.Units.{Declaration, External, ExternalForm, declares, defines_function, TypedUnit}
 use Rattle.dm_meaning.specs.Replaced.{renamed_declarator, Zipped}
@@ -79,9 +79,10 @@ abbrev pub result_of : CType → CType
 result_of (function_type result parameters) = bare result
 result_of type = type
 
--- the body is one `return` of the expression, or where the result is void one expression statement (6.8.6.4, 6.8.3)
+-- The body is one `return` of the expression, or where the result is void one expression statement (6.8.6.4, 6.8.3). A function returns no
+-- function (6.7.6.3p1).
 abbrev pub IsBodyOf : CType → Tree → List Tree → Type 0
-IsBodyOf result body (node return kind spans (more_trees value no_trees) ∷ []) = (body ≡ value) × (is_void result ≡ false)
+IsBodyOf result body (node return kind spans (more_trees value no_trees) ∷ []) = (body ≡ value) × (is_void result ≡ false) × (is_function_type result ≡ false)
 IsBodyOf result body (node full kind spans (more_trees value no_trees) ∷ []) = (body ≡ value) × (is_void result ≡ true)
 IsBodyOf result body items = ⊥
 

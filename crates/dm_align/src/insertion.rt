@@ -8,7 +8,7 @@ ghost use Rattle.dm_type.specs.Tables.{IsId, Table, type_of};
 ghost use Rattle.dm_tree.specs.declared.unit.Declared.{Declared as SeenDeclared};
 ghost use Rattle.dm_tree.specs.declared.unit.Linkage.TheVariants.{Internal};
 ghost use Rattle.dm_tree.specs.declared.unit.Sort.TheVariants.{Function, Object};
-ghost use Rattle.dm_tree.specs.Scenes.{is_void};
+ghost use Rattle.dm_tree.specs.Scenes.{is_function as is_function_type, is_void};
 ghost use Rattle.dm_tree.specs.Trees.{Declarator as SeenDeclarator, Tree, parts_of as parts_in};
 ghost use Rattle.dm_tree.specs.TypeNumbers.{are_known, are_known_in_local, entry_has_known, external_has_known, form_has_known};
 ghost use Rattle.dm_tree.specs.Units.{declares};
@@ -125,6 +125,9 @@ fn function_in<'a>(
     if !are_parameters(alloc, it, parameters.items())? {
         return Ok(None);
     }
+    if is_function_result(types, entry.kind) {
+        return Ok(None);
+    }
     let void = is_void_result(types, entry.kind);
     let Some(value) = value_in(alloc, void, body)? else {
         return Ok(None);
@@ -182,6 +185,32 @@ fn is_bare_void(types: &Types, kind: TypeId) -> bool
         Shape::Void => true,
         Shape::Const(inner) => match types.shape(*inner) {
             Shape::Void => true,
+            _ => false,
+        },
+        _ => false,
+    }
+}
+
+/// Whether a function of this type returns a function (6.7.6.3p1).
+fn is_function_result(types: &Types, kind: TypeId) -> bool
+    requires { IsId types.now kind }
+    ensures { result ≡ is_function_type (result_of (type_of types.now kind)) }
+{
+    match types.shape(kind) {
+        Shape::Function(answer, _) => is_bare_function(types, *answer),
+        _ => false,
+    }
+}
+
+/// Whether a type is that of a function, apart from its own const.
+fn is_bare_function(types: &Types, kind: TypeId) -> bool
+    requires { IsId types.now kind }
+    ensures { result ≡ is_function_type (bare (type_of types.now kind)) }
+{
+    match types.shape(kind) {
+        Shape::Function(_, _) => true,
+        Shape::Const(inner) => match types.shape(*inner) {
+            Shape::Function(_, _) => true,
             _ => false,
         },
         _ => false,

@@ -29,7 +29,7 @@ use Rattle.dm_meaning.proofs.OptionLemmas.{none_is_some, some_is_some, and_left,
 use Rattle.dm_effect.specs.Entities.{object_first}
 use Rattle.dm_effect.specs.Scoped.{is_in_scope, names_in_scope, scopes_of, same_scopes, is_scoped, are_scoped}
 use Rattle.dm_agree.specs.Agreement.{Rewriting, SameNode, IsReadOf, Here, here_below, BodyBy, SameBody, SameBodies, Left, left_at, standing_in, standing_below}
-use Rattle.dm_refine.specs.Calls.{HasNone, HasNoLengths, HaveNoLengths}
+use Rattle.dm_refine.specs.Calls.{HasNone, HasNoLengths, HaveNoLengths, IsNoLocal, NamesNoLocal, NameNoLocal, TypeNamesNone, AreTypesPlain, AllTypesPlain}
 use Rattle.dm_refine.proofs.ConstantTreeLemmas.{inside_declared}
 use Rattle.dm_refine.proofs.CoverLemmas.{agrees_covered}
 use Rattle.dm_refine.proofs.ReadFirstLemmas.{NamesNone, NameNone, IfFirst, OnlyFirst, OnlyFirstBelow, times_read, either}
@@ -55,6 +55,10 @@ same_position ps distinct m n d p e f = by_bool (m == n) refl
     by_bool : (b : Bool) → (m == n) ≡ b → (m == n) ≡ (d == p)
     by_bool true g = g ∙ sym (equal_is d p (some_is_some d p (sym e ∙ (ap (slice_get ps) (equal_of m n g) ∙ f))))
     by_bool false g = g ∙ sym (differ_is d p (λ same. true≢false (sym (equal_is m n (one_position ps distinct m n p (e ∙ ap Some same) f)) ∙ g)))
+
+both_true : (a b : Bool) → a ≡ true → b ≡ true → (a && b) ≡ true
+both_true true b e f = f
+both_true false b e f = absurd (false≢true e)
 
 pub or_other : (a b : Bool) → b ≡ false → (a || b) ≡ true → a ≡ true
 or_other true b e h = refl
@@ -110,18 +114,51 @@ names_first no_trees d e none = absurd (none_is_some d e)
 
 -- ---- scopes
 
+-- what names no automatic object does so in any scopes
+no_local_named : (automatic : ℕ → Bool) (scope : List ℕ) (label : Label) → IsNoLocal automatic label → names_in_scope automatic scope label ≡ true
+no_local_named automatic scope (object d) h = ap (λ b. not b || is_in_scope scope d) h
+no_local_named automatic scope label h = refl
+
+mutual
+  no_local_scoped : (automatic : ℕ → Bool) (scope : List ℕ) (tree : Tree) → NamesNoLocal automatic tree → is_scoped automatic scope tree ≡ true
+  no_local_scoped automatic scope (node label kind spans parts) h =
+      both_true (names_in_scope automatic scope label) _ (no_local_named automatic scope label h.0) (no_locals_scoped automatic (scopes_of scope label parts) parts h.1)
+
+  no_locals_scoped : (automatic : ℕ → Bool) (scopes : List (Option (List ℕ))) (trees : Trees) → NameNoLocal automatic trees → are_scoped automatic scopes trees ≡ true
+  no_locals_scoped automatic scopes no_trees h = refl
+  no_locals_scoped automatic [] (more_trees first rest) h = refl
+  no_locals_scoped automatic (None ∷ scopes) (more_trees first rest) h = no_locals_scoped automatic scopes rest h.1
+  no_locals_scoped automatic (Some scope ∷ scopes) (more_trees first rest) h =
+      both_true (is_scoped automatic scope first) _ (no_local_scoped automatic scope first h.0) (no_locals_scoped automatic scopes rest h.1)
+
 -- the parts of an expression stand in its scope
-pub scopes_inside : (automatic : ℕ → Bool) (scope : List ℕ) (label : Label) (parts : Trees) → is_statement label ≡ false → HasNone label parts
+pub scopes_inside : (automatic : ℕ → Bool) (scope : List ℕ) (label : Label) (parts : Trees) → is_statement label ≡ false → TypeNamesNone automatic label parts
     → are_scoped automatic (scopes_of scope label parts) parts ≡ true → are_scoped automatic (same_scopes scope parts) parts ≡ true
-scopes_inside automatic scope convert (more_trees operand no_trees) e none h = h
-scopes_inside automatic scope convert (more_trees operand (more_trees second rest)) e none h = absurd none
-scopes_inside automatic scope convert no_trees e none h = absurd none
-scopes_inside automatic scope (sizeof_kind type) no_trees e none h = h
-scopes_inside automatic scope (sizeof_kind type) (more_trees first rest) e none h = absurd none
+scopes_inside automatic scope convert no_trees e none h = h
+scopes_inside automatic scope convert (more_trees operand lengths) e none h =
+    both_true (is_scoped automatic scope operand) _ (and_left (is_scoped automatic scope operand) _ h) (no_locals_scoped automatic (same_scopes scope lengths) lengths none)
+scopes_inside automatic scope (sizeof_kind type) lengths e none h = no_locals_scoped automatic (same_scopes scope lengths) lengths none
 scopes_inside automatic scope (declare lengths declarators) parts e none h = absurd (true≢false e)
 scopes_inside automatic scope block parts e none h = absurd (true≢false e)
 scopes_inside automatic scope (for_loop first second third) parts e none h = absurd (true≢false e)
 scopes_inside automatic scope label parts e none h = h
+
+-- where type names have none of these, they name nothing
+none_named : (automatic : ℕ → Bool) (label : Label) (parts : Trees) → HasNone label parts → TypeNamesNone automatic label parts
+none_named automatic convert (more_trees operand no_trees) h = tt
+none_named automatic convert (more_trees operand (more_trees second rest)) h = absurd h
+none_named automatic convert no_trees h = absurd h
+none_named automatic (sizeof_kind type) no_trees h = tt
+none_named automatic (sizeof_kind type) (more_trees first rest) h = absurd h
+none_named automatic label parts h = tt
+
+mutual
+  pub without_lengths : (automatic : ℕ → Bool) (tree : Tree) → HasNoLengths tree → AreTypesPlain automatic tree
+  without_lengths automatic (node label kind spans parts) h = (none_named automatic label parts h.0, all_without_lengths automatic parts h.1)
+
+  all_without_lengths : (automatic : ℕ → Bool) (trees : Trees) → HaveNoLengths trees → AllTypesPlain automatic trees
+  all_without_lengths automatic no_trees h = tt
+  all_without_lengths automatic (more_trees first rest) h = (without_lengths automatic first h.0, all_without_lengths automatic rest h.1)
 
 -- a number that isn't among others
 pub not_in_scope : (c : ℕ) (ps : List ℕ) → ((p : ℕ) → IsAmong p ps → c ≡ p → ⊥) → is_in_scope ps c ≡ false
@@ -178,7 +215,7 @@ module _ (change : Called) (own : (p : ℕ) → IsAmong p change.added.parameter
     same_meaning label other e h = refl
 
     mutual
-      pub body_same : (rewriting : Rewriting) → rewriting.rename ≡ change.rename → (run : Run) (here : Here) (tree other : Tree) → is_expression tree ≡ true → is_scoped automatic ps tree ≡ true → HasNoLengths tree
+      pub body_same : (rewriting : Rewriting) → rewriting.rename ≡ change.rename → (run : Run) (here : Here) (tree other : Tree) → is_expression tree ≡ true → is_scoped automatic ps tree ≡ true → AreTypesPlain automatic tree
           → NamesNone ps tree → SameBody rewriting ps run here tree other → IsSame change tree other
       body_same rewriting r run here (node label kind spans parts) (node other other_kind other_spans others) expression scoped plain none h =
           let none_below : NameNone ps parts = λ p k. omega (arith, none p k) in
@@ -194,7 +231,7 @@ module _ (change : Called) (own : (p : ℕ) → IsAmong p change.added.parameter
           )
 
       bodies_same : (rewriting : Rewriting) → rewriting.rename ≡ change.rename → (run : Run) (label : Label) (spans : Spans) (trees others : Trees) → are_expressions trees ≡ true
-          → are_scoped automatic (same_scopes ps trees) trees ≡ true → HaveNoLengths trees → NameNone ps trees → SameBodies rewriting ps run label spans trees others → AreSame change trees others
+          → are_scoped automatic (same_scopes ps trees) trees ≡ true → AllTypesPlain automatic trees → NameNone ps trees → SameBodies rewriting ps run label spans trees others → AreSame change trees others
       bodies_same rewriting r run label spans no_trees no_trees expression scoped plain none h = tt
       bodies_same rewriting r run label spans no_trees (more_trees other others) expression scoped plain none h = absurd h
       bodies_same rewriting r run label spans (more_trees first rest) no_trees expression scoped plain none h = absurd h
@@ -242,7 +279,7 @@ module _ (change : Called) (own : (p : ℕ) → IsAmong p change.added.parameter
 
       mutual
         pub body_holds : (rewriting : Rewriting) → rewriting.rename ≡ change.rename → (run : Run) (scene : Scene) → scene.declared ≡ change.declared → (here : Here) (tree other : Tree) → IsWellTyped scene tree
-            → is_expression tree ≡ true → is_scoped automatic ps tree ≡ true → HasNoLengths tree → OnlyFirst ps tree → SameBody rewriting ps run here tree other
+            → is_expression tree ≡ true → is_scoped automatic ps tree ≡ true → AreTypesPlain automatic tree → OnlyFirst ps tree → SameBody rewriting ps run here tree other
             → AreGiven arguments (λ n. standing_in rewriting run n here other) → HoldsWhole change arguments tree other
         body_holds rewriting r run scene e here (node label kind spans parts) (node other other_kind other_spans others) typed expression scoped plain first h gives =
             let was = node other other_kind other_spans others in
@@ -264,7 +301,7 @@ module _ (change : Called) (own : (p : ℕ) → IsAmong p change.added.parameter
             (by_here rewriting ps here.occurrences here.runs label kind parts was _ h)
 
         bodies_hold : (rewriting : Rewriting) → rewriting.rename ≡ change.rename → (run : Run) (scene : Scene) → scene.declared ≡ change.declared → (label : Label) (spans : Spans) (opens : Open) (trees others : Trees)
-            → AreWellTyped scene trees → are_expressions trees ≡ true → are_scoped automatic (same_scopes ps trees) trees ≡ true → HaveNoLengths trees → OnlyFirstBelow ps opens trees
+            → AreWellTyped scene trees → are_expressions trees ≡ true → are_scoped automatic (same_scopes ps trees) trees ≡ true → AllTypesPlain automatic trees → OnlyFirstBelow ps opens trees
             → SameBodies rewriting ps run label spans trees others → AreGiven arguments (λ n. standing_below rewriting run n label spans others) → HoldsBelow change arguments opens trees others
         bodies_hold rewriting r run scene e label spans opens no_trees no_trees typed expression scoped plain first h gives = tt
         bodies_hold rewriting r run scene e label spans opens no_trees (more_trees other others) typed expression scoped plain first h gives = absurd h

@@ -39,7 +39,7 @@ use Rattle.dm_agree.specs.Agreement.{Added, added_function, here_at, AgreesWhole
 use Rattle.dm_agree.specs.Standing.{runs_at, extents_of}
 use Rattle.dm_align.specs.Units as aligned
 use Rattle.dm_align.specs.Units.{Insertion, are_different, moved, other_externals, FormAdds, rewriting_of, AreAligned}
-use Rattle.dm_refine.specs.Calls.{HasResult, HasNoLengths, IsEvaluated, AreOthersEvaluated, AreEvaluatedAtOnce}
+use Rattle.dm_refine.specs.Calls.{HasResult, HasPlainTypes, IsEvaluated, AreOthersEvaluated, AreEvaluatedAtOnce}
 use Rattle.dm_refine.proofs.AutomaticLemmas.{nowhere_local}
 use Rattle.dm_refine.proofs.CallGivesLemmas.{gives}
 use Rattle.dm_refine.proofs.CallLocalLemmas.{declarators_agree, locals_agree}
@@ -157,7 +157,7 @@ all_put put (q ∷ ps) h p (inr k) = all_put put ps h.1 p k
 
 module _ (old_types new_types : Table) (old new : TypedUnit) (runs : List Run) (old_typed : IsWellTypedUnit old_types old) (typed : IsWellTypedUnit new_types new) (scoped : IsScopedUnit new)
     (put : Insertion) (h : AreAligned old_types new_types old new runs (Some put)) (f : ℕ) (parameters : List ℕ) (body : Tree) (adds : put.added ≡ added_function f parameters body)
-    (lengths : HasNoLengths body) (evaluated : AreOthersEvaluated f put new) (at_once : AreEvaluatedAtOnce runs parameters body) where
+    (lengths : HasPlainTypes new body) (evaluated : AreOthersEvaluated f put new) (at_once : AreEvaluatedAtOnce runs parameters body) where
   -- an external declaration that fits, in whose scopes names stand, and whose operands of sizeof don't name the function
   abbrev Fits : External → Type 0
   Fits external = ExternalFits (file_scene new_types new.declared) external × IsTrue (is_scoped_external new.declared external) × AllByRecursion (IsEvaluated f) (trees_in_form external.form)

@@ -51,7 +51,8 @@ returns-clause-only c =
     subst (λ (form : ExternalForm). IsOnly (FormAddsIt types new it form) (Some (added_function c.in-Function.function c.items-2.result.now body))) (sym (ap (view_of_form types) c.in-Function.is))
     (subst (λ (numbers : List ℕ). IsOnly (FormAddsIt types new it (defines_function c.in-Function.function c.in-Function.parameters whole)) (Some (added_function c.in-Function.function numbers body)))
     (sym c.items-2.ensures)
-    (function-found types new it entry at c.requires.name c.requires.put c.requires.kind c.in-Function.function c.in-Function.parameters whole body c.if-function-it.false facts value))
+    (function-found types new it entry at c.requires.name c.requires.put c.requires.kind c.in-Function.function c.in-Function.parameters whole body c.if-function-it.false facts
+    (sym c.is_function_result.ensures ∙ c.if-is_function_result.false) value))
 
 pub returns-clause-known : goal.returns-clause-known
 returns-clause-known c =
