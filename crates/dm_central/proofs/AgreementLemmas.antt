@@ -18,6 +18,7 @@ use Rattle.dm_rewrite.specs.Aside.{Follows}
 use Rattle.dm_rewrite.specs.KeptMemory.{KeepsPlaces}
 use Rattle.dm_rewrite.specs.Effects.{Effect, Stage, effects_of, effects_in, Hits, IsFree, ChangesOnly, IsNoMore}
 use Rattle.dm_rewrite.proofs.AsideLemmas.{claims_kept}
+use Rattle.dm_central.specs.Standing.{StandsIn}
 use Rattle.dm_central.specs.Arguments.{ReadsApart, Way, at_once, untouched, IsFollowed, AllFollowed}
 use Rattle.dm_central.specs.Agreement.{Mode, outside, inside, IsReading, open_effects, beside_first, before_rest, AllUntouched, IsCall, BegunOutside, AllBegun, BegunPasses, BegunAgrees, AreUnbegun, IfOpen, IsPassed, RunAgrees, RunsAgree, PassesRun}
 
@@ -44,7 +45,7 @@ reads_kept stage beside world later k tree apart found e at among absent = by_it
 -- ---- while others change memory
 
 followed_kept : (stage : Stage) (beside : List Effect) (world later : World) → ChangesOnly stage beside world later → (tree : Tree) (aside : Run) → IsFollowed stage world beside tree aside → IsFollowed stage later beside tree aside
-followed_kept stage beside world later k tree aside h = record { pure = h.pure; pure_aside = h.pure_aside; typed = h.typed; apart = h.apart; follows = by_follows h.follows }
+followed_kept stage beside world later k tree aside h = record { pure = h.pure; pure_aside = h.pure_aside; typed = h.typed; apart = h.apart; follows = by_follows h.follows; parts = h.parts }
   where
     by_follows : Follows stage.scene world (begun tree) aside → Follows stage.scene later (begun tree) aside
     by_follows (inl e) = inl e
@@ -132,7 +133,7 @@ all_followed_first stage world beside (at_once ∷ ways) no_trees h = absurd h
 all_followed_first stage world beside (untouched tree ∷ ways) no_trees h = absurd h
 all_followed_first stage world beside (at_once ∷ ways) (more_trees first rest) h = all_followed_first stage world beside ways rest h
 all_followed_first stage world beside (untouched tree ∷ ways) (more_trees first rest) h = (
-  record { pure = h.1; pure_aside = subst (λ t. IsPure (begun t)) (sym h.0) h.1; typed = ap (λ t. kind_of_run (begun t)) h.0; apart = h.2; follows = inl (ap begun h.0) },
+  record { pure = h.1; pure_aside = subst (λ t. IsPure (begun t)) (sym h.0) h.1; typed = ap (λ t. kind_of_run (begun t)) h.0; apart = h.2; follows = inl (ap begun h.0); parts = λ part stands. subst (λ t. StandsIn (begun part) (begun t)) h.0 stands },
   all_followed_first stage world beside ways rest h.3,
 )
 
@@ -233,7 +234,7 @@ module _ (stage : Stage) where
   followed_beside_less world beside beside' c (untouched tree ∷ ways) no_runs h = absurd h
   followed_beside_less world beside beside' c (at_once ∷ ways) (more_runs first rest) h = followed_beside_less world beside beside' c ways rest h
   followed_beside_less world beside beside' c (untouched tree ∷ ways) (more_runs first rest) h =
-      (record { pure = h.0.pure; pure_aside = h.0.pure_aside; typed = h.0.typed; apart = apart_beside_less beside beside' (begun tree) c h.0.apart; follows = h.0.follows }, followed_beside_less world beside beside' c ways rest h.1)
+      (record { pure = h.0.pure; pure_aside = h.0.pure_aside; typed = h.0.typed; apart = apart_beside_less beside beside' (begun tree) c h.0.apart; follows = h.0.follows; parts = h.0.parts }, followed_beside_less world beside beside' c ways rest h.1)
 
 module _ (change : Called) (stage : Stage) (safe : Tree → Bool) where
   abbrev call_beside_less : (beside beside' : List Effect) → IsNoMore stage beside beside' → (label : Label) (kind : CType) (other : Tree) (arguments : Trees) → IsCall change stage safe beside label kind other arguments → IsCall change stage safe beside' label kind other arguments

@@ -5,17 +5,20 @@ use Rattle.dm_type.specs.CTypes.{CType}
 use Rattle.dm_tree.specs.Trees.{call, Tree}
 use Rattle.dm_meaning.specs.Among.{IsAmong}
 use Rattle.dm_meaning.specs.Operations.{World}
-use Rattle.dm_meaning.specs.Running.{evaluates, Run, Runs, no_runs, more_runs, begun, Holes, all_filled_in}
+use Rattle.dm_meaning.specs.Running.{evaluates, Run, Runs, no_runs, more_runs, begun, Holes, all_filled_in, locks_in, locks_in_all}
 use Rattle.dm_meaning.specs.Called.{Called}
 use Rattle.dm_meaning.specs.CalledWithAll.{given, AreDistinct}
+use Rattle.dm_meaning.specs.Extending.{AreAmong}
 use Rattle.dm_meaning.proofs.OptionLemmas.{none_is_some, some_is_some}
 use Rattle.dm_meaning.proofs.StandLemmas.{run_list, given_first, given_later}
 use Rattle.dm_rewrite.specs.Effects.{Effect, Stage, effects_in}
-use Rattle.dm_central.specs.Arguments.{Way, at_once, untouched, runs_at, trees_at, AllFollowed, StandsWhole, ReadsFirst, StandsOpen}
+use Rattle.dm_central.specs.Standing.{StandsIn}
+use Rattle.dm_central.specs.Arguments.{Way, at_once, untouched, runs_at, trees_at, AllFollowed, StandsWhole, ReadsSomewhere, ReadsFirst, StandsOpen}
 use Rattle.dm_central.specs.ArgumentSteps.{IsAtOnce, StandsOnce}
 use Rattle.dm_central.specs.Agreement.{Mode, IsPassed}
 use Rattle.dm_central.proofs.FirstPlaceLemmas.{whole_there}
 use Rattle.dm_central.proofs.PlaceLemmas.{part_of}
+use Rattle.dm_central.proofs.SomewhereLemmas.{whole_somewhere, whole_locks, given_locks}
 
 -- the parameter of an untouched argument
 record IsNumbered (ps : List ℕ) (ways : List Way) (inner : Runs) (tree : Tree) : Type 0 where
@@ -94,3 +97,17 @@ module _ (change : Called) (stage : Stage) (mode : Mode) (world : World) (beside
       let at = numbered_at stage world (effects_in stage inner ++ beside) change.added.parameters distinct passed.ways inner passed.followed passed.each tree among in
       whole_there change (given change.added.parameters (trees_at passed.ways)) at.number (own at.number at.among) tree at.there (given change.added.parameters passed.kinds) (given change.added.parameters (runs_at passed.ways inner))
       (λ run f. none_is_some run (some_is_some None (Some run) (sym at.no_run ∙ f))) change.body other passed.stands (reads at.number at.way)
+
+  -- each untouched argument whose parameter is read
+  pub somewhere_there : (tree : Tree) → IsAmong (untouched tree) passed.ways → ((p : ℕ) → given change.added.parameters passed.ways p ≡ Some (untouched tree) → ReadsSomewhere p change.body)
+      → StandsIn (begun tree) other
+  somewhere_there tree among reads =
+      let at = numbered_at stage world (effects_in stage inner ++ beside) change.added.parameters distinct passed.ways inner passed.followed passed.each tree among in
+      whole_somewhere change (given change.added.parameters (trees_at passed.ways)) at.number (own at.number at.among) tree at.there (given change.added.parameters passed.kinds) (given change.added.parameters (runs_at passed.ways inner))
+      (λ run f. none_is_some run (some_is_some None (Some run) (sym at.no_run ∙ f))) change.body other passed.stands (reads at.number at.way)
+
+  -- what is locked in the expression is locked in the arguments
+  pub argument_locks : AreAmong (locks_in other) (locks_in_all inner)
+  argument_locks =
+      whole_locks change (given change.added.parameters passed.kinds) (given change.added.parameters (trees_at passed.ways)) (given change.added.parameters (runs_at passed.ways inner)) (locks_in_all inner)
+      (λ p run e. given_locks change.added.parameters passed.ways inner p run e) change.body other passed.stands

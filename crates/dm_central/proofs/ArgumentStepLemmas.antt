@@ -16,26 +16,27 @@ use Rattle.dm_rewrite.specs.Effects.{Effect, Stage}
 use Rattle.dm_rewrite.proofs.AsideLemmas.{aside_step}
 use Rattle.dm_central.specs.Arguments.{Way, at_once, untouched, IsFollowed, AllFollowed, runs_at}
 use Rattle.dm_central.specs.ArgumentSteps.{IsAtOnce, ArgumentStep}
+use Rattle.dm_central.proofs.StandingLemmas.{step_no_more}
 
 module _ (stage : Stage) (world : World) (locks : List At) (beside : List Effect) where
   aside_first : (tree : Tree) (ways : List Way) (aside : Run) (rest : Runs) → IsFollowed stage world beside tree aside → AllFollowed stage world beside ways rest
-      → (x : Move Run Hole) → AsideFits stage.scene world locks (begun tree) x
+      → (x : Move Run Hole) → IsAmong x (moves stage.scene world locks aside) → AsideFits stage.scene world locks (begun tree) x
       → ArgumentStep stage world locks beside (untouched tree ∷ ways) (more_runs aside rest) (lifted (λ run. more_runs run rest) (λ hole. in_first hole rest) x)
-  aside_first tree ways aside rest h others (goes after later) f = by_claims f.3
+  aside_first tree ways aside rest h others (goes after later) k f = by_claims f.3
     where
       by_claims : Claims stage.scene world (begun tree) later ⊎ Meets locks (computed stage.scene world (begun tree))
           → ArgumentStep stage world locks beside (untouched tree ∷ ways) (more_runs aside rest) (goes after (more_runs later rest))
       by_claims (inl claims) = inr (inl (record {
         later = more_runs later rest;
         is = ap (λ w. goes w (more_runs later rest)) f.0;
-        followed = (record { pure = h.pure; pure_aside = f.1; typed = f.2; apart = h.apart; follows = inr claims }, others);
+        followed = (record { pure = h.pure; pure_aside = f.1; typed = f.2; apart = h.apart; follows = inr claims; parts = λ part stands. h.parts part (step_no_more stage.scene world locks aside later after k part stands) }, others);
         same = refl;
         count = refl;
       }))
       by_claims (inr meets) = inr (inr (record { tree = tree; among = inl refl; meets = meets }))
-  aside_first tree ways aside rest h others (calls f arguments kind hole) g = absurd g
-  aside_first tree ways aside rest h others (fails cause place) g = inr (inr (record { tree = tree; among = inl refl; meets = g }))
-  aside_first tree ways aside rest h others (exits status) g = absurd g
+  aside_first tree ways aside rest h others (calls f arguments kind hole) k g = absurd g
+  aside_first tree ways aside rest h others (fails cause place) k g = inr (inr (record { tree = tree; among = inl refl; meets = g }))
+  aside_first tree ways aside rest h others (exits status) k g = absurd g
 
   runs_after : (way : Way) (ways : List Way) (first : Run) (later rest : Runs) → runs_at ways later ≡ runs_at ways rest → runs_at (way ∷ ways) (more_runs first later) ≡ runs_at (way ∷ ways) (more_runs first rest)
   runs_after at_once ways first later rest e = ap (λ rs. Some first ∷ rs) e
@@ -101,7 +102,7 @@ module _ (stage : Stage) (world : World) (locks : List At) (beside : List Effect
       by_either (untouched tree) f (inl l) later =
           let from = among-map_from (lifted (λ run. more_runs run rest) (λ hole. in_first hole rest)) m _ l in
           subst (ArgumentStep stage world locks beside (untouched tree ∷ ways) (more_runs first rest)) (sym from.2)
-          (aside_first tree ways first rest f.0 f.1 from.0 (aside_step stage.scene world locks (begun tree) first f.0.pure f.0.pure_aside f.0.typed f.0.follows from.0 from.1))
+          (aside_first tree ways first rest f.0 f.1 from.0 from.1 (aside_step stage.scene world locks (begun tree) first f.0.pure f.0.pure_aside f.0.typed f.0.follows from.0 from.1))
       by_either w f (inr l) later =
           let from = among-map_from (lifted (more_runs first) (in_others first)) m _ l in
           subst (ArgumentStep stage world locks beside (w ∷ ways) (more_runs first rest)) (sym from.2) (in_rest w ways first rest f from.0 (later from.0 from.1))

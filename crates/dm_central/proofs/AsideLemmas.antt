@@ -29,7 +29,7 @@ use Rattle.dm_meaning.proofs.ShrinkLemmas.{left_in, hole_left, Leaves as LeavesL
 use Rattle.dm_meaning.proofs.YieldLemmas.{begun_yields, Yields, MoveYields, move_yields_on}
 use Rattle.dm_rewrite.specs.Closed.{ResultAvoids, IsClosedIn}
 use Rattle.dm_rewrite.specs.Computed.{Computed, computed, IsPure}
-use Rattle.dm_rewrite.specs.Effects.{Stage, ChangesOnly}
+use Rattle.dm_rewrite.specs.Effects.{Effect, Stage, ChangesOnly}
 use Rattle.dm_rewrite.specs.PureSteps.{Meets, StepKeeps}
 use Rattle.dm_rewrite.proofs.AsideLemmas.{filled_pure, part_pure}
 use Rattle.dm_rewrite.proofs.ClosedRunLemmas.{run_clear}
@@ -246,8 +246,8 @@ module _ (change : Called) (known : Known) (calling : CallsInPlace change known)
         same_names : MeanTheSame change (inside entries) inner_objects (other.statics ++ other.frame.objects)
         same_names d allowed = same_named change.old change.rename calling.injective other steady.names (objects_in first) d (none_named change.rename first held.own d) allowed
 
-        not_safe : AreSafe stage (inside entries) other.world []
-        not_safe safe e tree is meets = inside_not_outside entries safe e
+        not_safe : (locks : List At) (effects : List Effect) (here : Run) → AreSafe stage (inside entries) other.world locks effects here
+        not_safe locks effects here safe e = absurd (inside_not_outside entries safe e)
 
         stays : (m : Move Run Hole) → MoveYields caller.kind m → LeavesLess (left_in (to_do doing kind here_at parts)) m → (next_run later : Run) → m ≡ goes other.world next_run
             → RunAgrees change stage (inside entries) other.world [] next_run later ⊎ IsReading change (inside entries) next_run later → IsGhost later
@@ -317,10 +317,10 @@ module _ (change : Called) (known : Known) (calling : CallsInPlace change known)
             → Found (moved (new_of change) names (in_added (evaluates place (to_do doing kind here_at parts) returns ∷ [])) [] place returns m)
         by_part m y l (inl h) fewer among =
             by_match m y l (run_matched change calling.added inner_objects (other.statics ++ other.frame.objects) (closed_numbers known.closed other.frame.objects) known.quiet (inside entries) same_names other.world
-            (locks_in (to_do doing kind here_at parts)) [] fewer (all_ready (locks_in (to_do doing kind here_at parts)) fewer) steady.avoids not_safe [] (to_do doing kind here_at parts) run h (λ n c. inl (ghost.closed n c)) m among)
+            (locks_in (to_do doing kind here_at parts)) [] fewer (all_ready (locks_in (to_do doing kind here_at parts)) fewer) steady.avoids [] (to_do doing kind here_at parts) run h (not_safe [] [] run) (λ n c. inl (ghost.closed n c)) m among)
         by_part m y l (inr h) fewer among =
             by_reading (read_met change calling.added inner_objects (other.statics ++ other.frame.objects) (closed_numbers known.closed other.frame.objects) known.quiet (inside entries) same_names other.world
-            (locks_in (to_do doing kind here_at parts)) [] fewer (all_ready (locks_in (to_do doing kind here_at parts)) fewer) steady.avoids not_safe [] (to_do doing kind here_at parts) run h m among)
+            (locks_in (to_do doing kind here_at parts)) [] fewer (all_ready (locks_in (to_do doing kind here_at parts)) fewer) steady.avoids [] (to_do doing kind here_at parts) run h m among)
           where
             by_reading : MetTree change stage (inside entries) other.world [] [] run m ⊎ ((later : Run) × (m ≡ goes other.world later) × IsReading change (inside entries) later run)
                 → Found (moved (new_of change) names (in_added (evaluates place (to_do doing kind here_at parts) returns ∷ [])) [] place returns m)

@@ -12,7 +12,7 @@ use Rattle.dm_meaning.specs.Running.{Doing, evaluates, gives_truth, gives_value,
 use Rattle.dm_meaning.specs.Expressions.{Move, goes, calls, fails, exits, lifted, moves, moves_in, kind_of_run}
 use Rattle.dm_meaning.specs.Steps.{lacks_value}
 use Rattle.dm_meaning.specs.Called.{Called}
-use Rattle.dm_meaning.specs.CalledWithAll.{given, AreDistinct}
+use Rattle.dm_meaning.specs.CalledWithAll.{given}
 use Rattle.dm_meaning.proofs.AmongLemmas.{among_left, among_right}
 use Rattle.dm_meaning.proofs.MoveLemmas.{move_lifts, moves_lift}
 use Rattle.dm_meaning.proofs.MatchLemmas.{IsNamedRun, filled_twice, all_filled_twice}
@@ -28,7 +28,8 @@ use Rattle.dm_rewrite.proofs.AsideLemmas.{filled_pure, part_pure, fails_inside, 
 use Rattle.dm_rewrite.proofs.EffectLemmas.{writes_keep, moves_write}
 use Rattle.dm_rewrite.proofs.ShrinkEffectLemmas.{AllFirst, run_calm, MovesCalm, runs_calm}
 use Rattle.dm_rewrite.proofs.ClosedRunLemmas.{runs_clear}
-use Rattle.dm_central.specs.Arguments.{Way, at_once, untouched, IsFollowed, AllFollowed, runs_at, trees_at, StandsWhole, ReadsFirst}
+use Rattle.dm_central.specs.Added.{IsAdded}
+use Rattle.dm_central.specs.Arguments.{Way, at_once, untouched, IsFollowed, AllFollowed, runs_at, trees_at, StandsWhole, ReadsSomewhere, ReadsFirst}
 use Rattle.dm_central.specs.Agreement.{Mode, is_inside, AreClosedIn, IsPassed, RunAgrees, RunsAgree}
 use Rattle.dm_central.specs.ArgumentSteps.{IsAtOnce, StepsAtOnce, StepsAside, FailsNow, ArgumentStep}
 use Rattle.dm_central.specs.Outcomes.{AvoidsClosed, Entered, GivesOne, AgreesBehind, AllAgreeBehind, StepAgrees, StepsAgree, Met, AreSafe}
@@ -36,6 +37,8 @@ use Rattle.dm_central.proofs.PartLemmas.{part_first_in, no_place_closed}
 use Rattle.dm_central.proofs.AgreementLemmas.{Included, changes_more, all_followed_kept, no_more_both, followed_beside_less}
 use Rattle.dm_central.proofs.ArgumentStepLemmas.{argument_step}
 use Rattle.dm_central.proofs.ArgumentPlaceLemmas.{at_once_there, first_there}
+use Rattle.dm_central.proofs.SafeLemmas.{safe_argument}
+use Rattle.dm_central.proofs.StandingLemmas.{result_no_more}
 
 -- ---- effects of parts
 
@@ -181,10 +184,9 @@ module _ (scene : Scene) (world : World) (locks : List At) where
       let met = subst (Meets locks) c.is_now meets in
       subst (Meets locks) (sym c.is) (met.0, c.leads.fewer met.0 met.1, met.2)
 
-module _ (change : Called) (stage : Stage) (mode : Mode) (world : World) (locks : List At) (beside : List Effect) (distinct : AreDistinct change.added.parameters)
-    (own : (p : ℕ) → IsAmong p change.added.parameters → (c : ℕ) → change.rename c ≡ p → ⊥)
+module _ (change : Called) (stage : Stage) (mode : Mode) (world : World) (locks : List At) (beside : List Effect) (added : IsAdded change)
     (kind : CType) (place : Place) (other : Run) (inner : Runs) (passed : IsPassed change stage mode world beside (evaluates call) kind other inner) (named : Run) (is_named : IsNamedRun change named)
-    (avoid : (n : ℕ) → IsAmong n stage.closed → MemoryAvoids n world.memory) (safe : AreSafe stage mode world locks) (shut : AllFirst stage world locks other) where
+    (avoid : (n : ℕ) → IsAmong n stage.closed → MemoryAvoids n world.memory) (safe : AreSafe stage mode world locks beside other) (shut : AllFirst stage world locks other) where
   -- ---- what steps of the old arguments change
 
   lifts : (holes : Holes) (run : Run) (m : Move Run Hole) → AreOpen every holes → inner ≡ all_filled_in holes run → IsAmong m (moves stage.scene world locks run)
@@ -308,10 +310,11 @@ module _ (change : Called) (stage : Stage) (mode : Mode) (world : World) (locks 
   failed_met : FailsNow stage world locks passed.ways → (m : Move Run Hole) → Met change stage mode world locks beside other m
   failed_met failing m = by_place (passed.late failing.tree failing.among)
     where
-      by_place : (passed.safe failing.tree ≡ true) ⊎ ((p : ℕ) → given change.added.parameters passed.ways p ≡ Some (untouched failing.tree) → ReadsFirst p change.body) → Met change stage mode world locks beside other m
-      by_place (inl e) = absurd (safe passed.safe passed.elsewhere failing.tree e failing.meets)
+      by_place : ((passed.safe failing.tree ≡ true) × ((p : ℕ) → given change.added.parameters passed.ways p ≡ Some (untouched failing.tree) → ReadsSomewhere p change.body))
+          ⊎ ((p : ℕ) → given change.added.parameters passed.ways p ≡ Some (untouched failing.tree) → ReadsFirst p change.body) → Met change stage mode world locks beside other m
+      by_place (inl h) = absurd (safe_argument change stage mode world locks added beside kind other inner passed safe failing.tree failing.among h.0 failing.meets)
       by_place (inr reads) =
-          let there = first_there change stage mode world beside distinct own kind other inner passed failing.tree failing.among reads in
+          let there = first_there change stage mode world beside added.distinct added.own kind other inner passed failing.tree failing.among reads in
           inr (inr (inr (inl (record {
             hole = there.hole;
             opened = there.opened;
@@ -324,7 +327,7 @@ module _ (change : Called) (stage : Stage) (mode : Mode) (world : World) (locks 
   -- a step of an argument that stands in the old program
   at_once_met : (x n : Move Runs Holes) → MoveYieldsAll passed.kinds x → StepsAgree change stage mode world [] beside every x n → (s : StepsAtOnce stage.scene world locks passed.ways inner n) → IsAmong n (moves_in stage.scene world locks every inner) → Met change stage mode world locks beside other (lifted calling_run calling_hole x)
   at_once_met x n y agrees s among =
-      let part = at_once_there change stage mode world beside distinct own kind other inner passed s.holes s.run s.is s.position in
+      let part = at_once_there change stage mode world beside added.distinct added.own kind other inner passed s.holes s.run s.is s.position in
       let opened = part.opened s.opened in
       inl (record {
         step = lifted (filled_in part.hole) (hole_in part.hole) s.step;
@@ -478,7 +481,7 @@ module _ (change : Called) (stage : Stage) (mode : Mode) (world : World) (locks 
     where
       by_position : IsAtOnce passed.ways holes ⊎ IsAside passed.ways world (effects_in stage inner ++ beside) holes tree → Met change stage mode world locks beside other m
       by_position (inl i) =
-          let part = at_once_there change stage mode world beside distinct own kind other inner passed holes tree e i in
+          let part = at_once_there change stage mode world beside added.distinct added.own kind other inner passed holes tree e i in
           inr (inr (inr (inl (record { hole = part.hole; opened = part.opened open_there; tree = tree; pure = pure; is = part.is; meets = meets }))))
       by_position (inr a) =
           let inside = meets_inside stage.scene world locks a.hole (a.opened open_there) tree a.followed.pure_aside meets in
@@ -505,7 +508,7 @@ module _ (change : Called) (stage : Stage) (mode : Mode) (world : World) (locks 
     -- the argument stands in the old program: so does the expression
     entered_at_once : GivesOne stage world called_kind run → kind_of_run run ≡ called_kind → Entered change stage world values called_kind run → IsAtOnce passed.ways other_holes → Met change stage mode world locks beside other (lifted calling_run calling_hole (calls change.added.function values called_kind holes))
     entered_at_once gives typed entered i =
-        let part = at_once_there change stage mode world beside distinct own kind other inner passed other_holes run is_inner i in
+        let part = at_once_there change stage mode world beside added.distinct added.own kind other inner passed other_holes run is_inner i in
         inr (inr (inr (inr (inl (record {
           elsewhere = elsewhere;
           values = values;
@@ -553,7 +556,7 @@ module _ (change : Called) (stage : Stage) (mode : Mode) (world : World) (locks 
           let claims = subst (λ r. Claims stage.scene world (begun a.tree) (filled_in a.hole r)) result_is h.claims in
           let after_pure = filled_pure a.hole run filler a.followed.pure_aside refl in
           let follows_now : IsFollowed stage world around a.tree filled =
-          record { pure = a.followed.pure; pure_aside = after_pure; typed = same_kind a.hole filler run (sym typed) ∙ a.followed.typed; apart = a.followed.apart; follows = inr claims } in
+          record { pure = a.followed.pure; pure_aside = after_pure; typed = same_kind a.hole filler run (sym typed) ∙ a.followed.typed; apart = a.followed.apart; follows = inr claims; parts = λ part stands. a.followed.parts part (result_no_more a.hole run called_kind (of_value value) [] part stands) } in
           let now = a.again world filler followed_here follows_now in
           let same_effects : effects_in stage inner ≡ effects_in stage (all_filled_in other_holes filler) = ap (effects_in stage) is_inner ∙ sym (a.effects filler after_pure) in
           inr (inr (inr (inr (inr (record {

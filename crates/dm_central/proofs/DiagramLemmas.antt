@@ -35,6 +35,7 @@ use Rattle.dm_central.specs.NodeSteps.{new_scene, old_stage, MeanTheSame}
 use Rattle.dm_central.specs.Outcomes.{StepAgrees, Enters, Met, AreSafe, IsClaimed, IsReady, AreReady}
 use Rattle.dm_central.proofs.FactLemmas.{PartAgrees, begun_kind, same_operands, as_call}
 use Rattle.dm_central.proofs.NodeLemmas.{node_agrees}
+use Rattle.dm_central.proofs.SafeLemmas.{AllSafe, safe_below, safe_first, safe_rest, safe_arguments}
 use Rattle.dm_central.proofs.CallLemmas.{arguments_stepped, arguments_stood, arguments_failed, arguments_entered, arguments_entered_aside}
 use Rattle.dm_central.proofs.OutcomeLemmas.{MetIn, PartMet, node_met, first_met, rest_met}
 use Rattle.dm_central.proofs.EnteredLemmas.{target_begun, all_come, call_enters}
@@ -78,7 +79,7 @@ module _ (scene : Scene) (world : World) (locks : List At) where
 
 module _ (change : Called) (added : IsAdded change) (objects others : Objects) (closed : List ℕ) (quiet : ℕ → Bool) (mode : Mode) (same_objects : MeanTheSame change mode objects others) (world : World)
     (fewer locks : List At) (among : AreAmong fewer locks) (ready : AreReady change mode objects (old_stage change others closed quiet) world fewer)
-    (avoid : (n : ℕ) → IsAmong n closed → MemoryAvoids n world.memory) (safe : AreSafe (old_stage change others closed quiet) mode world locks) where
+    (avoid : (n : ℕ) → IsAmong n closed → MemoryAvoids n world.memory) where
   abbrev stage : Stage
   stage = old_stage change others closed quiet
 
@@ -93,6 +94,12 @@ module _ (change : Called) (added : IsAdded change) (objects others : Objects) (
 
   abbrev PartHere : List Effect → Run → Move Run Hole → Type 0
   PartHere beside other m = PartMet change stage mode world locks beside other m
+
+  abbrev SafeHere : List Effect → Run → Type 0
+  SafeHere beside other = AreSafe stage mode world locks beside other
+
+  abbrev SafeThere : List Effect → List Effect → Open → Runs → Type 0
+  SafeThere before beside opens other_parts = AllSafe change stage mode world locks before beside opens other_parts
 
   -- ---- a parameter is read
 
@@ -224,7 +231,7 @@ module _ (change : Called) (added : IsAdded change) (objects others : Objects) (
   named_run kind place = to_do (evaluates (function change.added.function)) kind place no_runs
 
   module _ (beside : List Effect) (kind : CType) (place : Place) (other : Run) (inner : Runs) (passed : IsPassed change stage mode world beside (evaluates call) kind other inner) (named_kind : CType) (named_place : Place)
-      (shut : AllFirst stage world locks other) where
+      (safe : SafeHere beside other) (shut : AllFirst stage world locks other) where
     abbrev named : Run
     named = named_run named_kind named_place
 
@@ -249,19 +256,19 @@ module _ (change : Called) (added : IsAdded change) (objects others : Objects) (
     -- a step of an argument
     argument_met : (x : Move Runs Holes) → MoveYieldsAll passed.kinds x → MetThere [] beside every inner x → MetHere beside other (lifted calling_run calling_hole x)
     argument_met x y (inl s) =
-        arguments_stepped change stage mode world locks beside added.distinct added.own kind place other inner passed named is_named avoid safe shut x s.step y s.among s.agrees
+        arguments_stepped change stage mode world locks beside added kind place other inner passed named is_named avoid safe shut x s.step y s.among s.agrees
     argument_met x y (inr (inl s)) =
-        arguments_stood change stage mode world locks beside added.distinct added.own kind place other inner passed named is_named avoid safe shut x y s.runs s.is s.agrees
+        arguments_stood change stage mode world locks beside added kind place other inner passed named is_named avoid safe shut x y s.runs s.is s.agrees
     argument_met x y (inr (inr (inl e))) = absurd (true≢false (sym e.inner ∙ ap is_inside passed.elsewhere))
     argument_met x y (inr (inr (inr (inl f)))) =
-        arguments_failed change stage mode world locks beside added.distinct added.own kind place other inner passed named is_named avoid safe shut (lifted calling_run calling_hole x) f.holes f.opened f.tree f.pure f.is f.meets
+        arguments_failed change stage mode world locks beside added kind place other inner passed named is_named avoid safe shut (lifted calling_run calling_hole x) f.holes f.opened f.tree f.pure f.is f.meets
     argument_met x y (inr (inr (inr (inr (inl e))))) =
         subst (λ z. MetHere beside other (lifted calling_run calling_hole z)) (sym e.called)
-        (arguments_entered change stage mode world locks beside added.distinct added.own kind place other inner passed named is_named avoid safe shut e.elsewhere e.values e.kind e.holes e.other_holes e.opened e.run e.is e.no_name e.agrees
+        (arguments_entered change stage mode world locks beside added kind place other inner passed named is_named avoid safe shut e.elsewhere e.values e.kind e.holes e.other_holes e.opened e.run e.is e.no_name e.agrees
         (subst (MoveYieldsAll passed.kinds) e.called y) e.gives e.typed e.entered)
     argument_met x y (inr (inr (inr (inr (inr e))))) =
         subst (λ z. MetHere beside other (lifted calling_run calling_hole z)) (sym e.called)
-        (arguments_entered_aside change stage mode world locks beside added.distinct added.own kind place other inner passed named is_named avoid safe shut e.elsewhere e.values e.kind e.holes e.run e.pure e.found e.is e.value e.comes e.lacks e.entered e.closed
+        (arguments_entered_aside change stage mode world locks beside added kind place other inner passed named is_named avoid safe shut e.elsewhere e.values e.kind e.holes e.run e.pure e.found e.is e.value e.comes e.lacks e.entered e.closed
         (subst (MoveYieldsAll passed.kinds) e.called y) e.agrees)
 
     -- a step of a call
@@ -292,32 +299,34 @@ module _ (change : Called) (added : IsAdded change) (objects others : Objects) (
     pub is : parts ≡ more_runs (named_run named_kind named_place) rest
     pub yields : AllYield kinds rest
     pub agrees : RunsAgree change stage mode world [] beside every rest inner
-    pub steps : AllRuns stage world locks only_closed inner → (m : Move Runs Holes) → IsAmong m (moves_in scene world fewer every rest) → MetThere [] beside every inner m
+    pub steps : SafeThere [] beside every inner → AllRuns stage world locks only_closed inner → (m : Move Runs Holes) → IsAmong m (moves_in scene world fewer every rest) → MetThere [] beside every inner m
 
   call_matched : (beside : List Effect) (doing : Doing) (kind : CType) (place : Place) (parts : Runs) (other : Run) (inner : Runs) (passed : IsPassed change stage mode world beside doing kind other inner)
-      → Passing beside passed.kinds parts inner → AllFirst stage world locks other → (m : Move Run Hole) → IsAmong m (moves scene world fewer (to_do doing kind place parts)) → MetHere beside other m
-  call_matched beside doing kind place parts other inner passed passing shut m k =
-      call_steps beside kind place other inner (as_call change added stage mode world beside doing kind other inner passed) passing.named_kind passing.named_place shut passing.rest passing.yields passing.agrees
-      (passing.steps passed.closed) (operands_in every passing.rest) refl m
+      → Passing beside passed.kinds parts inner → SafeHere beside other → AllFirst stage world locks other → (m : Move Run Hole) → IsAmong m (moves scene world fewer (to_do doing kind place parts)) → MetHere beside other m
+  call_matched beside doing kind place parts other inner passed passing safe shut m k =
+      let called_here = as_call change added stage mode world beside doing kind other inner passed in
+      call_steps beside kind place other inner called_here passing.named_kind passing.named_place safe shut passing.rest passing.yields passing.agrees
+      (passing.steps (safe_arguments change stage mode world locks added beside kind other inner called_here safe) passed.closed) (operands_in every passing.rest) refl m
       (subst (λ d. IsAmong m (moves scene world fewer (to_do d kind place (more_runs (named_run passing.named_kind passing.named_place) passing.rest)))) passed.is
       (subst (λ ps. IsAmong m (moves scene world fewer (to_do doing kind place ps))) passing.is k))
 
   -- ---- all trees
 
   first_or_rest : (before beside : List Effect) (may : May) (opens : Open) → (may ≡ unseen → first_open opens ≡ false) → (first : Run) (rest : Runs) (other : Run) (other_parts : Runs)
-      → RunsAgree change stage mode world before beside opens (more_runs first rest) (more_runs other other_parts) → AllRuns stage world locks may (more_runs other other_parts)
-      → (RunAgrees change stage mode world (beside_first stage opens before beside other_parts) first other → AllFirst stage world locks other → (x : Move Run Hole) → IsAmong x (moves scene world fewer first)
+      → RunsAgree change stage mode world before beside opens (more_runs first rest) (more_runs other other_parts) → SafeThere before beside opens (more_runs other other_parts) → AllRuns stage world locks may (more_runs other other_parts)
+      → (RunAgrees change stage mode world (beside_first stage opens before beside other_parts) first other → SafeHere (beside_first stage opens before beside other_parts) other → AllFirst stage world locks other → (x : Move Run Hole) → IsAmong x (moves scene world fewer first)
       → MetHere (beside_first stage opens before beside other_parts) other x)
-      → ((x : Move Runs Holes) → IsAmong x (moves_in scene world fewer (others_open opens) rest) → MetThere (before_rest stage opens before other) beside (others_open opens) other_parts x)
+      → (SafeThere (before_rest stage opens before other) beside (others_open opens) other_parts → (x : Move Runs Holes) → IsAmong x (moves_in scene world fewer (others_open opens) rest) → MetThere (before_rest stage opens before other) beside (others_open opens) other_parts x)
       → (m : Move Runs Holes)
       → IsAmong m (where_open (first_open opens) (map (lifted (λ run. more_runs run rest) (λ hole. in_first hole rest)) (moves scene world fewer first)))
       ⊎ IsAmong m (map (lifted (more_runs first) (in_others first)) (moves_in scene world fewer (others_open opens) rest))
       → MetThere before beside opens (more_runs other other_parts) m
-  first_or_rest before beside may opens shut first rest other other_parts h all one more m (inr k) =
+  first_or_rest before beside may opens shut first rest other other_parts h safe all one more m (inr k) =
       let from = among-map_from (lifted (more_runs first) (in_others first)) m _ k in
       subst (MetThere before beside opens (more_runs other other_parts)) (sym from.2)
-      (rest_met change stage mode world locks avoid before beside opens first rest other other_parts h (λ n c. (all n c).1) from.0 (more from.0 from.1))
-  first_or_rest before beside may opens shut first rest other other_parts h all one more m (inl k) = by_open (first_open opens) refl h.0 k
+      (rest_met change stage mode world locks avoid before beside opens first rest other other_parts h (λ n c. (all n c).1) from.0
+      (more (safe_rest change stage mode world locks before beside opens first rest other other_parts h safe) from.0 from.1))
+  first_or_rest before beside may opens shut first rest other other_parts h safe all one more m (inl k) = by_open (first_open opens) refl h.0 k
     where
       by_open : (b : Bool) → first_open opens ≡ b
           → IfOpen b (PartAgrees change stage mode world (beside_first stage opens before beside other_parts) first other) (AreUnbegun change stage mode beside first other)
@@ -329,31 +338,32 @@ module _ (change : Called) (added : IsAdded change) (objects others : Objects) (
           let all_first = first_of stage world locks avoid may (first_open opens) other other_parts shut o all in
           subst (MetThere before beside opens (more_runs other other_parts)) (sym from.2)
           (first_met change stage mode world locks avoid before beside opens first rest other other_parts h o all_first from.0
-          (part_matched (beside_first stage opens before beside other_parts) first other part (λ agrees x among_x. one agrees all_first x among_x) from.0 from.1))
+          (part_matched (beside_first stage opens before beside other_parts) first other part
+          (λ agrees x among_x. one agrees (safe_first change stage mode world locks before beside opens first rest other other_parts o h.1 safe) all_first x among_x) from.0 from.1))
 
   mutual
     -- Each step of a tree is met.
-    pub run_matched : (beside : List Effect) (run other : Run) → RunAgrees change stage mode world beside run other → AllFirst stage world locks other → (m : Move Run Hole) → IsAmong m (moves scene world fewer run)
-        → MetHere beside other m
-    run_matched beside (done kind result own) (done other_kind other_result other_own) h shut m k = absurd k
-    run_matched beside (done kind result own) (to_do doing other_kind place parts) h shut m k = absurd h
-    run_matched beside (to_do doing kind place parts) (done other_kind result own) h shut m k =
-        call_matched beside doing kind place parts (done other_kind result own) h.0 h.1 (passes_matched beside h.1.kinds parts h.0 h.2) shut m k
-    run_matched beside (to_do doing kind place parts) (to_do other other_kind at other_parts) (inl h) shut m k =
+    pub run_matched : (beside : List Effect) (run other : Run) → RunAgrees change stage mode world beside run other → SafeHere beside other → AllFirst stage world locks other → (m : Move Run Hole)
+        → IsAmong m (moves scene world fewer run) → MetHere beside other m
+    run_matched beside (done kind result own) (done other_kind other_result other_own) h safe shut m k = absurd k
+    run_matched beside (done kind result own) (to_do doing other_kind place parts) h safe shut m k = absurd h
+    run_matched beside (to_do doing kind place parts) (done other_kind result own) h safe shut m k =
+        call_matched beside doing kind place parts (done other_kind result own) h.0 h.1 (passes_matched beside h.1.kinds parts h.0 h.2) safe shut m k
+    run_matched beside (to_do doing kind place parts) (to_do other other_kind at other_parts) (inl h) safe shut m k =
         node_matched beside doing other kind other_kind place at parts other_parts h.0 h.1 h.2 h.3
-        (runs_matched [] beside (names_first other) (open_parts other) (unseen_shut other) parts other_parts h.3 (all_parts stage world locks other other_kind at other_parts shut)) m k
-    run_matched beside (to_do doing kind place parts) (to_do other other_kind at other_parts) (inr h) shut m k =
-        call_matched beside doing kind place parts (to_do other other_kind at other_parts) h.0 h.1 (passes_matched beside h.1.kinds parts h.0 h.2) shut m k
+        (runs_matched [] beside (names_first other) (open_parts other) (unseen_shut other) parts other_parts h.3 (safe_below change stage mode world locks beside other other_kind at other_parts safe) (all_parts stage world locks other other_kind at other_parts shut)) m k
+    run_matched beside (to_do doing kind place parts) (to_do other other_kind at other_parts) (inr h) safe shut m k =
+        call_matched beside doing kind place parts (to_do other other_kind at other_parts) h.0 h.1 (passes_matched beside h.1.kinds parts h.0 h.2) safe shut m k
 
     pub runs_matched : (before beside : List Effect) (may : May) (opens : Open) → (may ≡ unseen → first_open opens ≡ false) → (parts other_parts : Runs) → RunsAgree change stage mode world before beside opens parts other_parts
-        → AllRuns stage world locks may other_parts → (m : Move Runs Holes) → IsAmong m (moves_in scene world fewer opens parts) → MetThere before beside opens other_parts m
-    runs_matched before beside may opens shut no_runs no_runs h all m k = absurd k
-    runs_matched before beside may opens shut no_runs (more_runs other other_parts) h all m k = absurd h
-    runs_matched before beside may opens shut (more_runs first rest) no_runs h all m k = absurd h
-    runs_matched before beside may opens shut (more_runs first rest) (more_runs other other_parts) h all m k =
-        first_or_rest before beside may opens shut first rest other other_parts h all
-        (λ agrees all_first x among_x. run_matched (beside_first stage opens before beside other_parts) first other agrees all_first x among_x)
-        (λ x among_x. runs_matched (before_rest stage opens before other) beside only_closed (others_open opens) (λ e. absurd (cc)) rest other_parts h.1 (λ n c. (all n c).1) x among_x) m (among_either m _ _ k)
+        → SafeThere before beside opens other_parts → AllRuns stage world locks may other_parts → (m : Move Runs Holes) → IsAmong m (moves_in scene world fewer opens parts) → MetThere before beside opens other_parts m
+    runs_matched before beside may opens shut no_runs no_runs h safe all m k = absurd k
+    runs_matched before beside may opens shut no_runs (more_runs other other_parts) h safe all m k = absurd h
+    runs_matched before beside may opens shut (more_runs first rest) no_runs h safe all m k = absurd h
+    runs_matched before beside may opens shut (more_runs first rest) (more_runs other other_parts) h safe all m k =
+        first_or_rest before beside may opens shut first rest other other_parts h safe all
+        (λ agrees safe_there all_first x among_x. run_matched (beside_first stage opens before beside other_parts) first other agrees safe_there all_first x among_x)
+        (λ safe_there x among_x. runs_matched (before_rest stage opens before other) beside only_closed (others_open opens) (λ e. absurd (cc)) rest other_parts h.1 safe_there (λ n c. (all n c).1) x among_x) m (among_either m _ _ k)
 
     passes_matched : (beside : List Effect) (kinds : List CType) (parts inner : Runs) → PassesRun change stage mode world beside kinds parts inner → Passing beside kinds parts inner
     passes_matched beside kinds no_runs inner h = absurd h
@@ -364,5 +374,5 @@ module _ (change : Called) (added : IsAdded change) (objects others : Objects) (
       is = ap (λ run. more_runs run rest) h.0.is;
       yields = h.1;
       agrees = h.2;
-      steps = λ all m k. runs_matched [] beside only_closed every (λ e. absurd (cc)) rest inner h.2 all m k;
+      steps = λ safe all m k. runs_matched [] beside only_closed every (λ e. absurd (cc)) rest inner h.2 safe all m k;
     }

@@ -23,12 +23,12 @@ named_in : Label → ℕ
 named_in (object d) = d
 named_in label = 0
 
-same_parameter : (p q : ℕ) (kind type : CType) (spans other : Spans) (named_kind named_type : CType) (named_spans named_other : Spans)
+pub same_parameter : (p q : ℕ) (kind type : CType) (spans other : Spans) (named_kind named_type : CType) (named_spans named_other : Spans)
     → node read kind spans (more_trees (node (object p) named_kind named_spans no_trees) no_trees) ≡ node read type other (more_trees (node (object q) named_type named_other no_trees) no_trees) → p ≡ q
 unfolding first_part named_in
 same_parameter p q kind type spans other named_kind named_type named_spans named_other e = ap (λ t. named_in (label_of (first_part t))) e
 
-object_not_read : (q : ℕ) (kind type : CType) (spans other : Spans) (parts : Trees) → node (object q) kind spans no_trees ≡ node read type other parts → ⊥
+pub object_not_read : (q : ℕ) (kind type : CType) (spans other : Spans) (parts : Trees) → node (object q) kind spans no_trees ≡ node read type other parts → ⊥
 object_not_read q kind type spans other parts e = cc (ap label_of e)
 
 -- a parameter's read reads that one
@@ -48,10 +48,10 @@ module _ (change : Called) (tree_at : ℕ → Option (Option Tree)) (p : ℕ) (o
     opened : AreOpen opens holes
     is : others ≡ all_filled_in holes (begun argument)
 
-  its_own : (other : Tree) → tree_at p ≡ Some (Some other) → other ≡ argument
+  pub its_own : (other : Tree) → tree_at p ≡ Some (Some other) → other ≡ argument
   its_own other e = some_is_some other argument (some_is_some (Some other) (Some argument) (sym e ∙ stands))
 
-  not_renamed : (label : Label) → object p ≡ relabelled change.rename label → ⊥
+  pub not_renamed : (label : Label) → object p ≡ relabelled change.rename label → ⊥
   unfolding named_in
   not_renamed (object c) e = own c (sym (ap named_in e))
   not_renamed label e = cc
@@ -70,7 +70,7 @@ module _ (change : Called) (tree_at : ℕ → Option (Option Tree)) (p : ℕ) (o
   in_other_part opens other others h = record { holes = in_others other h.holes; opened = h.opened; is = ap (more_runs other) h.is }
 
   -- a parameter isn't renamed, so its read is no node of the old program
-  not_the_same : (tree was : Tree) → IsParameterNode p tree → (label_of tree ≡ relabelled change.rename (label_of was)) → AreSameBut change tree_at (trees_of tree) (trees_of was) → ⊥
+  pub not_the_same : (tree was : Tree) → IsParameterNode p tree → (label_of tree ≡ relabelled change.rename (label_of was)) → AreSameBut change tree_at (trees_of tree) (trees_of was) → ⊥
   not_the_same tree was h e same = by_parts (trees_of was) (subst (λ t. AreSameBut change tree_at (trees_of t) (trees_of was)) h.is same)
     where
       by_parts : (others : Trees) → AreSameBut change tree_at (more_trees (node (object p) h.named_kind h.named_spans no_trees) no_trees) others → ⊥

@@ -1,8 +1,11 @@
+pub mod StandingLemmas
 mod AgreementLemmas
 mod OperandLemmas
 mod FirstPlaceLemmas
 mod PlaceLemmas
+mod SomewhereLemmas
 mod ArgumentPlaceLemmas
+mod SafeLemmas
 mod ArgumentStepLemmas
 mod PartLemmas
 mod CallLemmas
@@ -26,7 +29,7 @@ mod InsideLemmas
 mod GhostLemmas
 mod AsideLemmas
 mod StateStepLemmas
-mod ShapeLemmas
+pub mod ShapeLemmas
 mod LastLemmas
 mod WaitingLemmas
 mod SteadyLemmas
@@ -35,7 +38,7 @@ pub mod RefineLemmas
 pub mod WholeLemmas
 mod TwiceExample
 mod AroundExample
-mod ClosedFrameLemmas
+pub mod ClosedFrameLemmas
 mod ClosedBeginLemmas
 mod LeftAloneLemmas
 pub mod QuietTreeLemmas

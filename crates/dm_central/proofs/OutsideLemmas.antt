@@ -552,7 +552,7 @@ module _ (change : Called) (known : Known) (calling : CallsInPlace change known)
           (by_match from.0 (move_leaves (new_scene change news) other.world (locks_in run) run from.0 from.1)
           (run_matched change calling.added news (other.statics ++ other.frame.objects) (closed_numbers known.closed other.frame.objects) known.quiet (outside known.safe) (λ d allowed. same_objects d) other.world
           (locks_in run) (locks_in other_run) (fewer_locks change calling.added stage (outside known.safe) other.world [] run other_run h) (λ entry l. absurd l) steady.avoids
-          (steady.safe at other_run other_use other_rest e) [] run other_run h (λ n c. inl (steady.closed at other_run other_use other_rest e n c)) from.0 from.1))
+          [] run other_run h (steady.safe at other_run other_use other_rest e) (λ n c. inl (steady.closed at other_run other_use other_rest e n c)) from.0 from.1))
         where
           same_objects : (d : ℕ) → object_named (renamed_objects change.rename other.statics ++ renamed_objects change.rename other.frame.objects) (change.rename d) ≡ object_named (other.statics ++ other.frame.objects) d
           same_objects d =

@@ -2,6 +2,7 @@
 use Rattle.std.specs.Prelude.{◌≡◌, refl, ◌⊎◌, ℕ, suc, zero, ◌+◌, ◌*◌, ◌≤◌, Bool, true, false, List, [], ◌∷◌, map, length, Option, Some, None}
 use Rattle.std.proofs.Common.{arith, true≢false, ap, sym, ◌∙◌, subst, inl, inr}
 use Rattle.dm_token.specs.declared.place.Place.{Place}
+use Rattle.dm_tree.specs.Trees.{Tree}
 use Rattle.dm_meaning.specs.declared.cause.Cause.{Cause}
 use Rattle.dm_meaning.specs.Among.{IsAmong}
 use Rattle.dm_meaning.specs.Called.{Called, new_of, statics_of}
@@ -40,7 +41,7 @@ use Rattle.dm_rewrite.proofs.FrameChangeLemmas.{usable_made, changes_join}
 use Rattle.dm_rewrite.proofs.KeptLemmas.{same_absence}
 use Rattle.dm_central.specs.Bodies.{nothing_known, DefinitionAgrees, NoStatements, CallsInPlace}
 use Rattle.dm_central.specs.ClosedFrames.{AreAllClosed}
-use Rattle.dm_central.specs.ClosedPrograms.{known_where, known_closed, AreOnlyNamed}
+use Rattle.dm_central.specs.ClosedPrograms.{known_with, known_where, known_closed, AreOnlyNamed, AreAlwaysSafe}
 use Rattle.dm_central.specs.LeftAlone.{AreLeftAlone, AreKept}
 use Rattle.dm_central.specs.QuietFrames.{AreQuiet, AreQuietFrames}
 use Rattle.dm_central.specs.StateAgreement.{DefinitionFits, StateAgrees, Related, worlds_after, GoesWithin, Met}
@@ -101,7 +102,8 @@ entries_change change entries stage effects world fresh = record {
         ∙ ap (λ o. or_unset (value_in at.path o)) (entries_beside change entries world.memory n fresh (block, f))
         ∙ sym (ap (λ name. or_unset (value_in at.path (look world.memory name))) e)
 
-module _ (change : Called) (closed quiet : ℕ → Bool) (calling : CallsInPlace change (known_where closed quiet)) (only : AreOnlyNamed change closed) (silent : AreQuiet change.old quiet) where
+module _ (change : Called) (closed quiet : ℕ → Bool) (safe : Tree → Bool) (calling : CallsInPlace change (known_with closed quiet safe)) (only : AreOnlyNamed change closed) (silent : AreQuiet change.old quiet)
+    (always : AreAlwaysSafe change.old safe) where
   -- ---- objects of static storage duration
 
   same_statics : IsReplacement (statics_of change)
@@ -126,15 +128,15 @@ module _ (change : Called) (closed quiet : ℕ → Bool) (calling : CallsInPlace
   arguments_agree n [] = refl
   arguments_agree n (d ∷ ds) = refl
 
-  other_main : (one other : Option Definition) (main : Definition) → OptionAgrees (DefinitionAgrees change (known_where closed quiet)) one other → one ≡ Some main → (m : Definition) × (other ≡ Some m) × DefinitionAgrees change (known_where closed quiet) main m
+  other_main : (one other : Option Definition) (main : Definition) → OptionAgrees (DefinitionAgrees change (known_with closed quiet safe)) one other → one ≡ Some main → (m : Definition) × (other ≡ Some m) × DefinitionAgrees change (known_with closed quiet safe) main m
   other_main None other main h e = absurd (none_is_some main e)
   other_main (Some one) None main h e = absurd h
-  other_main (Some one) (Some other) main h e = (other, refl, subst (λ d. DefinitionAgrees change (known_where closed quiet) d other) (some_is_some one main e) h)
+  other_main (Some one) (Some other) main h e = (other, refl, subst (λ d. DefinitionAgrees change (known_with closed quiet safe) d other) (some_is_some one main e) h)
 
   -- ---- beginnings
 
-  start_agrees : (names : ℕ → ℕ) (main other : Definition) (input : List ℕ) → DefinitionFits change (known_where closed quiet) main other
-      → StateAgrees change (known_where closed quiet) [] [] (start names (new_of change) main input) (start names change.old other input)
+  start_agrees : (names : ℕ → ℕ) (main other : Definition) (input : List ℕ) → DefinitionFits change (known_with closed quiet safe) main other
+      → StateAgrees change (known_with closed quiet safe) [] [] (start names (new_of change) main input) (start names change.old other input)
   start_agrees names main other input h =
       let count = same_count in
       let argv_block = record (new_block (layout change.old) argv_kind) { contents = all_zero (layout change.old) argv_kind } in
@@ -144,8 +146,8 @@ module _ (change : Called) (closed quiet : ℕ → Bool) (calling : CallsInPlace
         function = h.0.0;
         objects =
             ap (λ n. (opened_frame (new_of change) (λ i. names (suc n + i)) main).objects) count
-            ∙ frame_objects change (known_where closed quiet) calling (λ i. names (suc (length change.old.statics) + i)) main other h;
-        tasks = top_begun change (known_where closed quiet) begun.statics begun.frame.objects begun.world _ _ (unfolded_agree change (likeness change (known_where closed quiet) calling) _ _ (frame_tasks change (known_where closed quiet) calling (λ i. names (suc (length change.old.statics) + i)) main other h));
+            ∙ frame_objects change (known_with closed quiet safe) calling (λ i. names (suc (length change.old.statics) + i)) main other h;
+        tasks = top_begun change (known_with closed quiet safe) begun.statics begun.frame.objects begun.world _ _ (unfolded_agree change (likeness change (known_with closed quiet safe) calling) _ _ (frame_tasks change (known_with closed quiet safe) calling (λ i. names (suc (length change.old.statics) + i)) main other h));
         callers = tt;
         statics = statics_agree names;
         world =
@@ -153,16 +155,16 @@ module _ (change : Called) (closed quiet : ℕ → Bool) (calling : CallsInPlace
             ∙ ap (λ m. record { memory = opened_memory (new_of change) (λ i. names (suc (length change.old.statics) + i)) main (arguments_for (names (length change.old.statics)) main.parameters) ((names (length change.old.statics), argv_block) ∷ m); input = input; output = [] }) (memory_agrees names)
             ∙ ap (λ ps. record { memory = opened_memory (new_of change) (λ i. names (suc (length change.old.statics) + i)) main (arguments_for (names (length change.old.statics)) ps) ((names (length change.old.statics), argv_block) ∷ statics_memory change.old names (old_statics names)); input = input; output = [] }) h.0.1
             ∙ ap (λ vs. record { memory = opened_memory (new_of change) (λ i. names (suc (length change.old.statics) + i)) main vs ((names (length change.old.statics), argv_block) ∷ statics_memory change.old names (old_statics names)); input = input; output = [] }) (arguments_agree (names (length change.old.statics)) other.parameters)
-            ∙ ap (λ m. record { memory = m; input = input; output = [] }) (frame_memory change (known_where closed quiet) calling (λ i. names (suc (length change.old.statics) + i)) main other (arguments_for (names (length change.old.statics)) other.parameters) ((names (length change.old.statics), argv_block) ∷ statics_memory change.old names (old_statics names)) h);
+            ∙ ap (λ m. record { memory = m; input = input; output = [] }) (frame_memory change (known_with closed quiet safe) calling (λ i. names (suc (length change.old.statics) + i)) main other (arguments_for (names (length change.old.statics)) other.parameters) ((names (length change.old.statics), argv_block) ∷ statics_memory change.old names (old_statics names)) h);
       }
 
-  begins_agrees : (input : List ℕ) (state : State) → Begins (new_of change) input state → (other : State) × Begins change.old input other × StateAgrees change (known_where closed quiet) [] [] state other
+  begins_agrees : (input : List ℕ) (state : State) → Begins (new_of change) input state → (other : State) × Begins change.old input other × StateAgrees change (known_with closed quiet safe) [] [] state other
   begins_agrees input state (bytes, names, fresh, main, is_main_here, e) =
       let found = other_main (main_of (new_of change)) (main_of change.old) main calling.mains is_main_here in
       let small : IsSmall (limit change) (Some main) = subst (IsSmall (limit change)) is_main_here (main_small (new_of change) change.functions) in (
         start names change.old found.0 input,
         (bytes, names, fresh, found.0, found.1, refl),
-        subst (λ s. StateAgrees change (known_where closed quiet) [] [] s (start names change.old found.0 input)) (sym e) (start_agrees names main found.0 input (found.2, small)),
+        subst (λ s. StateAgrees change (known_with closed quiet safe) [] [] s (start names change.old found.0 input)) (sym e) (start_agrees names main found.0 input (found.2, small)),
       )
 
   -- ---- the old program beside the objects of the parameters
@@ -314,16 +316,16 @@ module _ (change : Called) (closed quiet : ℕ → Bool) (calling : CallsInPlace
       pub more : Memory
       pub spare : Spare
       pub starts : List World
-      pub related : Related change (known_where closed quiet) w spare starts state (with_memory other more)
+      pub related : Related change (known_with closed quiet safe) w spare starts state (with_memory other more)
       pub holds : Holds other more spare starts
       pub clear : IsClear change closed only.new state
 
-    same_standing : (w : ℕ) (spare : Spare) (starts : List World) (s t : State) → Related change (known_where closed quiet) w spare starts s t → s.standing ≡ t.standing
+    same_standing : (w : ℕ) (spare : Spare) (starts : List World) (s t : State) → Related change (known_with closed quiet safe) w spare starts s t → s.standing ≡ t.standing
     same_standing w spare starts s t (inl h) = h.1.standing
     same_standing w spare starts s t (inr (first, rest, is, inl h)) = h.standing
     same_standing w spare starts s t (inr (first, rest, is, inr h)) = h.standing
 
-    same_output : (w : ℕ) (spare : Spare) (starts : List World) (s t : State) → Related change (known_where closed quiet) w spare starts s t → t.world.output ≡ s.world.output
+    same_output : (w : ℕ) (spare : Spare) (starts : List World) (s t : State) → Related change (known_with closed quiet safe) w spare starts s t → t.world.output ≡ s.world.output
     same_output w spare starts s t (inl h) = ap (λ (world : World). world.output) (sym h.1.world)
     same_output w spare starts s t (inr (first, rest, is, inl h)) = ap (λ (world : World). world.output) (sym h.world)
     same_output w spare starts s t (inr (first, rest, is, inr h)) = ap (λ (world : World). world.output) (sym h.world)
@@ -367,10 +369,10 @@ module _ (change : Called) (closed quiet : ℕ → Bool) (calling : CallsInPlace
     -- what is known of the new program behind the step, where what was made beside the old one still is
     Clears : State → Memory → Type 0
     Clears s' more =
-        (w : ℕ) (t : State) (memory : Memory) (spare : Spare) (starts : List World) → Related change (known_where closed quiet) w spare starts s' (with_memory t memory) → Holds t memory spare starts
+        (w : ℕ) (t : State) (memory : Memory) (spare : Spare) (starts : List World) → Related change (known_with closed quiet safe) w spare starts s' (with_memory t memory) → Holds t memory spare starts
         → ((n : ℕ) → IsMade more n → IsMade memory n) → IsClear change closed only.new s'
 
-    met : (w : ℕ) (s' t : State) (more : Memory) (spare : Spare) (starts : List World) → Holds t more spare starts → Clears s' more → Met change (known_where closed quiet) w spare starts (with_memory t more) s' → Outcome w s' t
+    met : (w : ℕ) (s' t : State) (more : Memory) (spare : Spare) (starts : List World) → Holds t more spare starts → Clears s' more → Met change (known_with closed quiet safe) w spare starts (with_memory t more) s' → Outcome w s' t
     unfolding Outcome Clears
     met w s' t more spare starts h clears (inl (n, u, goes, cause, place, e)) = inl (wrong_without n change.old more t u h.settled h.has goes cause place e)
     met w s' t more spare starts h clears (inr (inl f)) = by_step (advance t more spare starts f.last h f.step)
@@ -378,7 +380,7 @@ module _ (change : Called) (closed quiet : ℕ → Bool) (calling : CallsInPlace
         by_step : GoesWrong (machine_of change.old) t ⊎ Advanced t more f.last spare (worlds_after starts (with_memory t more).world t.callers f.last.callers) → Outcome w s' t
         by_step (inl wrong) = inl wrong
         by_step (inr a) =
-            let related = subst (Related change (known_where closed quiet) (most change) spare (worlds_after starts (with_memory t more).world t.callers f.last.callers) s') a.is f.related in
+            let related = subst (Related change (known_with closed quiet safe) (most change) spare (worlds_after starts (with_memory t more).world t.callers f.last.callers) s') a.is f.related in
             inr (
               1,
               most change,
@@ -399,7 +401,7 @@ module _ (change : Called) (closed quiet : ℕ → Bool) (calling : CallsInPlace
         by_steps : GoesWrong (machine_of change.old) t ⊎ AdvancedWithin (suc f.count) t more f.last spare starts → Outcome w s' t
         by_steps (inl wrong) = inl wrong
         by_steps (inr a) =
-            let related = subst (Related change (known_where closed quiet) (most change) spare starts s') a.is f.related in
+            let related = subst (Related change (known_with closed quiet safe) (most change) spare starts s') a.is f.related in
             inr (
               suc f.count,
               most change,
@@ -431,21 +433,22 @@ module _ (change : Called) (closed quiet : ℕ → Bool) (calling : CallsInPlace
     unfolding Clears
     steps_met w s s' t h step =
         met w s' t h.more h.spare h.starts h.holds clears
-        (step_met change (known_where closed quiet) calling w h.spare h.starts s s' (with_memory t h.more) h.related t.world.memory h.holds.spares
+        (step_met change (known_with closed quiet safe) calling w h.spare h.starts s s' (with_memory t h.more) h.related t.world.memory h.holds.spares
         (unfolded_settled t.world.memory t.frame.tasks h.holds.settled.frame.1)
-        (steady_here change closed quiet h.starts t h.more h.holds.names h.holds.waits h.holds.own_ones (clear_avoids change closed only.new (known_where closed quiet) w h.spare h.starts s (with_memory t h.more) h.related h.clear) h.holds.closed_ones h.holds.kept_ones
-        (λ place tree use_of rest e. no_statements h.holds.reached.0 h.holds.reached.1 t h.holds.reached.2 place tree use_of rest e)) step)
+        (steady_here change closed quiet safe h.starts t h.more h.holds.names h.holds.waits h.holds.own_ones (clear_avoids change closed only.new (known_with closed quiet safe) w h.spare h.starts s (with_memory t h.more) h.related h.clear) h.holds.closed_ones h.holds.kept_ones
+        (λ place tree use_of rest e. no_statements h.holds.reached.0 h.holds.reached.1 t h.holds.reached.2 place tree use_of rest e)
+        h.holds.has (λ place run use_of rest e tree picked stands. always h.holds.reached.0 h.holds.reached.1 t h.holds.reached.2 place run use_of rest e tree picked stands)) step)
       where
         memory_is : s.world.memory ≡ h.more
-        memory_is = ap (λ (world : World). world.memory) (same_world change (known_where closed quiet) w h.spare h.starts s (with_memory t h.more) h.related)
+        memory_is = ap (λ (world : World). world.memory) (same_world change (known_with closed quiet safe) w h.spare h.starts s (with_memory t h.more) h.related)
 
-        clears : (v : ℕ) (u : State) (memory : Memory) (spare : Spare) (starts : List World) → Related change (known_where closed quiet) v spare starts s' (with_memory u memory) → Holds u memory spare starts
+        clears : (v : ℕ) (u : State) (memory : Memory) (spare : Spare) (starts : List World) → Related change (known_with closed quiet safe) v spare starts s' (with_memory u memory) → Holds u memory spare starts
             → ((n : ℕ) → IsMade h.more n → IsMade memory n) → IsClear change closed only.new s'
         clears v u memory spare starts related holds made =
-            let is = ap (λ (world : World). world.memory) (same_world change (known_where closed quiet) v spare starts s' (with_memory u memory) related) in
+            let is = ap (λ (world : World). world.memory) (same_world change (known_with closed quiet safe) v spare starts s' (with_memory u memory) related) in
             clear_later change closed only.new s s' step (λ n k. subst (λ m. IsMade m n) (sym is) (made n (subst (λ m. IsMade m n) memory_is k)))
-            (subst (λ m. ObjectsMade m s.frame.objects) (sym memory_is) (related_made change (known_where closed quiet) w h.spare h.starts s t h.more h.related h.holds.settled h.holds.has h.holds.spares))
-            (subst (λ m. ObjectsMade m s'.frame.objects) (sym is) (related_made change (known_where closed quiet) v spare starts s' u memory related holds.settled holds.has holds.spares)) h.clear
+            (subst (λ m. ObjectsMade m s.frame.objects) (sym memory_is) (related_made change (known_with closed quiet safe) w h.spare h.starts s t h.more h.related h.holds.settled h.holds.has h.holds.spares))
+            (subst (λ m. ObjectsMade m s'.frame.objects) (sym is) (related_made change (known_with closed quiet safe) v spare starts s' u memory related holds.settled holds.has holds.spares)) h.clear
 
     begins_own : (input : List ℕ) (state : State) → Begins change.old input state → (entry : ℕ × ℕ) → IsAmong entry state.statics → closed entry.0 ≡ true → ⊥
     begins_own input state (bytes, names, fresh, main, is_main_here, e) entry l picked =
@@ -470,7 +473,7 @@ module _ (change : Called) (closed quiet : ℕ → Bool) (calling : CallsInPlace
             more = t.0.world.memory;
             spare = [];
             starts = [];
-            related = inl (top_enough change (known_where closed quiet) t.0.statics t.0.frame.objects t.0.world _ _ t.2.tasks, t.2);
+            related = inl (top_enough change (known_with closed quiet safe) t.0.statics t.0.frame.objects t.0.world _ _ t.2.tasks, t.2);
             holds = record {
               settled = settled_beginnings change.old input t.0 t.1;
               has = λ n block e. e;
@@ -499,12 +502,19 @@ module _ (change : Called) (closed quiet : ℕ → Bool) (calling : CallsInPlace
     }
 
 -- A program that calls the added function refines the program that has its expression in place, with the arguments in it.
+pub safe_calls_refine : (change : Called) (closed quiet : ℕ → Bool) (safe : Tree → Bool) → CallsInPlace change (known_with closed quiet safe) → AreOnlyNamed change closed → AreQuiet change.old quiet → AreAlwaysSafe change.old safe
+    → NoStatements change.old → Refines (machine_of (new_of change)) (machine_of change.old)
+safe_calls_refine change closed quiet safe calling only silent always no_statements =
+    simulated (machine_of (new_of change)) (machine_of change.old) (Relates change closed quiet safe calling only silent always no_statements) (most change) (most change)
+    (simulation change closed quiet safe calling only silent always no_statements)
+
+-- So it does where nothing is known of expressions,
 pub known_calls_refine : (change : Called) (closed quiet : ℕ → Bool) → CallsInPlace change (known_where closed quiet) → AreOnlyNamed change closed → AreQuiet change.old quiet → NoStatements change.old
     → Refines (machine_of (new_of change)) (machine_of change.old)
 known_calls_refine change closed quiet calling only silent no_statements =
-    simulated (machine_of (new_of change)) (machine_of change.old) (Relates change closed quiet calling only silent no_statements) (most change) (most change) (simulation change closed quiet calling only silent no_statements)
+    safe_calls_refine change closed quiet (λ tree. false) calling only silent (λ input n state run place r use_of rest e tree picked stands. absurd (true≢false (sym picked))) no_statements
 
--- So it does where nothing is known of functions,
+-- nor of functions,
 pub closed_calls_refine : (change : Called) (closed : ℕ → Bool) → CallsInPlace change (known_closed closed) → AreOnlyNamed change closed → NoStatements change.old → Refines (machine_of (new_of change)) (machine_of change.old)
 closed_calls_refine change closed calling only no_statements = known_calls_refine change closed (λ f. false) calling only (λ definition l q. absurd (true≢false (sym q))) no_statements
 

@@ -132,7 +132,7 @@ pub steps : (move : Move Run Hole) → IsAmong move (moves (new_scene calling_tw
 unfolding safe_in
 steps move k =
     run_matched calling_twice added objects objects [] (λ f. false) in_main same_objects world [] [] (λ lock l. l) (λ entry l. absurd l) (λ n l. absurd l)
-    (λ safe e tree f meets. true≢false (sym (ap (λ mode. safe_in mode tree) e ∙ f))) [] (begun calling) (begun sum) agrees (λ n l. absurd l) move k
+    [] (begun calling) (begun sum) agrees (λ safe e. (λ lock l. absurd l, λ tree f stands. absurd (true≢false (sym (ap (λ mode. safe_in mode tree) e ∙ f))))) (λ n l. absurd l) move k
 
 -- ---- the programs
 

@@ -25,7 +25,7 @@ use Rattle.dm_meaning.proofs.PassRunLemmas.{AllYield}
 use Rattle.dm_rewrite.specs.Computed.{IsPure}
 use Rattle.dm_rewrite.specs.Closed.{only_closed, IsClosedInAll}
 use Rattle.dm_rewrite.specs.Effects.{Effect, Stage, effects_of, effects_in}
-use Rattle.dm_central.specs.Arguments.{ReadsApart, Way, at_once, untouched, AreCalm, AllFollowed, runs_at, trees_at, IsSameBut, StandsWhole, ReadsFirst}
+use Rattle.dm_central.specs.Arguments.{ReadsApart, Way, at_once, untouched, AreCalm, AllFollowed, runs_at, trees_at, IsSameBut, StandsWhole, ReadsSomewhere, ReadsFirst}
 
 -- ---- parameters in the added function
 
@@ -105,10 +105,12 @@ AllUntouched stage beside ways trees = ⊥
 abbrev pub AreClosedIn : Stage → Runs → Type 0
 AreClosedIn stage parts = (n : ℕ) → IsAmong n stage.closed → IsClosedInAll n stage.scene.objects only_closed parts
 
--- an untouched argument always comes to something, or its parameter is read first in the expression
+-- an untouched argument always comes to something, and its parameter is read somewhere in the expression; or it is read first there
 abbrev pub AreLate : (Tree → Bool) → List ℕ → Tree → List Way → Type 0
 AreLate safe parameters body ways =
-    (tree : Tree) → IsAmong (untouched tree) ways → (safe tree ≡ true) ⊎ ((p : ℕ) → given parameters ways p ≡ Some (untouched tree) → ReadsFirst p body)
+    (tree : Tree) → IsAmong (untouched tree) ways
+    → ((safe tree ≡ true) × ((p : ℕ) → given parameters ways p ≡ Some (untouched tree) → ReadsSomewhere p body))
+    ⊎ ((p : ℕ) → given parameters ways p ≡ Some (untouched tree) → ReadsFirst p body)
 
 -- a call of the added function, where the old program has its expression with these arguments in it
 pub record IsCall (change : Called) (stage : Stage) (safe : Tree → Bool) (beside : List Effect) (label : Label) (kind : CType) (other : Tree) (arguments : Trees) : Type 0 where

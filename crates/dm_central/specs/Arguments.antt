@@ -4,6 +4,7 @@
 --     AreCalm stage other ways      no untouched argument reads what the expression writes
 --     IsFollowed stage world effects tree aside      the evaluation of an untouched argument, which the old program hasn't begun
 --     StandsWhole change kind_at tree_at run_at tree other      the expression, with arguments where the added function reads its parameters
+--     ReadsSomewhere p tree      the parameter is read in some part, but not in a type name
 --     ReadsFirst p tree      the parameter is read in a part that may be evaluated as soon as the expression is
 --     StandsOpen part other      a part of a tree under evaluation that may be evaluated
 use Rattle.std.specs.Prelude.{◌≡◌, ◌⊎◌, ℕ, true, false, IsTrue, List, [], ◌∷◌, Option, Some, None}
@@ -24,6 +25,7 @@ use Rattle.dm_meaning.proofs.MatchLemmas.{may_stand}
 use Rattle.dm_rewrite.specs.Computed.{Computed, computed, IsPure}
 use Rattle.dm_rewrite.specs.Aside.{Follows}
 use Rattle.dm_rewrite.specs.Effects.{Effect, Stage, effects_of, IsFree}
+use Rattle.dm_central.specs.Standing.{standing_of, HasNoMore}
 
 -- wherever the tree is evaluated
 abbrev pub ReadsApart : Stage → List Effect → Run → Type 0
@@ -50,6 +52,7 @@ pub record IsFollowed (stage : Stage) (world : World) (effects : List Effect) (t
   pub typed : kind_of_run aside ≡ kind_of_run (begun tree)
   pub apart : ReadsApart stage effects (begun tree)
   pub follows : Follows stage.scene world (begun tree) aside
+  pub parts : HasNoMore aside (begun tree)
 
 abbrev pub AllFollowed : Stage → World → List Effect → List Way → Runs → Type 0
 AllFollowed stage world effects [] no_runs = Unit {0}
@@ -128,7 +131,7 @@ abbrev pub StandsWhole : Called → (ℕ → Option CType) → (ℕ → Option (
 StandsWhole change kind_at tree_at run_at tree other =
     IsUntouched change tree_at tree other ⊎ (IsStanding change kind_at run_at tree other ⊎ Stands change kind_at tree_at run_at tree other)
 
--- ---- where a parameter is read first
+-- ---- where a parameter is read, and where it is first
 
 pub record IsParameterNode (p : ℕ) (tree : Tree) : Type 0 where
   pub kind : CType
@@ -136,6 +139,14 @@ pub record IsParameterNode (p : ℕ) (tree : Tree) : Type 0 where
   pub named_kind : CType
   pub named_spans : Spans
   pub is : tree ≡ node read kind spans (more_trees (node (object p) named_kind named_spans no_trees) no_trees)
+
+abbrev mutual
+  pub ReadsSomewhere : ℕ → Tree → Type 0
+  ReadsSomewhere p (node label kind spans parts) = IsParameterNode p (node label kind spans parts) ⊎ ReadsBelow p (standing_of label) parts
+
+  pub ReadsBelow : ℕ → Open → Trees → Type 0
+  ReadsBelow p stand no_trees = ⊥
+  ReadsBelow p stand (more_trees first rest) = (IsTrue (first_open stand) × ReadsSomewhere p first) ⊎ ReadsBelow p (others_open stand) rest
 
 abbrev mutual
   pub ReadsFirst : ℕ → Tree → Type 0

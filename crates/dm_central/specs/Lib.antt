@@ -1,3 +1,4 @@
+pub mod Standing
 pub mod Arguments
 pub mod Agreement
 pub mod ArgumentSteps

@@ -4,15 +4,15 @@
 --     Met change stage mode world locks beside other move      the six outcomes of a step
 --     AreReady change mode objects stage world locks      the parameters of the added function can be read
 --     IsAtCall change stage mode world locks beside kind other inner named      at a call of the added function, before it is evaluated
---     AreSafe stage mode world locks      the expressions that always come to something do so here
+--     AreSafe stage mode world locks beside other      the expressions that always come to something do so here
 use Rattle.std.specs.Prelude.{◌≡◌, ◌⊎◌, ℕ, Bool, true, false, List, [], ◌∷◌, length, Some}
 use Rattle.dm_token.specs.declared.place.Place.{Place}
 use Rattle.dm_type.specs.CTypes.{CType}
 use Rattle.dm_tree.specs.Trees.{call, Tree, kind_of}
 use Rattle.dm_meaning.specs.Among.{IsAmong}
 use Rattle.dm_meaning.specs.Values.{At, Value, numbered, overlaps_any}
-use Rattle.dm_meaning.specs.Operations.{of_value, World, Objects, object_named, whole}
-use Rattle.dm_meaning.specs.Running.{evaluates, Run, done, to_do, Runs, more_runs, begun, Open, every, Hole, within, Holes, in_others, filled_in, all_filled_in, IsOpen, AreOpen}
+use Rattle.dm_meaning.specs.Operations.{of_value, World, Scene, Objects, object_named, whole}
+use Rattle.dm_meaning.specs.Running.{evaluates, Run, done, to_do, Runs, more_runs, begun, Open, every, Hole, within, Holes, in_others, filled_in, all_filled_in, IsOpen, AreOpen, locks_in}
 use Rattle.dm_meaning.specs.Expressions.{Move, goes, calls, fails, exits, moves, kind_of_run}
 use Rattle.dm_meaning.specs.Steps.{lacks_value}
 use Rattle.dm_meaning.specs.Called.{Called}
@@ -24,8 +24,9 @@ use Rattle.dm_meaning.proofs.PassRunLemmas.{MoveYieldsAll, HaveCome}
 use Rattle.dm_rewrite.specs.Computed.{Computed, computed, IsPure}
 use Rattle.dm_rewrite.specs.Closed.{Avoids, MemoryAvoids, IsPlace, IsClosedIn}
 use Rattle.dm_rewrite.specs.PureSteps.{Meets}
-use Rattle.dm_rewrite.specs.Effects.{Effect, on_others, Stage, target_effects, effects_of, lock_effects, call_effects, ChangesOnly, IsNoMore}
+use Rattle.dm_rewrite.specs.Effects.{Effect, on_others, Stage, target_effects, effects_of, lock_effects, call_effects, IsFree, ChangesOnly, IsNoMore}
 use Rattle.dm_central.specs.Added.{IsAdded}
+use Rattle.dm_central.specs.Standing.{StandsIn}
 use Rattle.dm_central.specs.Arguments.{Way, AreCalm, AllFollowed, runs_at, trees_at, StandsWhole}
 use Rattle.dm_central.specs.Agreement.{Stood, a_value, a_tree, Entry, Mode, outside, is_inside, entries_of, IsPassed, RunAgrees, RunsAgree}
 
@@ -172,10 +173,21 @@ Met change stage mode world locks beside other m =
 
 -- ---- arguments that may be read late
 
--- the expressions that always come to something do so here, and read nothing that is locked
-abbrev pub AreSafe : Stage → Mode → World → List At → Type 0
-AreSafe stage mode world locks =
-    (safe : Tree → Bool) → mode ≡ outside safe → (tree : Tree) → safe tree ≡ true → Meets locks (computed stage.scene world (begun tree)) → ⊥
+-- the tree comes to something, and reads objects that have numbers
+abbrev pub ComesSafely : Scene → World → Run → Type 0
+ComesSafely scene world run =
+    (found : Computed) × (computed scene world run ≡ Some found) × ((at : At) → IsAmong at found.reads → (n : ℕ) × (at.name ≡ numbered n))
+
+-- a lock is one of the tree's, or on an object on which trees beside it have an effect
+abbrev pub AreCovered : Stage → List At → List Effect → Run → Type 0
+AreCovered stage locks beside other =
+    (lock : At) → IsAmong lock locks → IsAmong lock (locks_in other) ⊎ ((n : ℕ) → lock.name ≡ numbered n → IsFree stage.closed beside n → ⊥)
+
+-- The expressions that always come to something do so here, where they stand in this tree; and other locks than its own are of trees beside it.
+abbrev pub AreSafe : Stage → Mode → World → List At → List Effect → Run → Type 0
+AreSafe stage mode world locks beside other =
+    (safe : Tree → Bool) → mode ≡ outside safe
+    → AreCovered stage locks beside other × ((tree : Tree) → safe tree ≡ true → StandsIn (begun tree) other → ComesSafely stage.scene world (begun tree))
 
 -- ---- at a call
 
@@ -186,7 +198,7 @@ pub record IsAtCall (change : Called) (stage : Stage) (mode : Mode) (world : Wor
   pub is_named : IsNamedRun change named
   pub added : IsAdded change
   pub avoid : (n : ℕ) → IsAmong n stage.closed → MemoryAvoids n world.memory
-  pub safe : AreSafe stage mode world locks
+  pub safe : AreSafe stage mode world locks beside other
   pub closed : (n : ℕ) → IsAmong n stage.closed → IsClosedIn n stage.scene.objects other ⊎ IsPlace n stage.scene.objects other
 
 -- the call with its arguments

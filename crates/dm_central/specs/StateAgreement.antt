@@ -359,5 +359,5 @@ pub record IsSteady (change : Called) (known : Known) (starts : List World) (oth
   -- full expressions are no statements, and what always comes to something does so
   pub whole : (place : Place) (tree : Tree) (use_of : Use) (rest : List Task) → unfolded other.frame.tasks ≡ evaluates place (begun tree) use_of ∷ rest → is_statement (label_of tree) ≡ false
   pub safe : (place : Place) (run : Run) (use_of : Use) (rest : List Task) → unfolded other.frame.tasks ≡ evaluates place run use_of ∷ rest
-      → AreSafe (frame_stage change known other.statics other.frame.objects) (outside known.safe) other.world (locks_in run)
+      → AreSafe (frame_stage change known other.statics other.frame.objects) (outside known.safe) other.world (locks_in run) [] run
   pub waited : FirstHasWaited change known starts other other.callers

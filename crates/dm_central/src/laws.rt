@@ -32,7 +32,7 @@ ghost use Rattle.dm_meaning.proofs.LikenessLemmas.{Likeness};
 ghost use Rattle.dm_central.specs.Added.{IsAdded};
 ghost use Rattle.dm_central.specs.Bodies.{Known, nothing_known, IsWholeProgram, CallsInPlace};
 ghost use Rattle.dm_central.specs.ClosedFrames.{AreAllClosed};
-ghost use Rattle.dm_central.specs.ClosedPrograms.{known_where, known_closed, AreOnlyNamed, AreListed};
+ghost use Rattle.dm_central.specs.ClosedPrograms.{known_with, known_where, known_closed, AreOnlyNamed, AreListed, AreAlwaysSafe};
 ghost use Rattle.dm_central.specs.LeftAlone.{AreLeftAlone, AreKept};
 ghost use Rattle.dm_central.specs.QuietFrames.{WritesNothing, IsQuietTree, AreQuiet, AreQuietFrames};
 ghost use Rattle.dm_central.specs.Waiting.{AreOwn, IsWaiting};
@@ -183,8 +183,9 @@ pub fn tree_steps()
     ensures each { (change : Called) → IsAdded change → (news objects : Objects) (closed : List ℕ) (quiet : ℕ → Bool) (mode : Mode)
         → MeanTheSame change mode news objects → (world : World) (fewer locks : List At) → AreAmong fewer locks
         → AreReady change mode news (old_stage change objects closed quiet) world fewer
-        → ((n : ℕ) → IsAmong n closed → MemoryAvoids n world.memory) → AreSafe (old_stage change objects closed quiet) mode world locks
+        → ((n : ℕ) → IsAmong n closed → MemoryAvoids n world.memory)
         → (beside : List Effect) (run other : Run) → RunAgrees change (old_stage change objects closed quiet) mode world beside run other
+        → AreSafe (old_stage change objects closed quiet) mode world locks beside other
         → ((n : ℕ) → IsAmong n closed → IsClosedIn n objects other)
         → (move : Move Run Hole) → IsAmong move (moves (new_scene change news) world fewer run)
         → Met change (old_stage change objects closed quiet) mode world locks beside other move }
@@ -192,7 +193,7 @@ pub fn tree_steps()
     ensures read { (change : Called) → IsAdded change → (news objects : Objects) (closed : List ℕ) (quiet : ℕ → Bool) (mode : Mode)
         → MeanTheSame change mode news objects → (world : World) (fewer locks : List At) → AreAmong fewer locks
         → AreReady change mode news (old_stage change objects closed quiet) world fewer
-        → ((n : ℕ) → IsAmong n closed → MemoryAvoids n world.memory) → AreSafe (old_stage change objects closed quiet) mode world locks
+        → ((n : ℕ) → IsAmong n closed → MemoryAvoids n world.memory)
         → (beside : List Effect) (run other : Run) → IsReading change mode run other
         → (move : Move Run Hole) → IsAmong move (moves (new_scene change news) world fewer run)
         → Met change (old_stage change objects closed quiet) mode world locks beside other move
@@ -301,4 +302,12 @@ pub fn closed_calls_refine()
 pub fn known_calls_refine()
     ensures { (change : Called) (closed quiet : ℕ → Bool) → CallsInPlace change (known_where closed quiet) → AreOnlyNamed change closed
         → AreQuiet change.old quiet → IsWholeProgram change.old → Refines (machine_of (new_of change)) (machine_of change.old) }
+{}
+
+/// And where certain expressions are known to come to something wherever they stand in the full expression under evaluation: such an argument need
+/// not be read first, only somewhere. The new program evaluates it, also where the old one never does.
+pub fn safe_calls_refine()
+    ensures { (change : Called) (closed quiet : ℕ → Bool) (safe : Tree → Bool) → CallsInPlace change (known_with closed quiet safe)
+        → AreOnlyNamed change closed → AreQuiet change.old quiet → AreAlwaysSafe change.old safe → IsWholeProgram change.old
+        → Refines (machine_of (new_of change)) (machine_of change.old) }
 {}

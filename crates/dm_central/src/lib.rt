@@ -14,5 +14,5 @@ pub use laws::{
     bodies_alike, call_steps, calls_refine, closed_calls_refine, closed_objects_are_left_alone,
     closed_objects_stay, common_facts, entered_expressions, known_calls_refine, moved_operands,
     named_reads_are_apart, new_programs_only_name, node_steps, quiet_functions_stay_quiet,
-    state_steps, tree_steps, waiting_frames_are_kept,
+    safe_calls_refine, state_steps, tree_steps, waiting_frames_are_kept,
 };

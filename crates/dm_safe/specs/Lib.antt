@@ -1,0 +1,3 @@
+pub mod Numbers
+pub mod Spared
+pub mod SafePrograms

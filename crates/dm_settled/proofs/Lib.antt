@@ -1,0 +1,3 @@
+pub mod MovedLemmas
+pub mod PlaceLemmas
+pub mod ApartLemmas

@@ -1,0 +1,9 @@
+//! Safe arguments in programs where the nodes of each full expression stand at one place.
+#![tactic(auto)]
+
+mod laws;
+
+pub use laws::{
+    parts_stand_where_expressions_do, settled_bodies_spare, settled_programs_are_moved,
+    settled_safe_expressions_always_come,
+};

@@ -1,0 +1,5 @@
+pub mod FactLemmas
+pub mod ExpressionLemmas
+pub mod ValueLemmas
+pub mod StatementLemmas
+pub mod ProgramLemmas
