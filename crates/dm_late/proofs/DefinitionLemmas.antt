@@ -18,7 +18,7 @@ use Rattle.dm_meaning.specs.Units.{is_static_sort, is_static_declaration, is_sta
 use Rattle.dm_meaning.proofs.GrowLemmas.{equal_is, differ_is}
 use Rattle.dm_meaning.proofs.OptionLemmas.{and_right}
 use Rattle.dm_meaning.proofs.RunLemmas.{OptionAgrees, same_renamed}
-use Rattle.dm_late.proofs.ErasedLemmas.{erased_static}
+use Rattle.dm_late.specs.Settled.{erased_static}
 
 -- ---- pairs
 

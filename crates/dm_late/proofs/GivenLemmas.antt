@@ -17,7 +17,7 @@ use Rattle.dm_central.specs.Arguments.{ReadsApart, Way, at_once, untouched, runs
 
 -- ---- lists that belong to parameters
 
-given_if : {A : Type 0} (b : Bool) (x : A) (rest : Option A) (y : A) (R : Type 0) → (if b then Some x else rest) ≡ Some y → (b ≡ true → x ≡ y → R) → (b ≡ false → rest ≡ Some y → R) → R
+pub given_if : {A : Type 0} (b : Bool) (x : A) (rest : Option A) (y : A) (R : Type 0) → (if b then Some x else rest) ≡ Some y → (b ≡ true → x ≡ y → R) → (b ≡ false → rest ≡ Some y → R) → R
 given_if true x rest y R e f g = f refl (some_is_some x y e)
 given_if false x rest y R e f g = g refl e
 
@@ -95,7 +95,7 @@ module _ (late : ℕ → Bool) where
   way_once true tree e = absurd (cc)
   way_once false tree e = refl
 
-  way_untouched : (b : Bool) (first tree : Tree) → untouched tree ≡ way_of b first → (b ≡ true) × (tree ≡ first)
+  pub way_untouched : (b : Bool) (first tree : Tree) → untouched tree ≡ way_of b first → (b ≡ true) × (tree ≡ first)
   way_untouched true first tree e = (refl, cc)
   way_untouched false first tree e = absurd (cc)
 
@@ -118,6 +118,21 @@ module _ (late : ℕ → Bool) where
   of_untouched P (q ∷ ps) no_trees h tree l = absurd l
   of_untouched P (q ∷ ps) (more_trees first rest) h tree (inl e) = let both = way_untouched (late q) first tree e in subst P (sym both.1) (h.0 both.0)
   of_untouched P (q ∷ ps) (more_trees first rest) h tree (inr k) = of_untouched P ps rest h.1 tree k
+
+  -- where more is asked of the arguments of certain parameters
+  abbrev pub AreUnlessFirst : (ℕ → Bool) → (Tree → Type 0) → List ℕ → Trees → Type 0
+  AreUnlessFirst first P [] trees = Unit {0}
+  AreUnlessFirst first P (p ∷ ps) no_trees = Unit {0}
+  AreUnlessFirst first P (p ∷ ps) (more_trees one rest) = (late p ≡ true → first p ≡ false → P one) × AreUnlessFirst first P ps rest
+
+  pub of_given : (first : ℕ → Bool) (P : Tree → Type 0) (ps : List ℕ) (trees : Trees) → AreUnlessFirst first P ps trees → (p : ℕ) (tree : Tree) → given ps (ways_of late ps trees) p ≡ Some (untouched tree)
+      → first p ≡ false → P tree
+  of_given first P [] trees h p tree e f = absurd (none_is_some (untouched tree) e)
+  of_given first P (q ∷ ps) no_trees h p tree e f = absurd (none_is_some (untouched tree) e)
+  of_given first P (q ∷ ps) (more_trees one rest) h p tree e f =
+      given_if (q == p) (way_of (late q) one) (given ps (ways_of late ps rest) p) (untouched tree) (P tree) e
+      (λ t g. let both = way_untouched (late q) one tree (sym g) in subst P (sym both.1) (h.0 both.0 (ap first (equal_of q p t) ∙ f)))
+      (λ t g. of_given first P ps rest h.1 p tree g f)
 
   pub all_untouched : (stage : Stage) (effects : List Effect) (ps : List ℕ) (trees : Trees) → length (listed trees) ≡ length ps
       → AreLateOnes (λ tree. IsPure (begun tree) × ReadsApart stage effects (begun tree)) ps trees → AllUntouched stage effects (ways_of late ps trees) trees

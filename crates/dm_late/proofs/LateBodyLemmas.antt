@@ -23,11 +23,11 @@ use Rattle.dm_meaning.proofs.OptionLemmas.{and_left, and_right}
 use Rattle.dm_effect.specs.Scoped.{names_in_scope, same_scopes, is_scoped, are_scoped}
 use Rattle.dm_agree.specs.Agreement.{Rewriting, Here, here_below, SameBody, SameBodies, Left, left_at, standing_in, standing_below}
 use Rattle.dm_central.specs.Arguments.{ReadsParameter, IsSameBut, AreSameBut, IsUntouched, IsStanding, Stands, StandBelow, StandsWhole}
-use Rattle.dm_refine.specs.Calls.{HasNoLengths, HaveNoLengths}
+use Rattle.dm_refine.specs.Calls.{AreTypesPlain, AllTypesPlain}
 use Rattle.dm_refine.proofs.CallBodyLemmas.{slice_among, not_true, read_object, names_first, scopes_inside, ReadsHere, IsNodeHere, by_here, same_meaning, left_here}
 use Rattle.dm_refine.proofs.ConstantTreeLemmas.{inside_declared}
 use Rattle.dm_refine.proofs.ReadFirstLemmas.{NamesNone, NameNone, IfFirst, OnlyFirst, OnlyFirstBelow, either}
-use Rattle.dm_late.proofs.ErasedLemmas.{erased, all_erased}
+use Rattle.dm_late.specs.Settled.{erased, all_erased}
 use Rattle.dm_late.proofs.GivenLemmas.{tree_if, run_if}
 
 -- ---- parameters that aren't read late
@@ -62,7 +62,7 @@ early_among late (q ∷ ps) p k =
 
 -- ---- the expression
 
-module _ (change : Called) (own : (p : ℕ) → IsAmong p change.added.parameters → (d : ℕ) → change.rename d ≡ p → ⊥) (automatic : ℕ → Bool)
+module _ (at : Spans) (change : Called) (own : (p : ℕ) → IsAmong p change.added.parameters → (d : ℕ) → change.rename d ≡ p → ⊥) (automatic : ℕ → Bool)
     (still : (d : ℕ) → automatic (change.rename d) ≡ false → is_nowhere_local change.old d ≡ true) (late : ℕ → Bool)
     (kind_at : ℕ → Option CType) (tree_at : ℕ → Option (Option Tree)) (run_at : ℕ → Option (Option Evaluation)) where
   abbrev ps : List ℕ
@@ -71,9 +71,9 @@ module _ (change : Called) (own : (p : ℕ) → IsAmong p change.added.parameter
   -- what stands for a parameter
   pub record IsGiven (p : ℕ) (tree : Tree) : Type 0 where
     pub kind_is : kind_at p ≡ Some (kind_of tree)
-    pub tree_is : tree_at p ≡ Some (tree_if (late p) (erased tree))
-    pub run_is : run_at p ≡ Some (run_if (late p) (erased tree))
-    pub gives : late p ≡ true → Gives (erased tree)
+    pub tree_is : tree_at p ≡ Some (tree_if (late p) (erased at tree))
+    pub run_is : run_at p ≡ Some (run_if (late p) (erased at tree))
+    pub gives : late p ≡ true → Gives (erased at tree)
 
   abbrev pub AreGiven : (ℕ → List Left) → Type 0
   AreGiven lefts = (n : ℕ) (left : Left) → IsAmong left (lefts n) → (p : ℕ) → slice_get ps n ≡ Some p → IsGiven p left.tree
@@ -104,8 +104,8 @@ module _ (change : Called) (own : (p : ℕ) → IsAmong p change.added.parameter
 
   -- a late argument stands there
   late_same : (tree other : Tree) → (reads : ReadsParameter change tree (kind_of other)) → IsGiven reads.parameter other → late reads.parameter ≡ true
-      → (tree_at reads.parameter ≡ Some (Some (erased other))) × Gives (erased other)
-  late_same tree other reads given e = (given.tree_is ∙ ap (λ b. Some (tree_if b (erased other))) e, given.gives e)
+      → (tree_at reads.parameter ≡ Some (Some (erased at other))) × Gives (erased at other)
+  late_same tree other reads given e = (given.tree_is ∙ ap (λ b. Some (tree_if b (erased at other))) e, given.gives e)
 
   by_late : (b : Bool) (R : Type 0) → (b ≡ true → R) → (b ≡ false → R) → R
   by_late true R f g = f refl
@@ -113,13 +113,13 @@ module _ (change : Called) (own : (p : ℕ) → IsAmong p change.added.parameter
 
   mutual
     pub body_but : (rewriting : Rewriting) → rewriting.rename ≡ change.rename → (run : Run) (scene : Scene) → scene.declared ≡ change.declared → (here : Here) (tree other : Tree) → IsWellTyped scene tree
-        → is_expression tree ≡ true → is_scoped automatic ps tree ≡ true → HasNoLengths tree → NamesNone (early late ps) tree → SameBody rewriting ps run here tree other
-        → AreGiven (λ n. standing_in rewriting run n here other) → IsSameBut change tree_at tree (erased other)
+        → is_expression tree ≡ true → is_scoped automatic ps tree ≡ true → AreTypesPlain automatic tree → NamesNone (early late ps) tree → SameBody rewriting ps run here tree other
+        → AreGiven (λ n. standing_in rewriting run n here other) → IsSameBut change tree_at tree (erased at other)
     body_but rewriting r run scene e here (node label kind spans parts) (node other other_kind other_spans others) typed expression scoped plain none h gives =
         let was = node other other_kind other_spans others in
         let none_below : NameNone (early late ps) parts = λ p k. omega (arith, none p k) in
         either (IsNodeHere rewriting here.occurrences label kind was (SameBodies rewriting ps run other other_spans parts others)) (ReadsHere ps here.occurrences label kind parts was)
-        (IsSameBut change tree_at (node label kind spans parts) (erased was))
+        (IsSameBut change tree_at (node label kind spans parts) (erased at was))
         (λ same.
         let renamed = same.same.0 ∙ ap (λ rename. relabelled rename other) r in
         inl (
@@ -135,14 +135,14 @@ module _ (change : Called) (own : (p : ℕ) → IsAmong p change.added.parameter
         (λ reads.
         let parameter = read_parameter scene e label kind spans parts was typed.0 typed.1 here.occurrences reads in
         let given = given_here here.occurrences here.runs label kind parts was (λ n. standing_below rewriting run n other other_spans others) gives reads in
-        by_late (late reads.parameter) (IsSameBut change tree_at (node label kind spans parts) (erased was))
+        by_late (late reads.parameter) (IsSameBut change tree_at (node label kind spans parts) (erased at was))
         (λ f. let found = late_same (node label kind spans parts) was parameter.0 (subst (λ p. IsGiven p was) (sym parameter.1) given) (ap late parameter.1 ∙ f) in inr (parameter.0, found.0, found.1))
         (λ f. absurd (names_first parts reads.parameter reads.reads.2 (none_below reads.parameter (among_early late ps reads.parameter f (slice_among ps reads.one.parameter reads.parameter reads.found))))))
         (by_here rewriting ps here.occurrences here.runs label kind parts was _ h)
 
     bodies_but : (rewriting : Rewriting) → rewriting.rename ≡ change.rename → (run : Run) (scene : Scene) → scene.declared ≡ change.declared → (label : Label) (spans : Spans) (trees others : Trees)
-        → AreWellTyped scene trees → are_expressions trees ≡ true → are_scoped automatic (same_scopes ps trees) trees ≡ true → HaveNoLengths trees → NameNone (early late ps) trees
-        → SameBodies rewriting ps run label spans trees others → AreGiven (λ n. standing_below rewriting run n label spans others) → AreSameBut change tree_at trees (all_erased others)
+        → AreWellTyped scene trees → are_expressions trees ≡ true → are_scoped automatic (same_scopes ps trees) trees ≡ true → AllTypesPlain automatic trees → NameNone (early late ps) trees
+        → SameBodies rewriting ps run label spans trees others → AreGiven (λ n. standing_below rewriting run n label spans others) → AreSameBut change tree_at trees (all_erased at others)
     bodies_but rewriting r run scene e label spans no_trees no_trees typed expression scoped plain none h gives = tt
     bodies_but rewriting r run scene e label spans no_trees (more_trees other others) typed expression scoped plain none h gives = absurd h
     bodies_but rewriting r run scene e label spans (more_trees one rest) no_trees typed expression scoped plain none h gives = absurd h
@@ -171,12 +171,12 @@ module _ (change : Called) (own : (p : ℕ) → IsAmong p change.added.parameter
 
   mutual
     pub body_stands : (rewriting : Rewriting) → rewriting.rename ≡ change.rename → (run : Run) (scene : Scene) → scene.declared ≡ change.declared → (here : Here) (tree other : Tree) → IsWellTyped scene tree
-        → is_expression tree ≡ true → is_scoped automatic ps tree ≡ true → HasNoLengths tree → OnlyFirst (early late ps) tree → SameBody rewriting ps run here tree other
-        → AreGiven (λ n. standing_in rewriting run n here other) → StandsWhole change kind_at tree_at run_at tree (begun (erased other))
+        → is_expression tree ≡ true → is_scoped automatic ps tree ≡ true → AreTypesPlain automatic tree → OnlyFirst (early late ps) tree → SameBody rewriting ps run here tree other
+        → AreGiven (λ n. standing_in rewriting run n here other) → StandsWhole change kind_at tree_at run_at tree (begun (erased at other))
     body_stands rewriting r run scene e here (node label kind spans parts) (node other other_kind other_spans others) typed expression scoped plain first h gives =
         let was = node other other_kind other_spans others in
         either (IsNodeHere rewriting here.occurrences label kind was (SameBodies rewriting ps run other other_spans parts others)) (ReadsHere ps here.occurrences label kind parts was)
-        (StandsWhole change kind_at tree_at run_at (node label kind spans parts) (begun (erased was)))
+        (StandsWhole change kind_at tree_at run_at (node label kind spans parts) (begun (erased at was)))
         (λ same.
         let renamed = same.same.0 ∙ ap (λ rename. relabelled rename other) r in
         inr (inr (
@@ -192,23 +192,23 @@ module _ (change : Called) (own : (p : ℕ) → IsAmong p change.added.parameter
         (λ reads.
         let parameter = read_parameter scene e label kind spans parts was typed.0 typed.1 here.occurrences reads in
         let given = given_here here.occurrences here.runs label kind parts was (λ n. standing_below rewriting run n other other_spans others) gives reads in
-        by_late (late reads.parameter) (StandsWhole change kind_at tree_at run_at (node label kind spans parts) (begun (erased was)))
+        by_late (late reads.parameter) (StandsWhole change kind_at tree_at run_at (node label kind spans parts) (begun (erased at was)))
         (λ f.
         let found = late_same (node label kind spans parts) was parameter.0 (subst (λ p. IsGiven p was) (sym parameter.1) given) (ap late parameter.1 ∙ f) in
-        inl (record { was = erased was; same = inr (parameter.0, found.0, found.1); is = refl }))
+        inl (record { was = erased at was; same = inr (parameter.0, found.0, found.1); is = refl }))
         (λ f.
         inr (inl (record {
           kind = other_kind;
           reads = parameter.0;
           typed = ap kind_at parameter.1 ∙ given.kind_is;
-          stands = ap run_at parameter.1 ∙ (given.run_is ∙ ap (λ b. Some (run_if b (erased was))) f);
+          stands = ap run_at parameter.1 ∙ (given.run_is ∙ ap (λ b. Some (run_if b (erased at was))) f);
         }))))
         (by_here rewriting ps here.occurrences here.runs label kind parts was _ h)
 
     bodies_stand : (rewriting : Rewriting) → rewriting.rename ≡ change.rename → (run : Run) (scene : Scene) → scene.declared ≡ change.declared → (label : Label) (spans : Spans) (opens : Open) (trees others : Trees)
-        → AreWellTyped scene trees → are_expressions trees ≡ true → are_scoped automatic (same_scopes ps trees) trees ≡ true → HaveNoLengths trees → OnlyFirstBelow (early late ps) opens trees
+        → AreWellTyped scene trees → are_expressions trees ≡ true → are_scoped automatic (same_scopes ps trees) trees ≡ true → AllTypesPlain automatic trees → OnlyFirstBelow (early late ps) opens trees
         → SameBodies rewriting ps run label spans trees others → AreGiven (λ n. standing_below rewriting run n label spans others)
-        → StandBelow change kind_at tree_at run_at opens trees (all_begun (all_erased others))
+        → StandBelow change kind_at tree_at run_at opens trees (all_begun (all_erased at others))
     bodies_stand rewriting r run scene e label spans opens no_trees no_trees typed expression scoped plain first h gives = tt
     bodies_stand rewriting r run scene e label spans opens no_trees (more_trees other others) typed expression scoped plain first h gives = absurd h
     bodies_stand rewriting r run scene e label spans opens (more_trees one rest) no_trees typed expression scoped plain first h gives = absurd h
@@ -216,11 +216,11 @@ module _ (change : Called) (own : (p : ℕ) → IsAmong p change.added.parameter
         let here = here_below rewriting run label spans other in
         let there : AreGiven (λ n. standing_in rewriting run n here other) =
         λ n left k p f. gives n left (among_left left (standing_in rewriting run n here other) (standing_below rewriting run n label spans others) k) p f in (
-          open_part (first_open opens) (OnlyFirst (early late ps) one) (NamesNone (early late ps) one) one (begun (erased other)) first.0
+          open_part (first_open opens) (OnlyFirst (early late ps) one) (NamesNone (early late ps) one) one (begun (erased at other)) first.0
               (λ only. body_stands rewriting r run scene e here one other typed.0 (and_left (is_expression one) _ expression) (and_left (is_scoped automatic ps one) _ scoped) plain.0 only h.0 there)
               (λ none.
               record {
-                was = erased other;
+                was = erased at other;
                 same = body_but rewriting r run scene e here one other typed.0 (and_left (is_expression one) _ expression) (and_left (is_scoped automatic ps one) _ scoped) plain.0 none h.0 there;
                 is = refl;
               }),

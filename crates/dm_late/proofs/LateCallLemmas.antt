@@ -24,7 +24,7 @@ use Rattle.dm_central.specs.Agreement.{open_effects, before_rest}
 use Rattle.dm_refine.proofs.CallTreeLemmas.{first_left, AreArguments, arguments_from}
 use Rattle.dm_late.specs.Late.{Judged, open_trees, beside_first, before_others, trees_left, trees_from}
 use Rattle.dm_late.proofs.ArgumentLemmas.{left_effect}
-use Rattle.dm_late.proofs.ErasedLemmas.{erased, all_erased}
+use Rattle.dm_late.specs.Settled.{erased, all_erased}
 use Rattle.dm_late.proofs.StableLemmas.{Covers, both_cover, appended_cover, itself_covers}
 
 -- ---- trees that stand for a parameter
@@ -92,52 +92,52 @@ module _ (program : Program) (objects : Objects) (numbers : List ℕ) (judged : 
 
 -- ---- effects
 
-module _ (program : Program) (objects : Objects) (numbers : List ℕ) (judged : Judged)
+module _ (at : Spans) (program : Program) (objects : Objects) (numbers : List ℕ) (judged : Judged)
     (apart : (c d n : ℕ) → object_named objects c ≡ Some n → object_named objects d ≡ Some n → c ≡ d)
     (closed_ones : (d n : ℕ) → judged.closed d ≡ true → object_named objects d ≡ Some n → IsAmong n numbers) where
   abbrev stage : Stage
   stage = record { scene = record { program = program; objects = objects }; closed = numbers; quiet = judged.quiet }
 
   abbrev Covering : List Tree → List Effect → Type 0
-  Covering trees effects = Covers program objects numbers judged apart closed_ones trees effects
+  Covering trees effects = Covers at program objects numbers judged apart closed_ones trees effects
 
-  pub open_cover : (opens : Open) (trees : Trees) → Covering (open_trees opens trees) (open_effects stage opens (all_begun (all_erased trees)))
+  pub open_cover : (opens : Open) (trees : Trees) → Covering (open_trees opens trees) (open_effects stage opens (all_begun (all_erased at trees)))
   open_cover opens no_trees = λ effect l. absurd l
   open_cover opens (more_trees first rest) =
-      appended_cover program objects numbers judged apart closed_ones (if first_open opens then first ∷ [] else []) (open_trees (others_open opens) rest)
-      (if first_open opens then effects_of stage (begun (erased first)) else []) (open_effects stage (others_open opens) (all_begun (all_erased rest))) (by_bool (first_open opens)) (open_cover (others_open opens) rest)
+      appended_cover at program objects numbers judged apart closed_ones (if first_open opens then first ∷ [] else []) (open_trees (others_open opens) rest)
+      (if first_open opens then effects_of stage (begun (erased at first)) else []) (open_effects stage (others_open opens) (all_begun (all_erased at rest))) (by_bool (first_open opens)) (open_cover (others_open opens) rest)
     where
-      by_bool : (b : Bool) → Covering (if b then first ∷ [] else []) (if b then effects_of stage (begun (erased first)) else [])
-      by_bool true = itself_covers program objects numbers judged apart closed_ones first
+      by_bool : (b : Bool) → Covering (if b then first ∷ [] else []) (if b then effects_of stage (begun (erased at first)) else [])
+      by_bool true = itself_covers at program objects numbers judged apart closed_ones first
       by_bool false = λ effect l. absurd l
 
   -- beside the first part, and before the others
   pub first_beside : (opens : Open) (before beside : List Tree) (others : Trees) (before_effects effects : List Effect) → Covering before before_effects → Covering beside effects
-      → Covering (beside_first opens before beside others) (central.beside_first stage opens before_effects effects (all_begun (all_erased others)))
+      → Covering (beside_first opens before beside others) (central.beside_first stage opens before_effects effects (all_begun (all_erased at others)))
   first_beside opens before beside others before_effects effects h k = by_bool (first_open opens)
     where
       by_bool : (b : Bool) → Covering (if b then before ++ (open_trees (others_open opens) others ++ beside) else beside)
-          (if b then before_effects ++ (open_effects stage (others_open opens) (all_begun (all_erased others)) ++ effects) else effects)
+          (if b then before_effects ++ (open_effects stage (others_open opens) (all_begun (all_erased at others)) ++ effects) else effects)
       by_bool true =
-          appended_cover program objects numbers judged apart closed_ones before (open_trees (others_open opens) others ++ beside) before_effects (open_effects stage (others_open opens) (all_begun (all_erased others)) ++ effects) h
-          (appended_cover program objects numbers judged apart closed_ones (open_trees (others_open opens) others) beside (open_effects stage (others_open opens) (all_begun (all_erased others))) effects
+          appended_cover at program objects numbers judged apart closed_ones before (open_trees (others_open opens) others ++ beside) before_effects (open_effects stage (others_open opens) (all_begun (all_erased at others)) ++ effects) h
+          (appended_cover at program objects numbers judged apart closed_ones (open_trees (others_open opens) others) beside (open_effects stage (others_open opens) (all_begun (all_erased at others))) effects
           (open_cover (others_open opens) others) k)
       by_bool false = k
 
   pub rest_before : (opens : Open) (before : List Tree) (other : Tree) (before_effects : List Effect) → Covering before before_effects
-      → Covering (before_others opens before other) (before_rest stage opens before_effects (begun (erased other)))
+      → Covering (before_others opens before other) (before_rest stage opens before_effects (begun (erased at other)))
   rest_before opens before other before_effects h = by_bool (first_open opens)
     where
-      by_bool : (b : Bool) → Covering (if b then before ++ other ∷ [] else before) (if b then before_effects ++ effects_of stage (begun (erased other)) else before_effects)
-      by_bool true = appended_cover program objects numbers judged apart closed_ones before (other ∷ []) before_effects (effects_of stage (begun (erased other))) h (itself_covers program objects numbers judged apart closed_ones other)
+      by_bool : (b : Bool) → Covering (if b then before ++ other ∷ [] else before) (if b then before_effects ++ effects_of stage (begun (erased at other)) else before_effects)
+      by_bool true = appended_cover at program objects numbers judged apart closed_ones before (other ∷ []) before_effects (effects_of stage (begun (erased at other))) h (itself_covers at program objects numbers judged apart closed_ones other)
       by_bool false = h
 
   -- a tree that stands for a parameter has the effects of the argument
-  pub first_covers : (other : Tree) (lefts : List Left) → HasFirst lefts → Covering (trees_left lefts) (effects_of stage (begun (erased (first_left other lefts))))
+  pub first_covers : (other : Tree) (lefts : List Left) → HasFirst lefts → Covering (trees_left lefts) (effects_of stage (begun (erased at (first_left other lefts))))
   first_covers other lefts one effect l = record {
     tree = one.left.tree;
     among = among-map (λ (left : Left). left.tree) one.left lefts (first_among lefts one);
-    has = subst (λ (tree : Tree). IsAmong effect (effects_of stage (begun (erased tree)))) (first_is other lefts one) l;
+    has = subst (λ (tree : Tree). IsAmong effect (effects_of stage (begun (erased at tree)))) (first_is other lefts one) l;
   }
 
   module _ (it : Rewriting) (run : Run) (inner : List Run) (other : Tree) where
@@ -155,27 +155,27 @@ module _ (program : Program) (objects : Objects) (numbers : List ℕ) (judged : 
     there_rest m q qs some k p e n at = some (suc k) p e n (omega (arith, at))
 
     pub rest_cover : (m : ℕ) (qs : List ℕ) (rest : Trees) → AreArguments qs rest → AreThere m qs
-        → Covering (trees_from it m rest run inner other) (open_effects stage every (all_begun (all_erased (arguments_from lefts other m rest))))
+        → Covering (trees_from it m rest run inner other) (open_effects stage every (all_begun (all_erased at (arguments_from lefts other m rest))))
     rest_cover m [] no_trees arguments some = λ effect l. absurd l
     rest_cover m [] (more_trees first rest) arguments some = absurd arguments
     rest_cover m (q ∷ qs) no_trees arguments some = absurd arguments
     rest_cover m (q ∷ qs) (more_trees first rest) arguments some =
-        appended_cover program objects numbers judged apart closed_ones (trees_left (lefts m)) (trees_from it (suc m) rest run inner other) (effects_of stage (begun (erased (first_left other (lefts m)))))
-        (open_effects stage every (all_begun (all_erased (arguments_from lefts other (suc m) rest)))) (first_covers other (lefts m) (there_first m q qs some))
+        appended_cover at program objects numbers judged apart closed_ones (trees_left (lefts m)) (trees_from it (suc m) rest run inner other) (effects_of stage (begun (erased at (first_left other (lefts m)))))
+        (open_effects stage every (all_begun (all_erased at (arguments_from lefts other (suc m) rest)))) (first_covers other (lefts m) (there_first m q qs some))
         (rest_cover (suc m) qs rest arguments.1 (there_rest m q qs some))
 
     -- the run has the effects of all
-    pub run_covers : (m : ℕ) (qs : List ℕ) (rest : Trees) → AreArguments qs rest → AreThere m qs → Covering (other ∷ []) (effects_in stage (all_begun (all_erased (arguments_from lefts other m rest))))
+    pub run_covers : (m : ℕ) (qs : List ℕ) (rest : Trees) → AreArguments qs rest → AreThere m qs → Covering (other ∷ []) (effects_in stage (all_begun (all_erased at (arguments_from lefts other m rest))))
     run_covers m [] no_trees arguments some = λ effect l. absurd l
     run_covers m [] (more_trees first rest) arguments some = absurd arguments
     run_covers m (q ∷ qs) no_trees arguments some = absurd arguments
     run_covers m (q ∷ qs) (more_trees first rest) arguments some =
-        both_cover program objects numbers judged apart closed_ones (other ∷ []) (effects_of stage (begun (erased (first_left other (lefts m))))) (effects_in stage (all_begun (all_erased (arguments_from lefts other (suc m) rest))))
+        both_cover at program objects numbers judged apart closed_ones (other ∷ []) (effects_of stage (begun (erased at (first_left other (lefts m))))) (effects_in stage (all_begun (all_erased at (arguments_from lefts other (suc m) rest))))
         (λ effect l.
         let one = there_first m q qs some in
         record {
           tree = other;
           among = inl refl;
-          has = left_effect stage it run m one.left effect (subst (λ (tree : Tree). IsAmong effect (effects_of stage (begun (erased tree)))) (first_is other (lefts m) one) l) (here_at run inner other) other (first_among (lefts m) one);
+          has = left_effect at stage it run m one.left effect (subst (λ (tree : Tree). IsAmong effect (effects_of stage (begun (erased at tree)))) (first_is other (lefts m) one) l) (here_at run inner other) other (first_among (lefts m) one);
         })
         (run_covers (suc m) qs rest arguments.1 (there_rest m q qs some))

@@ -39,7 +39,7 @@ use Rattle.dm_refine.proofs.ConstantTreeLemmas.{inside_declared}
 use Rattle.dm_refine.proofs.InertLemmas.{reads_or_calls, IsInert, AreInert}
 use Rattle.dm_refine.proofs.ReadFirstLemmas.{either}
 use Rattle.dm_refine.proofs.StaticLemmas.{declarator_inert}
-use Rattle.dm_late.proofs.ErasedLemmas.{erased, all_erased, erased_static}
+use Rattle.dm_late.specs.Settled.{nowhere, erased, all_erased, erased_static}
 
 -- ---- runs stand at expressions
 
@@ -60,7 +60,7 @@ value_below runs label spans tree e = ap (flat_map (runs_with runs)) (by_bool (i
 -- ---- locals without their places
 
 abbrev pub erased_local : Local → Local
-erased_local local = record { declarator = local.declarator; expressions = map erased local.expressions }
+erased_local local = record { declarator = local.declarator; expressions = map (erased nowhere) local.expressions }
 
 module _ (declared : List Declaration) where
   initialised_if : (b : Bool) (static : Static) (local : Local) → (if b then erased_static (record { declared = static.declared; initialiser = local.declarator.initialiser; expressions = local.expressions }) else erased_static static)
@@ -115,36 +115,36 @@ module _ (change : Called) (told : (d : ℕ) → option_map facts_of (declaratio
 
   module _ (statics old_statics : List Static) where
     mutual
-      unnamed : (standing : List Run) (tree other : Tree) → Agrees it standing tree other → names f tree ≡ false → replaced.Agrees (bare_of change statics old_statics) tree (erased other)
-      unnamed [] (node label kind spans parts) (node other other_kind other_spans others) h n =
-          inl (h.0.0, h.0.1, all_unnamed other other_spans parts others h.1 (or_right (is_name_of f label) (any_names f parts) n))
-      unnamed (run ∷ inner) (node label kind spans parts) other h n = absurd (unnamed_function parts (run_here run inner label kind parts other _ h).0.2 (or_right (is_name_of f label) (any_names f parts) n))
+      unnamed : (at : Spans) (standing : List Run) (tree other : Tree) → Agrees it standing tree other → names f tree ≡ false → replaced.Agrees (bare_of change statics old_statics) tree (erased at other)
+      unnamed at [] (node label kind spans parts) (node other other_kind other_spans others) h n =
+          inl (h.0.0, h.0.1, all_unnamed at other other_spans parts others h.1 (or_right (is_name_of f label) (any_names f parts) n))
+      unnamed at (run ∷ inner) (node label kind spans parts) other h n = absurd (unnamed_function parts (run_here run inner label kind parts other _ h).0.2 (or_right (is_name_of f label) (any_names f parts) n))
 
-      all_unnamed : (label : Label) (spans : Spans) (trees others : Trees) → AllAgree it label spans trees others → any_names f trees ≡ false → replaced.AllAgree (bare_of change statics old_statics) trees (all_erased others)
-      all_unnamed label spans no_trees no_trees h n = tt
-      all_unnamed label spans no_trees (more_trees other others) h n = absurd h
-      all_unnamed label spans (more_trees first rest) no_trees h n = absurd h
-      all_unnamed label spans (more_trees first rest) (more_trees other others) h n =
-          (unnamed (runs_below runs label spans other) first other h.0 (or_left (names f first) (any_names f rest) n), all_unnamed label spans rest others h.1 (or_right (names f first) (any_names f rest) n))
+      all_unnamed : (at : Spans) (label : Label) (spans : Spans) (trees others : Trees) → AllAgree it label spans trees others → any_names f trees ≡ false → replaced.AllAgree (bare_of change statics old_statics) trees (all_erased at others)
+      all_unnamed at label spans no_trees no_trees h n = tt
+      all_unnamed at label spans no_trees (more_trees other others) h n = absurd h
+      all_unnamed at label spans (more_trees first rest) no_trees h n = absurd h
+      all_unnamed at label spans (more_trees first rest) (more_trees other others) h n =
+          (unnamed at (runs_below runs label spans other) first other h.0 (or_left (names f first) (any_names f rest) n), all_unnamed at label spans rest others h.1 (or_right (names f first) (any_names f rest) n))
 
     mutual
-      pub plain : (standing : List Run) (tree other : Tree) → Agrees it standing tree other → IsInert tree → IsEvaluated f tree → replaced.Agrees (bare_of change statics old_statics) tree (erased other)
-      plain [] (node label kind spans parts) (node other other_kind other_spans others) h inert evaluated =
+      pub plain : (at : Spans) (standing : List Run) (tree other : Tree) → Agrees it standing tree other → IsInert tree → IsEvaluated f tree → replaced.Agrees (bare_of change statics old_statics) tree (erased at other)
+      plain at [] (node label kind spans parts) (node other other_kind other_spans others) h inert evaluated =
           inl (
             h.0.0,
             h.0.1,
-            either (AreInert parts) (any_names f parts ≡ false) (replaced.AllAgree (bare_of change statics old_statics) parts (all_erased others)) (λ rest. all_plain other other_spans parts others h.1 evaluated.1 rest)
-                (λ n. all_unnamed other other_spans parts others h.1 n) (below_node f label parts inert.1 evaluated.0),
+            either (AreInert parts) (any_names f parts ≡ false) (replaced.AllAgree (bare_of change statics old_statics) parts (all_erased at others)) (λ rest. all_plain at other other_spans parts others h.1 evaluated.1 rest)
+                (λ n. all_unnamed at other other_spans parts others h.1 n) (below_node f label parts inert.1 evaluated.0),
           )
-      plain (run ∷ inner) (node label kind spans parts) other h inert evaluated =
+      plain at (run ∷ inner) (node label kind spans parts) other h inert evaluated =
           absurd (true≢false (ap reads_or_calls (sym (run_here run inner label kind parts other _ h).0.0) ∙ inert.0))
 
-      all_plain : (label : Label) (spans : Spans) (trees others : Trees) → AllAgree it label spans trees others → AreEvaluated f trees → AreInert trees → replaced.AllAgree (bare_of change statics old_statics) trees (all_erased others)
-      all_plain label spans no_trees no_trees h evaluated inert = tt
-      all_plain label spans no_trees (more_trees other others) h evaluated inert = absurd h
-      all_plain label spans (more_trees first rest) no_trees h evaluated inert = absurd h
-      all_plain label spans (more_trees first rest) (more_trees other others) h evaluated inert =
-          (plain (runs_below runs label spans other) first other h.0 inert.0 evaluated.0, all_plain label spans rest others h.1 evaluated.1 inert.1)
+      all_plain : (at : Spans) (label : Label) (spans : Spans) (trees others : Trees) → AllAgree it label spans trees others → AreEvaluated f trees → AreInert trees → replaced.AllAgree (bare_of change statics old_statics) trees (all_erased at others)
+      all_plain at label spans no_trees no_trees h evaluated inert = tt
+      all_plain at label spans no_trees (more_trees other others) h evaluated inert = absurd h
+      all_plain at label spans (more_trees first rest) no_trees h evaluated inert = absurd h
+      all_plain at label spans (more_trees first rest) (more_trees other others) h evaluated inert =
+          (plain at (runs_below runs label spans other) first other h.0 inert.0 evaluated.0, all_plain at label spans rest others h.1 evaluated.1 inert.1)
 
     -- ---- declarators
 
@@ -158,12 +158,12 @@ module _ (change : Called) (told : (d : ℕ) → option_map facts_of (declaratio
     listed_agree label spans (more_trees first rest) no_trees h = absurd h
     listed_agree label spans (more_trees first rest) (more_trees other others) h = ((runs_below runs label spans other, h.0), listed_agree label spans rest others h.1)
 
-    plain_list : (trees others : List Tree) → Zipped AgreesSomewhere trees others → All IsInert trees → All (IsEvaluated f) trees → Zipped (replaced.Agrees (bare_of change statics old_statics)) trees (map erased others)
+    plain_list : (trees others : List Tree) → Zipped AgreesSomewhere trees others → All IsInert trees → All (IsEvaluated f) trees → Zipped (replaced.Agrees (bare_of change statics old_statics)) trees (map (erased nowhere) others)
     plain_list [] [] h inert evaluated = tt
     plain_list [] (other ∷ others) h inert evaluated = absurd h
     plain_list (tree ∷ trees) [] h inert evaluated = absurd h
     plain_list (tree ∷ trees) (other ∷ others) h inert evaluated = (
-      plain h.0.0 tree other h.0.1 (All-head IsInert tree trees inert) (All-head (IsEvaluated f) tree trees evaluated),
+      plain nowhere h.0.0 tree other h.0.1 (All-head IsInert tree trees inert) (All-head (IsEvaluated f) tree trees evaluated),
       plain_list trees others h.1 (All-tail IsInert tree trees inert) (All-tail (IsEvaluated f) tree trees evaluated),
     )
 

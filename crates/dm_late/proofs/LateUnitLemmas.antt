@@ -1,18 +1,18 @@
 -- Aligned units, where a function is put in that may read its arguments late.
---     late_units      its calls stand in place of runs, as the law of programs asks
-use Rattle.std.specs.Prelude.{◌≡◌, refl, ◌⊎◌, ℕ, ◌+◌, Bool, true, false, not, ◌&&◌, IsTrue, All, List, [], ◌∷◌, ◌++◌, map, take, drop, Option, Some, None, option_map, slice_get}
+--     restated_functions new put added      the functions of the new unit, with this definition of the added one
+--     restated_refines      its calls stand in place of runs, as the law of programs asks
+use Rattle.std.specs.Prelude.{◌≡◌, refl, ◌⊎◌, ℕ, ◌+◌, Bool, true, false, not, ◌&&◌, All, List, [], ◌∷◌, ◌++◌, map, take, drop, Some, option_map, slice_get, if◌then◌else◌}
 use Rattle.std.specs.List.{list_all, AllByRecursion}
-use Rattle.std.specs.Option.{IsSomeAnd}
 use Rattle.std.proofs.Common.{ap, sym, ◌∙◌, subst, inl, inr, append_assoc}
 use Rattle.std.proofs.lemmas.Bool.{false≢true}
 use Rattle.std.proofs.lemmas.List.Elements.{All-head, All-tail, All-from_recursion}
 use Rattle.dm_runs.specs.declared.run.Run.{Run}
-use Rattle.dm_type.specs.CTypes.{bare}
+use Rattle.dm_type.specs.CTypes.{CType}
 use Rattle.dm_type.specs.Tables.{Table}
 use Rattle.dm_tree.specs.Initialisers.{DeclaratorsFit}
 use Rattle.dm_tree.specs.Scenes.{Scene, is_lvalue}
 use Rattle.dm_tree.specs.TypeNumbers.{all_pass}
-use Rattle.dm_tree.specs.Trees.{call, block, is_statement, Declarator, Tree, Trees, node, no_trees, more_trees, label_of, kind_of, trees_of, parts_of, listed}
+use Rattle.dm_tree.specs.Trees.{Label, call, block, return, is_statement, Declarator, Spans, Tree, Trees, node, no_trees, more_trees, label_of, spans_of, trees_of, parts_of, listed}
 use Rattle.dm_tree.specs.Typing.{inside, IsWellTyped, FormFits, ExternalFits, IsWellTypedUnit, file_scene, body_scene}
 use Rattle.dm_tree.specs.Units.{External, ExternalForm, declares, defines_function, TypedUnit}
 use Rattle.dm_meaning.specs.Among.{IsAmong}
@@ -30,39 +30,42 @@ use Rattle.dm_meaning.proofs.OptionLemmas.{and_left, and_right}
 use Rattle.dm_meaning.proofs.RunLemmas.{OptionAgrees}
 use Rattle.dm_meaning.proofs.StatementLemmas.{zipped_append}
 use Rattle.dm_meaning.proofs.WholeLemmas.{typed-expression, typed-whole}
-use Rattle.dm_same.proofs.MachineLemmas.{refines_same}
 use Rattle.dm_effect.specs.Entities.{trees_in_form}
-use Rattle.dm_effect.specs.Scoped.{is_automatic, is_scoped, is_scoped_form, is_scoped_external, IsScopedUnit}
+use Rattle.dm_effect.specs.Scoped.{is_automatic, is_scoped}
 use Rattle.dm_rewrite.specs.Closed.{only_closed}
 use Rattle.dm_rewrite.specs.ClosedStates.{AllNameOnly, ListNamesOnly}
 use Rattle.dm_agree.specs.Standing.{runs_at}
-use Rattle.dm_agree.specs.Agreement.{Added, added_function, Rewriting, AgreesWhole, Agrees}
+use Rattle.dm_agree.specs.Agreement.{added_function, Rewriting, AgreesWhole, Agrees}
 use Rattle.dm_align.specs.Units as aligned
-use Rattle.dm_align.specs.Units.{Insertion, moved, other_externals, FormAdds, rewriting_of, AreAligned}
+use Rattle.dm_align.specs.Units.{Insertion, moved, other_externals, other_entries, entry_of, rewriting_of}
 use Rattle.dm_central.specs.Bodies.{Known, CallsInPlace, IsWholeProgram, DefinitionAgrees}
-use Rattle.dm_central.specs.ClosedPrograms.{known_where, AreOnlyNamed}
+use Rattle.dm_central.specs.ClosedPrograms.{known_with, AreOnlyNamed, AreAlwaysSafe}
 use Rattle.dm_central.specs.QuietFrames as quiet
+use Rattle.dm_central.specs.QuietFrames.{WritesNothing}
 use Rattle.dm_central.proofs.QuietTreeLemmas.{writes_nothing}
-use Rattle.dm_central.proofs.RefineLemmas.{known_calls_refine}
+use Rattle.dm_central.proofs.RefineLemmas.{safe_calls_refine}
 use Rattle.dm_central.proofs.WholeLemmas.{no_statements}
-use Rattle.dm_refine.specs.Calls.{HasResult, HasNoLengths, IsEvaluated, AreOthersEvaluated}
+use Rattle.dm_refine.specs.Calls.{HasPlainTypes, IsEvaluated, AreOthersEvaluated}
 use Rattle.dm_refine.proofs.AutomaticLemmas.{nowhere_local}
 use Rattle.dm_refine.proofs.CallBodyLemmas.{not_true}
 use Rattle.dm_refine.proofs.CallGivesLemmas.{gives}
-use Rattle.dm_refine.proofs.CallPutLemmas.{IsFunctionPut, function_put, IsReturned, returned, scoped_body}
+use Rattle.dm_refine.proofs.CallLocalLemmas.{same_statement}
 use Rattle.dm_refine.proofs.CallStaticLemmas.{LocalAgrees, statics_agree}
 use Rattle.dm_refine.proofs.CallTreeLemmas.{AddsFunction, IsAddedEntry, at_run}
 use Rattle.dm_refine.proofs.ConstantTreeLemmas.{inside_declared}
-use Rattle.dm_refine.proofs.CallUnitLemmas.{whole_locals, locals_but_added, automatic_fact, automatic_is, no_function, distinct_of, all_put}
+use Rattle.dm_refine.proofs.CallUnitLemmas.{locals_but_added, automatic_fact, automatic_is, distinct_of, all_put}
 use Rattle.dm_refine.proofs.NumberLemmas.{moved_injective, moved_apart, entry_told}
-use Rattle.dm_refine.proofs.PutLemmas.{parts_of_list, all_without, all_passing, all_there}
+use Rattle.dm_refine.proofs.PutLemmas.{parts_of_list, all_without}
 use Rattle.dm_refine.proofs.TypedLemmas.{typed_body}
+use Rattle.dm_void.specs.Bodies.{with_functions}
 use Rattle.dm_late.specs.Late as late
 use Rattle.dm_late.specs.Late.{Judged, AreReadFirst, EvaluatesAlike, FormAlike, EvaluateAlike, AreClosed}
+use Rattle.dm_late.proofs.AddedLemmas.{IsAddedFunction, IsValueThere}
 use Rattle.dm_late.proofs.ArgumentLemmas.{names_trees}
 use Rattle.dm_late.proofs.DefinitionLemmas.{zipped_map, zipped_partner, weaker_option, both_some, related_lookup, found_added, related_main, none_static}
-use Rattle.dm_late.proofs.ErasedLemmas.{nowhere, erased, all_erased, erased_list, erased_trees, erased_definition, erased_program, erased_refines}
-use Rattle.dm_late.proofs.ErasedWholeLemmas.{all_whole_erased, quiet_erased, still_nowhere}
+use Rattle.dm_late.specs.Settled.{nowhere, erased, all_erased, spot, settled, all_settled, erased_definition, erased_program}
+use Rattle.dm_late.proofs.ErasedLemmas.{erased_list, settled_list, settled_statement, erased_refines}
+use Rattle.dm_late.proofs.ErasedWholeLemmas.{all_whole_settled, quiet_erased, quiet_settled, all_names_settled, still_nowhere}
 use Rattle.dm_late.proofs.LateLocalLemmas.{value_at, erased_local, statics_erased, AgreesSomewhere, declarators_agree, locals_agree}
 use Rattle.dm_late.proofs.LateStatementLemmas.{items_agree}
 use Rattle.dm_late.proofs.LateTreeLemmas.{IsEarly, AllNameOr}
@@ -95,19 +98,26 @@ all_whole (more_trees first rest) e = both (is_whole first) (list_all is_whole (
     both false b f g = absurd (false≢true f)
 
 -- the items of a body are whole
-items_whole : (scene : Scene) (tree : Tree) → label_of tree ≡ block → IsWellTyped scene tree → list_all is_whole (parts_of (erased tree)) ≡ true
+items_whole : (scene : Scene) (tree : Tree) → label_of tree ≡ block → IsWellTyped scene tree → list_all is_whole (parts_of (settled tree)) ≡ true
 items_whole scene (node label kind spans parts) is typed =
-    ap (list_all is_whole) (erased_list parts)
-    ∙ (all_whole_erased (listed parts)
-    ∙ all_whole parts (subst (λ l. is_whole (node l kind spans parts) ≡ true) is (typed-whole scene (node label kind spans parts) typed (ap is_statement is))))
+    ap (λ (t : Tree). list_all is_whole (parts_of t)) (settled_statement label kind spans parts (ap is_statement is))
+    ∙ (ap (list_all is_whole) (settled_list parts)
+    ∙ (all_whole_settled (listed parts)
+    ∙ all_whole parts (subst (λ l. is_whole (node l kind spans parts) ≡ true) is (typed-whole scene (node label kind spans parts) typed (ap is_statement is)))))
 
 -- ---- units
 
-module _ (old_types new_types : Table) (old new : TypedUnit) (runs : List Run) (old_typed : IsWellTypedUnit old_types old) (typed : IsWellTypedUnit new_types new) (scoped : IsScopedUnit new)
-    (put : Insertion) (h : AreAligned old_types new_types old new runs (Some put)) (f : ℕ) (parameters : List ℕ) (body : Tree) (adds : put.added ≡ added_function f parameters body)
-    (lengths : HasNoLengths body) (evaluated : AreOthersEvaluated f put new) (judged : Judged) (first : AreReadFirst judged runs parameters body)
+-- the functions, of which the added one has this definition
+abbrev pub restated_functions : TypedUnit → Insertion → Definition → List Definition
+restated_functions new put added = definitions_in (take put.external new.externals) ++ added ∷ definitions_in (drop (put.external + 1) new.externals)
+
+module _ (old_types new_types : Table) (old new : TypedUnit) (runs : List Run) (old_typed : IsWellTypedUnit old_types old) (typed : IsWellTypedUnit new_types new) (put : Insertion)
+    (same_entries : map entry_of (other_entries (Some put) new.declared) ≡ map entry_of old.declared)
+    (agreed : Zipped (aligned.ExternalsAgree (rewriting_of old_types old runs (Some put))) (other_externals (Some put) new.externals) old.externals)
+    (f : ℕ) (parameters : List ℕ) (body : Tree) (adds : put.added ≡ added_function f parameters body)
+    (lengths : HasPlainTypes new body) (evaluated : AreOthersEvaluated f put new) (judged : Judged) (first : AreReadFirst judged runs parameters body)
     (alike : EvaluateAlike judged (rewriting_of old_types old runs (Some put)) parameters (other_externals (Some put) new.externals) old.externals)
-    (closed : AreClosed judged old (moved (Some put)) (program_of new_types new)) (silent : late.AreQuiet judged (program_of old_types old)) where
+    (silent : late.AreQuiet judged (program_of old_types old)) (always : AreAlwaysSafe (erased_program (program_of old_types old)) judged.safe) where
   abbrev Fits : External → Type 0
   Fits external = ExternalFits (file_scene new_types new.declared) external × AllByRecursion (IsEvaluated f) (trees_in_form external.form)
 
@@ -124,25 +134,29 @@ module _ (old_types new_types : Table) (old new : TypedUnit) (runs : List Run) (
   OldFits external = ExternalFits (file_scene old_types old.declared) external
 
   abbrev told : (d : ℕ) → option_map facts_of (declaration_at new.declared (moved (Some put) d)) ≡ option_map facts_of (declaration_at old.declared d)
-  told = entry_told (Some put) new.declared old.declared h.declared
+  told = entry_told (Some put) new.declared old.declared same_entries
 
-  module _ (external : External) (found : slice_get new.externals put.external ≡ Some external) (one : IsFunctionPut new_types new put f parameters body external) where
+  -- the function may have another body, which returns the expression
+  module _ (external : External) (found : slice_get new.externals put.external ≡ Some external) (written : Tree) (one : IsAddedFunction new_types new put f parameters written external) (nothing_declared : locals_of external.form ≡ [])
+      (value : IsValueThere new.declared body) (body_scoped : is_scoped (is_automatic new.declared) parameters body ≡ true) (restated : Tree) (return_kind : CType) (return_spans : Spans)
+      (returns : parts_of restated ≡ node return return_kind return_spans (more_trees body no_trees) ∷ [])
+      (closed : AreClosed judged old (moved (Some put)) (with_functions (program_of new_types new) (restated_functions new put (record { function = f; parameters = parameters; body = restated })))) where
     abbrev added : Definition
-    added = record { function = f; parameters = parameters; body = one.whole }
+    added = record { function = f; parameters = parameters; body = restated }
 
     abbrev pub change : Called
     change = record {
       old = erased_program (program_of old_types old);
       declared = new.declared;
-      functions = definitions_in new.externals;
+      functions = restated_functions new put added;
       statics = statics_from new.declared (all_locals new.externals) [];
       rename = moved (Some put);
-      added = record { function = f; parameters = parameters; body = one.whole };
+      added = added;
       body = body;
     }
 
     abbrev known : Known
-    known = known_where judged.closed judged.quiet
+    known = known_with judged.closed judged.quiet judged.safe
 
     abbrev injective : (c d : ℕ) → change.rename c ≡ change.rename d → c ≡ d
     injective = moved_injective (Some put)
@@ -162,9 +176,6 @@ module _ (old_types new_types : Table) (old new : TypedUnit) (runs : List Run) (
     is_added : AddsFunction change put.added
     is_added = subst (AddsFunction change) (sym adds) (refl, refl, refl)
 
-    value : IsReturned (body_scene (file_scene new_types new.declared) one.result) body
-    value = returned (body_scene (file_scene new_types new.declared) one.result) one.whole body one.return_kind one.return_spans one.returns one.fits
-
     body_is : is_statement (label_of body) ≡ false
     body_is = not_true (is_statement (label_of body)) (and_right (not (is_lvalue body)) (not (is_statement (label_of body))) value.value)
 
@@ -172,7 +183,7 @@ module _ (old_types new_types : Table) (old new : TypedUnit) (runs : List Run) (
     body_expression = typed-expression value.inner body value.typed (and_right (not (is_lvalue body)) (not (is_statement (label_of body))) value.value)
 
     body_value : Gives body
-    body_value = gives new.declared typed.entries value.inner value.same body value.typed value.value (no_function (bare one.result) (kind_of body) value.covered one.no_function)
+    body_value = gives new.declared typed.entries value.inner value.same body value.typed value.value value.no_function
 
     -- what is automatic in one unit is in the other
     same_automatic : (d : ℕ) → is_automatic new.declared (moved (Some put) d) ≡ is_automatic old.declared d
@@ -183,14 +194,6 @@ module _ (old_types new_types : Table) (old new : TypedUnit) (runs : List Run) (
 
     local : (d : ℕ) → judged.closed d ≡ true → is_automatic new.declared (moved (Some put) d) ≡ true
     local d picked = same_automatic d ∙ (closed d picked).0
-
-    scoped_whole : is_scoped (is_automatic new.declared) parameters one.whole ≡ true
-    scoped_whole =
-        subst (λ (form : ExternalForm). IsTrue (is_scoped_form (is_automatic new.declared) form)) one.form
-        (all_there (λ (each : External). IsTrue (is_scoped_external new.declared each)) new.externals (all_passing (is_scoped_external new.declared) new.externals scoped) put.external external found)
-
-    body_scoped : is_scoped (is_automatic new.declared) parameters body ≡ true
-    body_scoped = scoped_body (is_automatic new.declared) parameters one.whole body one.return_kind one.return_spans one.block one.returns scoped_whole
 
     early_ones : (run : Run) → IsAmong run runs → IsEarly judged parameters body
     early_ones run k p l = first run k p l
@@ -222,11 +225,14 @@ module _ (old_types new_types : Table) (old new : TypedUnit) (runs : List Run) (
     no_block e = cc
 
     names_body : (scene : Scene) → scene.declared ≡ new.declared → (standing : List Run) (tree other : Tree) → label_of tree ≡ block → IsWellTyped scene tree → Agrees it standing tree other → (d : ℕ) → judged.closed d ≡ true
-        → ListNamesOnly (moved (Some put) d) (parts_of tree) → ListNamesOnly d (parts_of (erased other))
+        → ListNamesOnly (moved (Some put) d) (parts_of tree) → ListNamesOnly d (parts_of (settled other))
     names_body scene e [] (node label kind spans parts) (node other other_kind other_spans others) is t agree d picked only =
-        only_list d (all_erased others)
-        (names_trees change told injective new_types typed.entries entry runs put.added is_added distinct own apart body_expression (is_automatic new.declared) d (local d picked) body_scoped lengths (inside scene label (listed parts))
-        (inside_declared scene label (listed parts) ∙ e) only_closed other other_spans parts others t.1 agree.1 (list_only (moved (Some put) d) parts only))
+        let old_s = sym (same_statement (moved (Some put)) other) ∙ (ap is_statement (sym agree.0.0) ∙ ap is_statement is) in
+        subst (λ (t : Tree). ListNamesOnly d (parts_of t)) (sym (settled_statement other other_kind other_spans others old_s))
+        (only_list d (all_settled others)
+        (all_names_settled d nowhere others
+        (names_trees nowhere change told injective new_types typed.entries entry runs put.added is_added distinct own apart body_expression (is_automatic new.declared) d (local d picked) body_scoped lengths (inside scene label (listed parts))
+        (inside_declared scene label (listed parts) ∙ e) only_closed other other_spans parts others t.1 agree.1 (list_only (moved (Some put) d) parts only))))
     names_body scene e (run ∷ inner) (node label kind spans parts) other is t agree d picked only =
         absurd (no_block (sym is ∙ (at_run change told injective new_types typed.entries entry runs put.added is_added distinct put.added is_added run inner label kind parts other _ agree).0.0))
 
@@ -253,7 +259,7 @@ module _ (old_types new_types : Table) (old new : TypedUnit) (runs : List Run) (
                 agree.0,
                 agree.1,
                 items_agree change told injective new_types typed.entries entry runs put.added is_added distinct own apart body_expression body_value (is_automatic new.declared) still body_scoped lengths value.inner value.same value.typed judged
-                    local scene refl (body_scene (file_scene old_types old.declared) old_body.result) (runs_at runs other) early_ones tree other new_body.block new_body.typed old_body.typed calls.0
+                    local scene refl (body_scene (file_scene old_types old.declared) old_body.result) (runs_at runs other) early_ones (spot (spans_of other)) tree other new_body.block new_body.typed old_body.typed calls.0
                     (λ d picked. list_or (moved (Some put) d) (trees_of tree) (only_names d picked)) agree.2 same,
               ),
               λ d picked. names_body scene refl (runs_at runs other) tree other new_body.block new_body.typed agree.2 d picked (only_names d picked),
@@ -302,19 +308,16 @@ module _ (old_types new_types : Table) (old new : TypedUnit) (runs : List Run) (
     split : new.externals ≡ before ++ external ∷ behind
     split = parts_of_list put.external new.externals external found
 
-    all_definitions : definitions_in new.externals ≡ definitions_in before ++ added ∷ definitions_in behind
-    all_definitions = ap definitions_in split ∙ (definitions_append before (external ∷ behind) ∙ ap (λ (form : ExternalForm). definitions_in before ++ (definitions_by form ++ definitions_in behind)) one.form)
-
     -- the old functions are among the new ones
     only_there : (definition : Definition) → IsAmong definition (definitions_in (before ++ behind)) → OnlyIn definition
-    only_there definition l d picked = (closed d picked).1 definition (subst (IsAmong definition) (sym all_definitions) (by_side (among_either definition (definitions_in before) (definitions_in behind) (subst (IsAmong definition) (definitions_append before behind) l))))
+    only_there definition l d picked = (closed d picked).1 definition (by_side (among_either definition (definitions_in before) (definitions_in behind) (subst (IsAmong definition) (definitions_append before behind) l)))
       where
         by_side : IsAmong definition (definitions_in before) ⊎ IsAmong definition (definitions_in behind) → IsAmong definition (definitions_in before ++ added ∷ definitions_in behind)
         by_side (inl k) = among_left definition (definitions_in before) (added ∷ definitions_in behind) k
         by_side (inr k) = among_right definition (definitions_in before) (added ∷ definitions_in behind) (inr k)
 
     both_agree : Zipped Both (before ++ behind) old.externals
-    both_agree = all_agree (before ++ behind) old.externals all_fit old_typed.externals h.externals alike only_there
+    both_agree = all_agree (before ++ behind) old.externals all_fit old_typed.externals agreed alike only_there
 
     abbrev olds : List Definition
     olds = map erased_definition (definitions_in old.externals)
@@ -327,27 +330,23 @@ module _ (old_types new_types : Table) (old new : TypedUnit) (runs : List Run) (
     same_function : (definition other : Definition) → Alike definition other → definition.function ≡ moved (Some put) other.function
     same_function definition other k = k.0.0
 
-    functions : (g : ℕ) → OptionAgrees (DefinitionAgrees change known) (definition_in (definitions_in new.externals) (moved (Some put) g)) (definition_in olds g)
+    functions : (g : ℕ) → OptionAgrees (DefinitionAgrees change known) (definition_in change.functions (moved (Some put) g)) (definition_in olds g)
     functions g =
-        subst (λ (definitions : List Definition). OptionAgrees (DefinitionAgrees change known) (definition_in definitions (moved (Some put) g)) (definition_in olds g)) (sym all_definitions)
-        (weaker_option Alike (DefinitionAgrees change known) (λ definition other k. k.0) (definition_in (definitions_in before ++ added ∷ definitions_in behind) (moved (Some put) g)) (definition_in olds g)
-        (related_lookup added (moved (Some put)) injective apart Alike same_function (definitions_in before) (definitions_in behind) olds related g))
+        weaker_option Alike (DefinitionAgrees change known) (λ definition other k. k.0) (definition_in (definitions_in before ++ added ∷ definitions_in behind) (moved (Some put) g)) (definition_in olds g)
+        (related_lookup added (moved (Some put)) injective apart Alike same_function (definitions_in before) (definitions_in behind) olds related g)
 
     not_main : is_main (declaration_at new.declared f) ≡ false
     not_main = ap is_main one.found ∙ one.not_main
 
-    mains : OptionAgrees (DefinitionAgrees change known) (main_in (new_of change) (definitions_in new.externals)) (main_in change.old olds)
+    mains : OptionAgrees (DefinitionAgrees change known) (main_in (new_of change) change.functions) (main_in change.old olds)
     mains =
-        subst (λ (definitions : List Definition). OptionAgrees (DefinitionAgrees change known) (main_in (new_of change) definitions) (main_in change.old olds)) (sym all_definitions)
-        (weaker_option Alike (DefinitionAgrees change known) (λ definition other k. k.0) (main_in (new_of change) (definitions_in before ++ added ∷ definitions_in behind)) (main_in change.old olds)
-        (related_main added (moved (Some put)) injective apart Alike same_function (new_of change) change.old told not_main (definitions_in before) (definitions_in behind) olds related))
+        weaker_option Alike (DefinitionAgrees change known) (λ definition other k. k.0) (main_in (new_of change) (definitions_in before ++ added ∷ definitions_in behind)) (main_in change.old olds)
+        (related_main added (moved (Some put)) injective apart Alike same_function (new_of change) change.old told not_main (definitions_in before) (definitions_in behind) olds related)
 
     locals_same : Zipped Same (all_locals new.externals) (all_locals old.externals)
     locals_same =
         subst (λ (externals : List External). Zipped Same (all_locals externals) (all_locals old.externals)) (sym split)
-        (locals_but_added Same before behind old.externals external
-        (ap locals_of one.form ∙ whole_locals one.whole body one.return_kind one.return_spans one.block one.returns body_is)
-        (both_locals (before ++ behind) old.externals both_agree))
+        (locals_but_added Same before behind old.externals external nothing_declared (both_locals (before ++ behind) old.externals both_agree))
 
     statics : Zipped (StaticAgrees (statics_of change)) change.statics change.old.statics
     statics =
@@ -361,9 +360,8 @@ module _ (old_types new_types : Table) (old new : TypedUnit) (runs : List Run) (
       apart = apart;
       added = record {
         told = told;
-        defined = λ d. both_some (DefinitionAgrees change known) (definition_in (definitions_in new.externals) (moved (Some put) d)) (definition_in olds d) (functions d);
-        found = ap (λ (definitions : List Definition). definition_in definitions f) all_definitions
-            ∙ found_added added (moved (Some put)) injective apart Alike same_function (definitions_in before) (definitions_in behind) olds related;
+        defined = λ d. both_some (DefinitionAgrees change known) (definition_in change.functions (moved (Some put) d)) (definition_in olds d) (functions d);
+        found = found_added added (moved (Some put)) injective apart Alike same_function (definitions_in before) (definitions_in behind) olds related;
         distinct = distinct;
         own = own;
         gives = body_value;
@@ -372,9 +370,9 @@ module _ (old_types new_types : Table) (old new : TypedUnit) (runs : List Run) (
       mains = mains;
       statics = statics;
       not_main = not_main;
-      return_kind = one.return_kind;
-      return_spans = one.return_spans;
-      returns = one.returns;
+      return_kind = return_kind;
+      return_spans = return_spans;
+      returns = returns;
     }
 
     only_named : AreOnlyNamed change judged.closed
@@ -384,38 +382,38 @@ module _ (old_types new_types : Table) (old new : TypedUnit) (runs : List Run) (
       new = λ d picked. (closed d picked).1;
     }
 
-    quiet_one : (definition : Definition) → late.ReturnsQuietly judged.quiet definition → quiet.ReturnsQuietly change.old judged.quiet (erased_definition definition)
-    quiet_one definition r = record {
-      kind = r.kind;
+    -- the one `return` of a body
+    quiet_by : (label : Label) (own_kind : CType) (own_spans : Spans) (parts : Trees) (f : ℕ) (names : List ℕ) (kind : CType) (spans : Spans) (value_of : Tree)
+        → listed parts ≡ node return kind spans (more_trees value_of no_trees) ∷ [] → WritesNothing judged.quiet value_of → (b : Bool)
+        → quiet.ReturnsQuietly change.old judged.quiet (record { function = f; parameters = names; body = if b then node label own_kind nowhere (all_settled parts) else node label own_kind (spot own_spans) (all_erased (spot own_spans) parts) })
+    quiet_by label own_kind own_spans parts f names kind spans value_of returns_it quietly true = record {
+      kind = kind;
       spans = nowhere;
-      value = erased r.value;
-      returns_it = ap listed (erased_trees definition.body) ∙ (erased_list (trees_of definition.body) ∙ ap (map erased) r.returns_it);
-      quietly = λ objects effect l. writes_nothing change.old judged.quiet (erased r.value) (quiet_erased judged.quiet r.value r.quietly) objects effect l;
+      value = settled value_of;
+      returns_it = settled_list parts ∙ ap (map settled) returns_it;
+      quietly = λ objects effect l. writes_nothing change.old judged.quiet (settled value_of) (quiet_settled judged.quiet value_of quietly) objects effect l;
     }
+    quiet_by label own_kind own_spans parts f names kind spans value_of returns_it quietly false = record {
+      kind = kind;
+      spans = spot own_spans;
+      value = erased (spot own_spans) value_of;
+      returns_it = erased_list (spot own_spans) parts ∙ ap (map (erased (spot own_spans))) returns_it;
+      quietly = λ objects effect l. writes_nothing change.old judged.quiet (erased (spot own_spans) value_of) (quiet_erased (spot own_spans) judged.quiet value_of quietly) objects effect l;
+    }
+
+    quiet_one : (g : ℕ) (names : List ℕ) (tree : Tree) → late.ReturnsQuietly judged.quiet (record { function = g; parameters = names; body = tree })
+        → quiet.ReturnsQuietly change.old judged.quiet (erased_definition (record { function = g; parameters = names; body = tree }))
+    quiet_one g names (node label own_kind own_spans parts) r = quiet_by label own_kind own_spans parts g names r.kind r.spans r.value r.returns_it r.quietly (is_statement label)
 
     are_quiet : quiet.AreQuiet change.old judged.quiet
     are_quiet definition l q =
         let was = among-map_from erased_definition definition (definitions_in old.externals) l in
-        subst (quiet.ReturnsQuietly change.old judged.quiet) (sym was.2) (quiet_one was.0 (silent was.0 was.1 (ap (λ (d : Definition). judged.quiet d.function) (sym was.2) ∙ q)))
+        subst (quiet.ReturnsQuietly change.old judged.quiet) (sym was.2) (quiet_one was.0.function was.0.parameters was.0.body (silent was.0 was.1 (ap (λ (d : Definition). judged.quiet d.function) (sym was.2) ∙ q)))
 
     whole : IsWholeProgram change.old
     whole definition l = (zipped_partner Alike (definitions_in before ++ definitions_in behind) olds related definition l).related.2
 
-    refines : Refines (machine_of (program_of new_types new)) (machine_of (program_of old_types old))
-    refines =
-        refines_through (machine_of (program_of new_types new)) (machine_of (program_of old_types new)) (machine_of (program_of old_types old)) (refines_same old_types new_types h.structs new)
-        (refines_through (machine_of (program_of old_types new)) (machine_of (erased_program (program_of old_types old))) (machine_of (program_of old_types old))
-        (known_calls_refine change judged.closed judged.quiet in_place only_named are_quiet (no_statements change.old whole)) (erased_refines (program_of old_types old)))
-
-  module _ (result : HasResult new f) where
-    by_external : (found : Option External) → slice_get new.externals put.external ≡ found → IsSomeAnd found (λ external. FormAdds new_types new put put.added external.form)
-        → Refines (machine_of (program_of new_types new)) (machine_of (program_of old_types old))
-    by_external None e adds_it = absurd adds_it
-    by_external (Some external) e adds_it =
-        refines external e
-        (function_put new_types new put f parameters body external
-        (all_there (ExternalFits (file_scene new_types new.declared)) new.externals typed.externals put.external external e)
-        (subst (λ (it : Added). FormAdds new_types new put it external.form) adds adds_it) result)
-
-    pub late_units : Refines (machine_of (program_of new_types new)) (machine_of (program_of old_types old))
-    late_units = by_external (slice_get new.externals put.external) refl h.added
+    pub restated_refines : Refines (machine_of (with_functions (program_of old_types new) (restated_functions new put added))) (machine_of (program_of old_types old))
+    restated_refines =
+        refines_through (machine_of (new_of change)) (machine_of (erased_program (program_of old_types old))) (machine_of (program_of old_types old))
+        (safe_calls_refine change judged.closed judged.quiet judged.safe in_place only_named are_quiet always (no_statements change.old whole)) (erased_refines (program_of old_types old))

@@ -10,5 +10,9 @@ mod LateTreeLemmas
 mod LateLocalLemmas
 mod DefinitionLemmas
 mod LateStatementLemmas
+mod AddedLemmas
 mod LateUnitLemmas
+mod NoRunLemmas
+mod NoneLateLemmas
+mod LateFunctionLemmas
 mod MaxExample

@@ -153,7 +153,7 @@ reads_second : ReadsFirst 1 max_body
 reads_second = inr (inl (refl, inr (inr (inl (refl, inl (record { kind = _; spans = _; named_kind = _; named_spans = _; is = refl }))))))
 
 pub first : AreReadFirst judged (run_of_max ∷ []) (0 ∷ 1 ∷ []) max_body
-first run k p l = ((λ e. absurd (true≢false e)), by_position l)
+first run k p l = ((λ e. absurd (true≢false e)), (λ e. by_position l), (λ e. absurd (true≢false e)))
   where
     by_position : IsAmong p (0 ∷ 1 ∷ []) → ReadsFirst p max_body
     by_position (inl e) = subst (λ n. ReadsFirst n max_body) (sym e) reads_first
@@ -167,13 +167,13 @@ alike = (
       (
         (
           λ e. (
-            ((refl, ((refl, tt), tt)), inl ((refl, ((refl, ((refl, ((refl, tt), tt)), ((refl, ((refl, tt), tt)), tt))), ((refl, ((refl, tt), tt)), ((refl, ((refl, tt), tt)), tt)))), tt)),
-            (((refl, ((refl, tt), tt)), inl ((refl, ((refl, ((refl, ((refl, tt), tt)), ((refl, ((refl, tt), tt)), tt))), ((refl, ((refl, tt), tt)), ((refl, ((refl, tt), tt)), tt)))), tt)), tt),
+            (((refl, ((refl, tt), tt)), inl ((refl, ((refl, ((refl, ((refl, tt), tt)), ((refl, ((refl, tt), tt)), tt))), ((refl, ((refl, tt), tt)), ((refl, ((refl, tt), tt)), tt)))), tt)), λ e. absurd (true≢false e)),
+            ((((refl, ((refl, tt), tt)), inl ((refl, ((refl, ((refl, ((refl, tt), tt)), ((refl, ((refl, tt), tt)), tt))), ((refl, ((refl, tt), tt)), ((refl, ((refl, tt), tt)), tt)))), tt)), λ e. absurd (true≢false e)), tt),
           ),
           (
             λ e. (
-              ((refl, ((refl, tt), tt)), inl ((refl, ((refl, ((refl, ((refl, tt), tt)), ((refl, ((refl, tt), tt)), tt))), ((refl, ((refl, tt), tt)), ((refl, ((refl, tt), tt)), tt)))), tt)),
-              (((refl, ((refl, tt), tt)), inl ((refl, ((refl, ((refl, ((refl, tt), tt)), ((refl, ((refl, tt), tt)), tt))), ((refl, ((refl, tt), tt)), ((refl, ((refl, tt), tt)), tt)))), tt)), tt),
+              (((refl, ((refl, tt), tt)), inl ((refl, ((refl, ((refl, ((refl, tt), tt)), ((refl, ((refl, tt), tt)), tt))), ((refl, ((refl, tt), tt)), ((refl, ((refl, tt), tt)), tt)))), tt)), λ e. absurd (true≢false e)),
+              ((((refl, ((refl, tt), tt)), inl ((refl, ((refl, ((refl, ((refl, tt), tt)), ((refl, ((refl, tt), tt)), tt))), ((refl, ((refl, tt), tt)), ((refl, ((refl, tt), tt)), tt)))), tt)), λ e. absurd (true≢false e)), tt),
             ),
             tt,
           ),

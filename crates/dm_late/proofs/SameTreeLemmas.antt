@@ -27,7 +27,7 @@ use Rattle.dm_refine.proofs.CallLocalLemmas.{same_statement}
 use Rattle.dm_refine.proofs.CallTreeLemmas.{AddsFunction, IsAddedEntry, AreArguments, at_run, call_parts}
 use Rattle.dm_refine.proofs.ConstantTreeLemmas.{inside_declared}
 use Rattle.dm_refine.proofs.ReadFirstLemmas.{either}
-use Rattle.dm_late.proofs.ErasedLemmas.{nowhere, erased, all_erased}
+use Rattle.dm_late.specs.Settled.{erased, all_erased}
 
 -- ---- labels
 
@@ -84,9 +84,9 @@ all_left_among R [] h left l = absurd l
 all_left_among R (first ∷ rest) h left (inl e) = subst (λ (one : Left). R one.runs one.tree) (sym e) h.0
 all_left_among R (first ∷ rest) h left (inr k) = all_left_among R rest h.1 left k
 
-same_node : (first second : Label) (kind other : CType) (parts others : Trees) → first ≡ second → kind ≡ other → parts ≡ others → node first kind nowhere parts ≡ node second other nowhere others
-same_node first second kind other parts others e f g =
-    ap (λ (l : Label). node l kind nowhere parts) e ∙ (ap (λ (k : CType). node second k nowhere parts) f ∙ ap (λ (ps : Trees). node second other nowhere ps) g)
+same_node : (at : Spans) (first second : Label) (kind other : CType) (parts others : Trees) → first ≡ second → kind ≡ other → parts ≡ others → node first kind at parts ≡ node second other at others
+same_node at first second kind other parts others e f g =
+    ap (λ (l : Label). node l kind at parts) e ∙ (ap (λ (k : CType). node second k at parts) f ∙ ap (λ (ps : Trees). node second other at ps) g)
 
 same_more : (first second : Tree) (rest others : Trees) → first ≡ second → rest ≡ others → more_trees first rest ≡ more_trees second others
 same_more first second rest others e f = ap (λ (t : Tree). more_trees t rest) e ∙ ap (λ (ts : Trees). more_trees second ts) f
@@ -111,7 +111,7 @@ no_call d e = cc
 no_read : (d : ℕ) → object d ≡ read → ⊥
 no_read d e = cc
 
-module _ (change : Called) (told : (d : ℕ) → option_map facts_of (declaration_of (new_of change) (change.rename d)) ≡ option_map facts_of (declaration_of change.old d))
+module _ (at : Spans) (change : Called) (told : (d : ℕ) → option_map facts_of (declaration_of (new_of change) (change.rename d)) ≡ option_map facts_of (declaration_of change.old d))
     (injective : (c d : ℕ) → change.rename c ≡ change.rename d → c ≡ d) (types : Table) (entries : All IsEntry change.declared)
     (entry : IsAddedEntry types change.declared change.added.function change.added.parameters) (runs : List Run) (added : Added) (adds : AddsFunction change added)
     (distinct : AreDistinct change.added.parameters) (own : (p : ℕ) → IsAmong p change.added.parameters → (d : ℕ) → change.rename d ≡ p → ⊥)
@@ -156,7 +156,7 @@ module _ (change : Called) (told : (d : ℕ) → option_map facts_of (declaratio
 
   abbrev AreEqual : (ℕ → List Left) → (ℕ → List Left) → Type 0
   AreEqual lefts others =
-      (n p : ℕ) → slice_get ps n ≡ Some p → (left other : Left) → IsAmong left (lefts n) → IsAmong other (others n) → erased left.tree ≡ erased other.tree
+      (n p : ℕ) → slice_get ps n ≡ Some p → (left other : Left) → IsAmong left (lefts n) → IsAmong other (others n) → erased at left.tree ≡ erased at other.tree
 
   left_is : (runs : List Run) (tree : Tree) (one : Occurrence) (more : List Occurrence) (below : List Left) (n : ℕ) (occurrences : List Occurrence) → occurrences ≡ one ∷ more → one.parameter ≡ n
       → IsAmong {X = Left} (record { runs = runs; tree = tree }) (left_at n occurrences runs tree below)
@@ -166,17 +166,17 @@ module _ (change : Called) (told : (d : ℕ) → option_map facts_of (declaratio
 
   mutual
     body_equal : (run other_run : Run) (here there : Here) (tree one other : Tree) → is_expression tree ≡ true → SameBody it ps run here tree one → SameBody it ps other_run there tree other
-        → AreEqual (λ n. standing_in it run n here one) (λ n. standing_in it other_run n there other) → erased one ≡ erased other
+        → AreEqual (λ n. standing_in it run n here one) (λ n. standing_in it other_run n there other) → erased at one ≡ erased at other
     body_equal run other_run here there (node label kind spans parts) (node one one_kind one_spans ones) (node other other_kind other_spans others) expression h k equal =
         let first = node one one_kind one_spans ones in
         let second = node other other_kind other_spans others in
         let below : ℕ → List Left = λ n. standing_below it run n one one_spans ones in
         let other_below : ℕ → List Left = λ n. standing_below it other_run n other other_spans others in
-        either (IsNodeHere it here.occurrences label kind first (SameBodies it ps run one one_spans parts ones)) (ReadsHere ps here.occurrences label kind parts first) (erased first ≡ erased second)
+        either (IsNodeHere it here.occurrences label kind first (SameBodies it ps run one one_spans parts ones)) (ReadsHere ps here.occurrences label kind parts first) (erased at first ≡ erased at second)
         (λ same.
-        either (IsNodeHere it there.occurrences label kind second (SameBodies it ps other_run other other_spans parts others)) (ReadsHere ps there.occurrences label kind parts second) (erased first ≡ erased second)
+        either (IsNodeHere it there.occurrences label kind second (SameBodies it ps other_run other other_spans parts others)) (ReadsHere ps there.occurrences label kind parts second) (erased at first ≡ erased at second)
         (λ also.
-        same_node one other one_kind other_kind (all_erased ones) (all_erased others)
+        same_node at one other one_kind other_kind (all_erased at ones) (all_erased at others)
         (same_label change.rename injective one other
         (sym (same_statement change.rename one) ∙ (ap is_statement (sym same.same.0) ∙ not_true (is_statement label) (and_left (not (is_statement label)) _ expression))) (sym same.same.0 ∙ also.same.0))
         (sym same.same.1 ∙ also.same.1)
@@ -186,7 +186,7 @@ module _ (change : Called) (told : (d : ℕ) → option_map facts_of (declaratio
         (λ reads. absurd (object_apart run one one_spans parts ones reads.parameter reads.reads.2 (slice_among ps reads.one.parameter reads.parameter reads.found) same.below))
         (by_here it ps there.occurrences there.runs label kind parts second _ k))
         (λ reads.
-        either (IsNodeHere it there.occurrences label kind second (SameBodies it ps other_run other other_spans parts others)) (ReadsHere ps there.occurrences label kind parts second) (erased first ≡ erased second)
+        either (IsNodeHere it there.occurrences label kind second (SameBodies it ps other_run other other_spans parts others)) (ReadsHere ps there.occurrences label kind parts second) (erased at first ≡ erased at second)
         (λ also. absurd (object_apart other_run other other_spans parts others reads.parameter reads.reads.2 (slice_among ps reads.one.parameter reads.parameter reads.found) also.below))
         (λ also.
         let same = some_is_some reads.parameter also.parameter (sym reads.reads.2 ∙ also.reads.2) in
@@ -199,7 +199,7 @@ module _ (change : Called) (told : (d : ℕ) → option_map facts_of (declaratio
 
     bodies_equal : (run other_run : Run) (label other_label : Label) (spans other_spans : Spans) (trees ones others : Trees) → are_expressions trees ≡ true
         → SameBodies it ps run label spans trees ones → SameBodies it ps other_run other_label other_spans trees others
-        → AreEqual (λ n. standing_below it run n label spans ones) (λ n. standing_below it other_run n other_label other_spans others) → all_erased ones ≡ all_erased others
+        → AreEqual (λ n. standing_below it run n label spans ones) (λ n. standing_below it other_run n other_label other_spans others) → all_erased at ones ≡ all_erased at others
     bodies_equal run other_run label other_label spans other_spans no_trees no_trees no_trees expression h k equal = refl
     bodies_equal run other_run label other_label spans other_spans no_trees no_trees (more_trees other others) expression h k equal = absurd k
     bodies_equal run other_run label other_label spans other_spans no_trees (more_trees one ones) others expression h k equal = absurd h
@@ -208,7 +208,7 @@ module _ (change : Called) (told : (d : ℕ) → option_map facts_of (declaratio
     bodies_equal run other_run label other_label spans other_spans (more_trees tree trees) (more_trees one ones) (more_trees other others) expression h k equal =
         let here = here_below it run label spans one in
         let there = here_below it other_run other_label other_spans other in
-        same_more (erased one) (erased other) (all_erased ones) (all_erased others)
+        same_more (erased at one) (erased at other) (all_erased at ones) (all_erased at others)
         (body_equal run other_run here there tree one other (and_left (is_expression tree) _ expression) h.0 k.0
         (λ n p e left right l m.
         equal n p e left right (among_left left (standing_in it run n here one) (standing_below it run n label spans ones) l)
@@ -230,9 +230,9 @@ module _ (change : Called) (told : (d : ℕ) → option_map facts_of (declaratio
 
     mutual
       pub same_tree : (scene : Scene) → scene.declared ≡ change.declared → (tree : Tree) → IsWellTyped scene tree → is_expression tree ≡ true → (standing other_standing : List Run) (one other : Tree)
-          → Agrees it standing tree one → Agrees it other_standing tree other → erased one ≡ erased other
+          → Agrees it standing tree one → Agrees it other_standing tree other → erased at one ≡ erased at other
       same_tree scene e (node label kind spans parts) typed expression [] [] (node one one_kind one_spans ones) (node other other_kind other_spans others) h k =
-          same_node one other one_kind other_kind (all_erased ones) (all_erased others)
+          same_node at one other one_kind other_kind (all_erased at ones) (all_erased at others)
           (same_label change.rename injective one other (sym (same_statement change.rename one) ∙ (ap is_statement (sym h.0.0) ∙ not_true (is_statement label) (and_left (not (is_statement label)) _ expression))) (sym h.0.0 ∙ k.0.0))
           (sym h.0.1 ∙ k.0.1)
           (same_trees (inside scene label (listed parts)) (inside_declared scene label (listed parts) ∙ e) one other one_spans other_spans parts typed.1 (and_right (not (is_statement label)) _ expression) ones others h.1 k.1)
@@ -251,14 +251,14 @@ module _ (change : Called) (told : (d : ℕ) → option_map facts_of (declaratio
           (and_right (is_expression named) _ (and_right (not (is_statement label)) _ expression)) run other_run inner other_inner one other there.1 also.1 n p f n (omega arith) left right l m)
 
       same_trees : (scene : Scene) → scene.declared ≡ change.declared → (label other_label : Label) (spans other_spans : Spans) (trees : Trees) → AreWellTyped scene trees → are_expressions trees ≡ true → (ones others : Trees)
-          → AllAgree it label spans trees ones → AllAgree it other_label other_spans trees others → all_erased ones ≡ all_erased others
+          → AllAgree it label spans trees ones → AllAgree it other_label other_spans trees others → all_erased at ones ≡ all_erased at others
       same_trees scene e label other_label spans other_spans no_trees typed expression no_trees no_trees h k = refl
       same_trees scene e label other_label spans other_spans no_trees typed expression no_trees (more_trees other others) h k = absurd k
       same_trees scene e label other_label spans other_spans no_trees typed expression (more_trees one ones) others h k = absurd h
       same_trees scene e label other_label spans other_spans (more_trees tree trees) typed expression no_trees others h k = absurd h
       same_trees scene e label other_label spans other_spans (more_trees tree trees) typed expression (more_trees one ones) no_trees h k = absurd k
       same_trees scene e label other_label spans other_spans (more_trees tree trees) typed expression (more_trees one ones) (more_trees other others) h k =
-          same_more (erased one) (erased other) (all_erased ones) (all_erased others)
+          same_more (erased at one) (erased at other) (all_erased at ones) (all_erased at others)
           (same_tree scene e tree typed.0 (and_left (is_expression tree) _ expression) (runs_below runs label spans one) (runs_below runs other_label other_spans other) one other h.0 k.0)
           (same_trees scene e label other_label spans other_spans trees typed.1 (and_right (is_expression tree) _ expression) ones others h.1 k.1)
 
@@ -266,7 +266,7 @@ module _ (change : Called) (told : (d : ℕ) → option_map facts_of (declaratio
       pub same_passed : (scene : Scene) → scene.declared ≡ change.declared → (m : ℕ) (qs : List ℕ) (rest : Trees) → AreArguments qs rest → AreWellTyped scene rest → are_expressions rest ≡ true
           → (run other_run : Run) (inner other_inner : List Run) (one other : Tree) → PassesFrom it m rest run inner one → PassesFrom it m rest other_run other_inner other
           → (k p : ℕ) → slice_get qs k ≡ Some p → (n : ℕ) → n ≡ m + k → (left right : Left) → IsAmong left (standing_for it run inner n one) → IsAmong right (standing_for it other_run other_inner n other)
-          → erased left.tree ≡ erased right.tree
+          → erased at left.tree ≡ erased at right.tree
       same_passed scene e m [] rest arguments typed expression run other_run inner other_inner one other h k i p f n at left right l r = absurd (none_is_some p f)
       same_passed scene e m (q ∷ qs) no_trees arguments typed expression run other_run inner other_inner one other h k i p f n at left right l r = absurd arguments
       same_passed scene e m (q ∷ qs) (more_trees first rest) arguments typed expression run other_run inner other_inner one other h k zero p f n at left right l r =

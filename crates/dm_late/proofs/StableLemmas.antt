@@ -21,17 +21,17 @@ use Rattle.dm_central.specs.Arguments.{ReadsApart}
 use Rattle.dm_central.specs.QuietFrames.{is_quiet_node, WritesNothing, AllWriteNothing}
 use Rattle.dm_central.proofs.ApartLemmas.{apart_by_names}
 use Rattle.dm_late.specs.Late.{Judged, NotWritten, NoneWritten, ReadsSteady, IsSteady, AreSteady, IsStable}
-use Rattle.dm_late.proofs.ErasedLemmas.{erased, all_erased}
+use Rattle.dm_late.specs.Settled.{erased, all_erased}
 
 -- ---- nothing in an argument stores or calls
 
 mutual
-  pub erased_pure : (tree : Tree) → IsPure (begun tree) → IsPure (begun (erased tree))
-  erased_pure (node label kind spans parts) h = (h.0, all_erased_pure parts h.1)
+  pub erased_pure : (at : Spans) (tree : Tree) → IsPure (begun tree) → IsPure (begun (erased at tree))
+  erased_pure at (node label kind spans parts) h = (h.0, all_erased_pure at parts h.1)
 
-  all_erased_pure : (trees : Trees) → ArePure (all_begun trees) → ArePure (all_begun (all_erased trees))
-  all_erased_pure no_trees h = tt
-  all_erased_pure (more_trees first rest) h = (erased_pure first h.0, all_erased_pure rest h.1)
+  all_erased_pure : (at : Spans) (trees : Trees) → ArePure (all_begun trees) → ArePure (all_begun (all_erased at trees))
+  all_erased_pure at no_trees h = tt
+  all_erased_pure at (more_trees first rest) h = (erased_pure at first h.0, all_erased_pure at rest h.1)
 
 abbrev NoEffects : List Effect → Type 0
 NoEffects effects = (effect : Effect) → IsAmong effect effects → ⊥
@@ -50,7 +50,7 @@ free_both closed xs ys n h k effect l = by_side (among_either effect xs ys l)
     by_side (inl m) = h effect m
     by_side (inr m) = k effect m
 
-module _ (program : Program) (objects : Objects) (numbers : List ℕ) (judged : Judged)
+module _ (at : Spans) (program : Program) (objects : Objects) (numbers : List ℕ) (judged : Judged)
     (apart : (c d n : ℕ) → object_named objects c ≡ Some n → object_named objects d ≡ Some n → c ≡ d)
     (closed_ones : (d n : ℕ) → judged.closed d ≡ true → object_named objects d ≡ Some n → IsAmong n numbers) where
   abbrev pub stage : Stage
@@ -62,7 +62,7 @@ module _ (program : Program) (objects : Objects) (numbers : List ℕ) (judged : 
   call_none true e effect l = l
   call_none false e effect l = true≢false (sym e)
 
-  node_none : (label : Label) (parts : Trees) → is_quiet_node judged.quiet label parts ≡ true → NoEffects (own_effects stage (evaluates label) (all_begun (all_erased parts)))
+  node_none : (label : Label) (parts : Trees) → is_quiet_node judged.quiet label parts ≡ true → NoEffects (own_effects stage (evaluates label) (all_begun (all_erased at parts)))
   node_none call (more_trees (node (function g) kind spans no_trees) rest) h = call_none (judged.quiet g) h
   node_none call (more_trees (node (function g) kind spans (more_trees below others)) rest) h = absurd (true≢false (sym h))
   node_none call (more_trees (node label kind spans parts) rest) h = absurd (true≢false (sym h))
@@ -73,14 +73,14 @@ module _ (program : Program) (objects : Objects) (numbers : List ℕ) (judged : 
   node_none label parts h = λ effect l. l
 
   mutual
-    tree_none : (tree : Tree) → WritesNothing judged.quiet tree → NoEffects (effects_of stage (begun (erased tree)))
+    tree_none : (tree : Tree) → WritesNothing judged.quiet tree → NoEffects (effects_of stage (begun (erased at tree)))
     tree_none (node label kind spans parts) h =
-        neither (own_effects stage (evaluates label) (all_begun (all_erased parts))) (effects_in stage (all_begun (all_erased parts))) (node_none label parts h.0) (trees_none parts h.1)
+        neither (own_effects stage (evaluates label) (all_begun (all_erased at parts))) (effects_in stage (all_begun (all_erased at parts))) (node_none label parts h.0) (trees_none parts h.1)
 
-    trees_none : (trees : Trees) → AllWriteNothing judged.quiet trees → NoEffects (effects_in stage (all_begun (all_erased trees)))
+    trees_none : (trees : Trees) → AllWriteNothing judged.quiet trees → NoEffects (effects_in stage (all_begun (all_erased at trees)))
     trees_none no_trees h = λ effect l. l
     trees_none (more_trees first rest) h =
-        neither (effects_of stage (begun (erased first))) (effects_in stage (all_begun (all_erased rest))) (tree_none first h.0) (trees_none rest h.1)
+        neither (effects_of stage (begun (erased at first))) (effects_in stage (all_begun (all_erased at rest))) (tree_none first h.0) (trees_none rest h.1)
 
   -- ---- trees that don't write an object
 
@@ -105,33 +105,33 @@ module _ (program : Program) (objects : Objects) (numbers : List ℕ) (judged : 
     name_free e other None f = λ effect l hit. absurd l
     name_free e other (Some m) f = named_free e m other f
 
-    target_free : (left : Tree) (rest : Trees) → is_this d (object_first (more_trees left rest)) ≡ false → IsFree numbers (target_effects objects (begun (erased left))) n
+    target_free : (left : Tree) (rest : Trees) → is_this d (object_first (more_trees left rest)) ≡ false → IsFree numbers (target_effects objects (begun (erased at left))) n
     target_free (node (object e) kind spans parts) rest h = name_free e h (object_named objects e) refl
     target_free (node label kind spans parts) rest h = others_free
 
     no_effect : IsFree numbers [] n
     no_effect effect l hit = absurd l
 
-    own_free : (label : Label) (kind : CType) (spans : Spans) (parts : Trees) → writes_here d (node label kind spans parts) ≡ false → IsFree numbers (own_effects stage (evaluates label) (all_begun (all_erased parts))) n
+    own_free : (label : Label) (kind : CType) (spans : Spans) (parts : Trees) → writes_here d (node label kind spans parts) ≡ false → IsFree numbers (own_effects stage (evaluates label) (all_begun (all_erased at parts))) n
     own_free store kind spans (more_trees left rest) h = target_free left rest h
     own_free store kind spans no_trees h = no_effect
     own_free (update op works) kind spans (more_trees left rest) h = target_free left rest h
     own_free (update op works) kind spans no_trees h = no_effect
     own_free (count plus before) kind spans (more_trees left rest) h = target_free left rest h
     own_free (count plus before) kind spans no_trees h = no_effect
-    own_free call kind spans (more_trees named rest) h = call_free (function_named (begun (erased named)))
+    own_free call kind spans (more_trees named rest) h = call_free (function_named (begun (erased at named)))
     own_free call kind spans no_trees h = no_effect
     own_free label kind spans parts h = no_effect
 
     mutual
-      tree_free : (tree : Tree) → NotWritten d tree → IsFree numbers (effects_of stage (begun (erased tree))) n
+      tree_free : (tree : Tree) → NotWritten d tree → IsFree numbers (effects_of stage (begun (erased at tree))) n
       tree_free (node label kind spans parts) h =
-          free_both numbers (own_effects stage (evaluates label) (all_begun (all_erased parts))) (effects_in stage (all_begun (all_erased parts))) n (own_free label kind spans parts h.0) (trees_free parts h.1)
+          free_both numbers (own_effects stage (evaluates label) (all_begun (all_erased at parts))) (effects_in stage (all_begun (all_erased at parts))) n (own_free label kind spans parts h.0) (trees_free parts h.1)
 
-      trees_free : (trees : Trees) → NoneWritten d trees → IsFree numbers (effects_in stage (all_begun (all_erased trees))) n
+      trees_free : (trees : Trees) → NoneWritten d trees → IsFree numbers (effects_in stage (all_begun (all_erased at trees))) n
       trees_free no_trees h = no_effect
       trees_free (more_trees first rest) h =
-          free_both numbers (effects_of stage (begun (erased first))) (effects_in stage (all_begun (all_erased rest))) n (tree_free first h.0) (trees_free rest h.1)
+          free_both numbers (effects_of stage (begun (erased at first))) (effects_in stage (all_begun (all_erased at rest))) n (tree_free first h.0) (trees_free rest h.1)
 
   -- ---- effects of trees
 
@@ -139,7 +139,7 @@ module _ (program : Program) (objects : Objects) (numbers : List ℕ) (judged : 
   pub record HasEffect (trees : List Tree) (effect : Effect) : Type 0 where
     pub tree : Tree
     pub among : IsAmong tree trees
-    pub has : IsAmong effect (effects_of stage (begun (erased tree)))
+    pub has : IsAmong effect (effects_of stage (begun (erased at tree)))
 
   abbrev pub Covers : List Tree → List Effect → Type 0
   Covers trees effects = (effect : Effect) → IsAmong effect effects → HasEffect trees effect
@@ -158,7 +158,7 @@ module _ (program : Program) (objects : Objects) (numbers : List ℕ) (judged : 
   appended_cover trees others xs ys h k =
       both_cover (trees ++ others) xs ys (more_cover trees (trees ++ others) xs (λ tree l. among_left tree trees others l) h) (more_cover others (trees ++ others) ys (λ tree l. among_right tree trees others l) k)
 
-  pub itself_covers : (tree : Tree) → Covers (tree ∷ []) (effects_of stage (begun (erased tree)))
+  pub itself_covers : (tree : Tree) → Covers (tree ∷ []) (effects_of stage (begun (erased at tree)))
   itself_covers tree effect l = record { tree = tree; among = inl refl; has = l }
 
   -- ---- stable arguments
@@ -169,7 +169,7 @@ module _ (program : Program) (objects : Objects) (numbers : List ℕ) (judged : 
   all_there P (first ∷ rest) h tree (inr k) = all_there P rest h.1 tree k
 
   module _ (trees : List Tree) (effects : List Effect) (covers : Covers trees effects) where
-    read_free : (label : Label) (parts : Trees) → ReadsSteady judged trees label parts → ReadsFreeName stage effects label (all_erased parts)
+    read_free : (label : Label) (parts : Trees) → ReadsSteady judged trees label parts → ReadsFreeName stage effects label (all_erased at parts)
     read_free read (more_trees (node (object d) kind spans no_trees) no_trees) h =
         λ n names effect l hit. let found = covers effect l in tree_free d n h.0 names found.tree (all_there (NotWritten d) trees h.1 found.tree found.among) effect found.has hit
     read_free read no_trees h = absurd h
@@ -179,17 +179,17 @@ module _ (program : Program) (objects : Objects) (numbers : List ℕ) (judged : 
     read_free label parts h = tt
 
     mutual
-      reads_free : (tree : Tree) → IsSteady judged trees tree → ReadsFreeNames stage effects (erased tree)
+      reads_free : (tree : Tree) → IsSteady judged trees tree → ReadsFreeNames stage effects (erased at tree)
       reads_free (node label kind spans parts) h = (read_free label parts h.0, all_read_free parts h.1)
 
-      all_read_free : (parts : Trees) → AreSteady judged trees parts → AllReadFreeNames stage effects (all_erased parts)
+      all_read_free : (parts : Trees) → AreSteady judged trees parts → AllReadFreeNames stage effects (all_erased at parts)
       all_read_free no_trees h = tt
       all_read_free (more_trees first rest) h = (reads_free first h.0, all_read_free rest h.1)
 
-    pub stable_apart : (argument : Tree) → IsStable judged trees argument → ReadsApart stage effects (begun (erased argument))
+    pub stable_apart : (argument : Tree) → IsStable judged trees argument → ReadsApart stage effects (begun (erased at argument))
     stable_apart argument h = by_case h.1
       where
-        by_case : AllByRecursion (WritesNothing judged.quiet) trees ⊎ IsSteady judged trees argument → ReadsApart stage effects (begun (erased argument))
+        by_case : AllByRecursion (WritesNothing judged.quiet) trees ⊎ IsSteady judged trees argument → ReadsApart stage effects (begun (erased at argument))
         by_case (inl quiet) =
             λ world found e at among n name effect l hit. let one = covers effect l in absurd (tree_none one.tree (all_there (WritesNothing judged.quiet) trees quiet one.tree one.among) effect one.has)
-        by_case (inr steady) = apart_by_names stage effects (erased argument) (reads_free argument steady)
+        by_case (inr steady) = apart_by_names stage effects (erased at argument) (reads_free argument steady)

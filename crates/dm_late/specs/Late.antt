@@ -1,8 +1,10 @@
 -- Arguments that are read late in the expression of an added function: behind the beginning of the expression, several times, or not in each case.
 --     Judged      which objects are closed, which functions are quiet, and which parameters are read late
---     AreReadFirst judged runs parameters body      where a run stands, each parameter is read first, and once unless it is read late
+--     AreReadFirst judged runs parameters body      where a run stands, each parameter is read first, and once unless it is read late; or its arguments
+--         are to be safe
 --     IsStable judged trees argument      an argument comes to the same while these trees are evaluated
---     EvaluatesAlike judged rewriting parameters beside runs tree other      so do the arguments of all runs in a tree that are read late
+--     EvaluatesAlike judged rewriting parameters at beside runs tree other      so do the arguments of all runs in a tree that are read late, and
+--         those whose parameters aren't read first are safe
 --     EvaluateAlike judged rewriting parameters externals others      and in all functions of a unit
 --     AreClosed judged unit rename new      closed objects are automatic, and only read and written
 --     AreQuiet judged program      quiet functions return the value of a tree that writes nothing
@@ -20,23 +22,31 @@ use Rattle.dm_effect.specs.Entities.{writes_here}
 use Rattle.dm_effect.specs.Scoped.{is_automatic}
 use Rattle.dm_rewrite.specs.ClosedStates.{ProgramNamesOnly}
 use Rattle.dm_rewrite.specs.Computed.{IsPure}
-use Rattle.dm_central.specs.Arguments.{ReadsFirst}
+use Rattle.dm_central.specs.Arguments.{ReadsSomewhere, ReadsFirst}
 use Rattle.dm_central.specs.QuietFrames.{WritesNothing}
 use Rattle.dm_agree.specs.Standing.{runs_at, runs_below}
 use Rattle.dm_agree.specs.Agreement.{Rewriting, Left, standing_for, AllLeft}
+use Rattle.dm_late.specs.Settled.{erased, spot}
 
--- By the numbers of old declarations, and of the parameters.
+-- By the numbers of old declarations, and of the parameters; and by what an argument is where its full expression stands.
 pub record Judged : Type 0 where
   pub closed : ℕ → Bool
   pub quiet : ℕ → Bool
   pub late : ℕ → Bool
+  -- it is read first, or its arguments are safe
+  pub first : ℕ → Bool
+  pub safe : Tree → Bool
 
 -- ---- the expression of the added function
 
--- A parameter that isn't read late is read once. Nothing is asked of a function whose macro has no run.
+-- A parameter that isn't read late is read once, and first. One that is read late is read first, or somewhere, but not in a type name alone.
+abbrev pub IsRead : Judged → ℕ → Tree → Type 0
+IsRead judged p body =
+    (judged.late p ≡ false → times_named p body ≡ 1) × (judged.first p ≡ true → ReadsFirst p body) × (judged.first p ≡ false → (judged.late p ≡ true) × ReadsSomewhere p body)
+
+-- Nothing is asked of a function whose macro has no run.
 abbrev pub AreReadFirst : Judged → List Run → List ℕ → Tree → Type 0
-AreReadFirst judged runs parameters body =
-    (run : Run) → IsAmong run runs → (p : ℕ) → IsAmong p parameters → (judged.late p ≡ false → times_named p body ≡ 1) × ReadsFirst p body
+AreReadFirst judged runs parameters body = (run : Run) → IsAmong run runs → (p : ℕ) → IsAmong p parameters → IsRead judged p body
 
 -- ---- what trees write
 
@@ -93,11 +103,16 @@ abbrev pub trees_from : Rewriting → ℕ → Trees → Run → List Run → Tre
 trees_from it n no_trees run inner other = []
 trees_from it n (more_trees first rest) run inner other = trees_left (standing_for it run inner n other) ++ trees_from it (suc n) rest run inner other
 
+-- where its parameter isn't read first, it is safe where the full expression stands
+abbrev pub IsSafe : Judged → Spans → ℕ → Tree → Type 0
+IsSafe judged at p tree = judged.first p ≡ false → judged.safe (erased at tree) ≡ true
+
 -- arguments that are read late are stable while the run and what is beside it are evaluated
-abbrev pub AreStable : Judged → Rewriting → List Tree → ℕ → List ℕ → Run → List Run → Tree → Type 0
-AreStable judged it beside n [] run inner other = Unit {0}
-AreStable judged it beside n (p ∷ ps) run inner other =
-    (judged.late p ≡ true → AllLeft (λ runs tree. IsStable judged (other ∷ beside) tree) (standing_for it run inner n other)) × AreStable judged it beside (suc n) ps run inner other
+abbrev pub AreStable : Judged → Rewriting → Spans → List Tree → ℕ → List ℕ → Run → List Run → Tree → Type 0
+AreStable judged it at beside n [] run inner other = Unit {0}
+AreStable judged it at beside n (p ∷ ps) run inner other =
+    (judged.late p ≡ true → AllLeft (λ runs tree. IsStable judged (other ∷ beside) tree × IsSafe judged at p tree) (standing_for it run inner n other))
+    × AreStable judged it at beside (suc n) ps run inner other
 
 -- by what stands at a tree: nothing, or a run
 abbrev pub IfRun : List Run → Type 0 → (Run → List Run → Type 0) → Type 0
@@ -108,34 +123,38 @@ IfRun (run ∷ inner) Below Passed = Passed run inner
 abbrev pub beside_part : Bool → Open → List Tree → List Tree → Trees → List Tree
 beside_part statement opens before beside others = if statement then [] else beside_first opens before beside others
 
-abbrev mutual
-  pub EvaluatesAlike : Judged → Rewriting → List ℕ → List Tree → List Run → Tree → Tree → Type 0
-  EvaluatesAlike judged it ps beside runs (node label kind spans parts) other =
-      IfRun runs (AllAlike judged it ps (is_statement (label_of other)) (open_of (label_of other)) [] beside (label_of other) (spans_of other) parts (trees_of other))
-      (λ run inner. AreStable judged it beside 0 ps run inner other × PassAlike judged it ps beside parts run inner other)
+-- where the full expression stands
+abbrev pub part_at : Bool → Spans → Tree → Spans
+part_at statement at other = if statement then spot (spans_of other) else at
 
-  pub AllAlike : Judged → Rewriting → List ℕ → Bool → Open → List Tree → List Tree → Label → Spans → Trees → Trees → Type 0
-  AllAlike judged it ps statement opens before beside label spans (more_trees first rest) (more_trees other others) =
-      EvaluatesAlike judged it ps (beside_part statement opens before beside others) (runs_below it.runs label spans other) first other
-      × AllAlike judged it ps statement (others_open opens) (before_others opens before other) beside label spans rest others
-  AllAlike judged it ps statement opens before beside label spans trees others = Unit {0}
+abbrev mutual
+  pub EvaluatesAlike : Judged → Rewriting → List ℕ → Spans → List Tree → List Run → Tree → Tree → Type 0
+  EvaluatesAlike judged it ps at beside runs (node label kind spans parts) other =
+      IfRun runs (AllAlike judged it ps (is_statement (label_of other)) (open_of (label_of other)) at [] beside (label_of other) (spans_of other) parts (trees_of other))
+      (λ run inner. AreStable judged it at beside 0 ps run inner other × PassAlike judged it ps at beside parts run inner other)
+
+  pub AllAlike : Judged → Rewriting → List ℕ → Bool → Open → Spans → List Tree → List Tree → Label → Spans → Trees → Trees → Type 0
+  AllAlike judged it ps statement opens at before beside label spans (more_trees first rest) (more_trees other others) =
+      EvaluatesAlike judged it ps (part_at statement at other) (beside_part statement opens before beside others) (runs_below it.runs label spans other) first other
+      × AllAlike judged it ps statement (others_open opens) at (before_others opens before other) beside label spans rest others
+  AllAlike judged it ps statement opens at before beside label spans trees others = Unit {0}
 
   -- behind the function's name, each argument beside the others
-  pub PassAlike : Judged → Rewriting → List ℕ → List Tree → Trees → Run → List Run → Tree → Type 0
-  PassAlike judged it ps beside no_trees run inner other = Unit {0}
-  PassAlike judged it ps beside (more_trees named arguments) run inner other = PassAlikeFrom judged it ps [] beside 0 arguments run inner other
+  pub PassAlike : Judged → Rewriting → List ℕ → Spans → List Tree → Trees → Run → List Run → Tree → Type 0
+  PassAlike judged it ps at beside no_trees run inner other = Unit {0}
+  PassAlike judged it ps at beside (more_trees named arguments) run inner other = PassAlikeFrom judged it ps at [] beside 0 arguments run inner other
 
-  pub PassAlikeFrom : Judged → Rewriting → List ℕ → List Tree → List Tree → ℕ → Trees → Run → List Run → Tree → Type 0
-  PassAlikeFrom judged it ps before beside n no_trees run inner other = Unit {0}
-  PassAlikeFrom judged it ps before beside n (more_trees first rest) run inner other =
-      AllLeft (λ runs tree. EvaluatesAlike judged it ps (before ++ (trees_from it (suc n) rest run inner other ++ beside)) runs first tree) (standing_for it run inner n other)
-      × PassAlikeFrom judged it ps (before ++ trees_left (standing_for it run inner n other)) beside (suc n) rest run inner other
+  pub PassAlikeFrom : Judged → Rewriting → List ℕ → Spans → List Tree → List Tree → ℕ → Trees → Run → List Run → Tree → Type 0
+  PassAlikeFrom judged it ps at before beside n no_trees run inner other = Unit {0}
+  PassAlikeFrom judged it ps at before beside n (more_trees first rest) run inner other =
+      AllLeft (λ runs tree. EvaluatesAlike judged it ps at (before ++ (trees_from it (suc n) rest run inner other ++ beside)) runs first tree) (standing_for it run inner n other)
+      × PassAlikeFrom judged it ps at (before ++ trees_left (standing_for it run inner n other)) beside (suc n) rest run inner other
 
 -- ---- units
 
 -- initialisers of file scope are constant, and evaluate nothing
 abbrev pub FormAlike : Judged → Rewriting → List ℕ → ExternalForm → ExternalForm → Type 0
-FormAlike judged it ps (defines_function f parameters body) (defines_function g others other) = EvaluatesAlike judged it ps [] (runs_at it.runs other) body other
+FormAlike judged it ps (defines_function f parameters body) (defines_function g others other) = EvaluatesAlike judged it ps (spot (spans_of other)) [] (runs_at it.runs other) body other
 FormAlike judged it ps form other = Unit {0}
 
 abbrev pub EvaluateAlike : Judged → Rewriting → List ℕ → List External → List External → Type 0

@@ -1,0 +1,16 @@
+mod PartLemmas
+mod StableLemmas
+mod WayLemmas
+mod SeatLemmas
+mod NodeLemmas
+mod InsideLemmas
+mod FirstLemmas
+mod DecideLemmas
+mod MetLemmas
+mod AlikeLemmas
+mod WalkLemmas
+mod AddressLemmas
+mod ClosedLemmas
+mod QuietLemmas
+mod AddedLemmas
+mod UnitLemmas

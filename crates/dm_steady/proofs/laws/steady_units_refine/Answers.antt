@@ -1,0 +1,13 @@
+use Rattle.dm_effect.specs.Scoped.{is_automatic}
+use Rattle.dm_refine.proofs.CallBodyLemmas.{without_lengths}
+use Rattle.std.proofs.Common.{sym, true≢false}
+use Rattle.dm_steady.proofs.QuietLemmas.{are_quiet}
+use Rattle.dm_steady.proofs.UnitLemmas.{judged_by, early_arguments}
+use Rattle.dm_steady.proofs.laws.steady_units_refine.Goals as goal
+
+pub returns : goal.returns
+returns c old_types new_types old new runs put f parameters body old_typed typed scoped told aligned adds result lengths keep =
+    let it = early_arguments old_types new_types old new put f parameters body old_typed typed scoped told adds (without_lengths (is_automatic new.declared) body lengths) runs aligned keep in
+    c.late_units_refine.ensures old_types new_types old new it.runs put f parameters body (judged_by old body) old_typed typed scoped it.aligned adds result lengths
+    (c.calls_are_evaluated.ensures old_types new_types old new it.runs put f parameters body old_typed typed it.aligned adds told it.keep) it.read it.alike it.closed (are_quiet old_types old old_typed)
+    (λ input n state runs_to place run use_of rest e tree picked stands. absurd (true≢false (sym picked)))
