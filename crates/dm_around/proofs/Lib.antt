@@ -4,7 +4,11 @@ pub mod EndLemmas
 pub mod HeritageLemmas
 pub mod LinkLemmas
 pub mod NoiseLemmas
+pub mod NumberLemmas
 pub mod ParentLemmas
 pub mod RootLemmas
+pub mod RowLemmas
+pub mod StoreLemmas
 pub mod TypedLemmas
 pub mod WalkLemmas
+pub mod WayLemmas

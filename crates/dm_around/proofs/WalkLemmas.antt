@@ -72,7 +72,7 @@ divided (declare lengths declarators) parts h = absurd (cc)
 divided label parts h = tt
 
 mutual
-  nodes-all : (tree : Tree) → length (all_in tree) ≡ nodes_in tree
+  pub nodes-all : (tree : Tree) → length (all_in tree) ≡ nodes_in tree
   nodes-all (node label kind spans parts) =
       let below = nodes-all-below parts in omega (arith, below)
 

@@ -2,11 +2,14 @@
 //! quiet, noted once for all places.
 #![tactic(auto)]
 
+mod beside;
 mod ends;
 mod links;
 mod noise;
 mod parents;
 mod parts;
 mod surroundings;
+mod ways;
+mod writes;
 
 pub use surroundings::Surroundings;

@@ -1,3 +1,4 @@
+pub mod AmidLemmas
 pub mod EvaluationLemmas
 pub mod KnownLemmas
 pub mod KnownSiteLemmas

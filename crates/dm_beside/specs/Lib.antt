@@ -1,3 +1,4 @@
+pub mod Amid
 pub mod Evaluation
 pub mod Examples
 pub mod Places

@@ -60,7 +60,7 @@ impl<'a> Facts for Arguments<'a> {
 }
 
 /// Nothing is known of what isn't one expression.
-fn unknown() -> Fact
+pub(crate) fn unknown() -> Fact
     ensures first { result.first ≡ false }
     ensures stable { result.stable ≡ false }
     ensures safe { result.safe ≡ false }
@@ -73,7 +73,7 @@ fn unknown() -> Fact
 }
 
 /// Whether the argument at the place with this number is evaluated in any case, and nothing of the run picks it.
-fn is_first_in(
+pub(crate) fn is_first_in(
     alloc: Global,
     sites: &Sites,
     run: &Site,

@@ -2,6 +2,7 @@
 //! constant is wanted where it stands, that nothing is stored into it, and that its arguments may be evaluated once and first.
 #![tactic(auto)]
 
+mod amid;
 mod arguments;
 mod evaluation;
 mod examples;

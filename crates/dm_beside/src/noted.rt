@@ -5,7 +5,7 @@ ghost use Rattle.dm_tree.specs.TypeNumbers.{IsTypedUnit};
 ghost use Rattle.dm_tree.specs.Views.{view_of_unit};
 ghost use Rattle.dm_beside.specs.Evaluation as evaluation;
 
-use crate::arguments::Arguments;
+use crate::amid::NotedArguments;
 use crate::tally::all_pass;
 use dm_around::Surroundings;
 use dm_effect::QuietFunctions;
@@ -17,7 +17,7 @@ use dm_type::Types;
 use std::alloc::Global;
 
 /// The same as [`evaluates_alike`](crate::evaluates_alike), where it is noted what stands round the places of the unit, as for many runs:
-/// doesn't look through the full expression to know whether all is quiet round the run.
+/// doesn't look through the full expression, but only through the run and its arguments.
 pub fn evaluates_alike_amid(
     alloc: Global,
     sites: &Sites,
@@ -42,14 +42,14 @@ pub fn evaluates_alike_amid(
     let Some(site) = sites.get(number) else {
         return Ok(false);
     };
-    let at = sites.path(alloc, number)?;
-    let arguments = Arguments {
+    let arguments = NotedArguments {
         alloc,
         sites,
+        surroundings,
         objects,
         types,
         run: site,
-        at: &at,
+        number,
         calm: surroundings.are_quiet(sites, quiet, number),
     };
     let passed = all_pass(alloc, run.occurrences.items(), &arguments)?;

@@ -1,6 +1,6 @@
 //! Where runs of macros stand.
 
-ghost use Rattle.std.specs.Prelude.{◌≡◌, length, option_map, IsTrue, List as Sequence};
+ghost use Rattle.std.specs.Prelude.{◌≡◌, ◌<◌, ◌==◌, ◌||◌, false, ℕ, length, option_map, slice_index_or, IfOk, IsTrue, List as Sequence};
 ghost use Rattle.std.specs.List.{list_all, range_with_len};
 ghost use Rattle.std.specs.Option.{option_copied};
 ghost use Rattle.dm_type.specs.Tables.{IsId, Table, type_of};
@@ -15,28 +15,55 @@ ghost use Rattle.dm_beside.specs.Places as rules;
 use dm_int::Kind;
 use dm_runs::Run;
 use dm_sites::{Site, Sites};
-use dm_token::Span;
+use dm_token::{Memory, Span};
 use dm_tree::{Core, CoreUnit, Form, constant};
 use dm_type::{Shape, TypeId, Types};
+use std::alloc::Global;
 
-/// Whether a parameter occurs in a run.
-fn occurs(run: &Run, parameter: u32) -> bool
-    ensures { result ≡ rules.occurs run.now parameter }
+/// The parameter of this position occurs. Those beyond the last one are passed over.
+fn mark(marks: &mut Vec<bool>, parameter: u32)
+    ensures long { length marks.new.items ≡ length marks.old.items }
+    ensures marked { (n : ℕ) → n < length marks.old.items → slice_index_or marks.new.items n false ≡ (slice_index_or marks.old.items n false || parameter == n) }
 {
-    let occurrences = run.occurrences.items();
-    occurrences.iter().any(|each| each.parameter == parameter)
+    let at = parameter as usize;
+    if at < marks.len() {
+        marks[at] = true;
+    }
 }
 
-/// Whether each of so many parameters occurs in a run.
-pub fn has_all_parameters(run: &Run, count: u32) -> bool
-    ensures { result ≡ list_all (rules.occurs run.now) (range_with_len 0 count) }
+/// Of each of so many parameters, whether it occurs in a run.
+fn occurring(alloc: Global, run: &Run, count: u32) -> Result<Vec<bool>, Memory>
+    ensures { IfOk result (λ marks. (n : ℕ) → n < count → slice_index_or marks.items n false ≡ rules.occurs run.now n) }
 {
+    let mut marks = vec![in alloc; false; count as usize]?;
+    let occurrences = run.occurrences.items();
+    for one in occurrences {
+        mark(&mut marks, one.parameter);
+    }
+    Ok(marks)
+}
+
+/// Whether the parameter of this position is marked.
+fn is_marked(marks: &[bool], parameter: u32) -> bool
+    ensures { result ≡ slice_index_or marks.now parameter false }
+{
+    match marks.get(parameter as usize) {
+        Some(marked) => *marked,
+        None => false,
+    }
+}
+
+/// Whether each of so many parameters occurs in a run. Goes once through the occurrences.
+pub fn has_all_parameters(alloc: Global, run: &Run, count: u32) -> Result<bool, Memory>
+    ensures { IfOk result (λ has. has ≡ list_all (rules.occurs run.now) (range_with_len 0 count)) }
+{
+    let marks = occurring(alloc, run, count)?;
     for parameter in 0..count {
-        if !occurs(run, parameter) {
-            return false;
+        if !is_marked(marks.as_slice(), parameter) {
+            return Ok(false);
         }
     }
-    true
+    Ok(true)
 }
 
 /// The place of the value of the expression that has these tokens.

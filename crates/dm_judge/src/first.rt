@@ -3,39 +3,30 @@
 ghost use Rattle.std.specs.Prelude.{◌≡◌, All, IfOk, IfSome, map, option_map};
 ghost use Rattle.dm_type.specs.Tables.{IsId};
 ghost use Rattle.dm_meanings.specs.First.{readings_of, seen};
-ghost use Rattle.dm_meanings.specs.Types.{first_occurrence};
+ghost use Rattle.dm_meanings.specs.Wanted.{AreFirst};
 ghost use Rattle.dm_judge.specs.Changes.{parameter_over, signature_over};
 ghost use Rattle.dm_judge.specs.Proposals as proposals;
 
 use crate::change::change_with;
 use crate::signature::{Parameter, Signature};
 use dm_edit::Change;
-use dm_meanings::{Meanings, Met, first_run};
+use dm_meanings::{Meanings, Met, first_occurrences, first_run, span_of};
 use dm_rules::names_of;
-use dm_runs::Run;
 use dm_token::{Definition, List, Memory, Span, Text};
 use std::alloc::Global;
 
-/// The tokens of the first occurrence of a parameter in a run.
-fn first_of(run: &Run, parameter: usize) -> Option<Span>
-    ensures { result ≡ first_occurrence run.now parameter }
-{
-    let mut left = run.occurrences.items();
-    while let Some((one, others)) = left.split_first() {
-        if one.parameter as usize == parameter {
-            return Some(one.span);
-        }
-        left = others;
-    }
-    None
-}
-
 /// A parameter with the type of what is passed at its first occurrence, if it occurs.
-fn parameter_in(first: &Met, number: usize, name: &Text) -> Result<Option<Parameter>, Memory>
+fn parameter_in(
+    first: &Met,
+    spans: &[Option<Span>],
+    number: usize,
+    name: &Text,
+) -> Result<Option<Parameter>, Memory>
+    requires { AreFirst first.now.run.now spans.now }
     ensures same { IfOk result (λ parameter. option_map (parameter_over first.now.unit.now.index.now.reading.now.types) parameter ≡ proposals.parameter_in (seen first.now) number name.now) }
     ensures known { IfOk result (λ parameter. IfSome parameter (λ (one : Parameter). IsId first.now.unit.now.index.now.reading.now.types one.kind)) }
 {
-    let Some(span) = first_of(first.run, number) else {
+    let Some(span) = span_of(spans, number) else {
         return Ok(None);
     };
     match first.unit.kind_at(span) {
@@ -47,14 +38,15 @@ fn parameter_in(first: &Met, number: usize, name: &Text) -> Result<Option<Parame
     }
 }
 
-/// The parameters that occur.
+/// The parameters that occur. Goes once through the occurrences of the run.
 fn parameters_in(alloc: Global, first: &Met, names: &[Text]) -> Result<List<Parameter>, Memory>
     ensures same { IfOk result (λ parameters. map (parameter_over first.now.unit.now.index.now.reading.now.types) parameters ≡ proposals.parameters_from (seen first.now) 0 names.now) }
     ensures known { IfOk result (λ parameters. All (λ (one : Parameter). IsId first.now.unit.now.index.now.reading.now.types one.kind) parameters) }
 {
     let mut parameters = List::new(alloc);
+    let spans = first_occurrences(alloc, first.run)?;
     for number in 0..names.len() {
-        if let Some(parameter) = parameter_in(first, number, &names[number])? {
+        if let Some(parameter) = parameter_in(first, spans.as_slice(), number, &names[number])? {
             parameters.push(parameter)?;
         }
     }

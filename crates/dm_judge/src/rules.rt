@@ -88,7 +88,7 @@ pub fn broken_from_5(
     if let Some(place) = broken_name(definition, indexes) {
         return Ok(Some((7, place)));
     }
-    if let Some(place) = broken_parameter(definition, indexes) {
+    if let Some(place) = broken_parameter(alloc, definition, indexes)? {
         return Ok(Some((8, place)));
     }
     broken_from_9(alloc, definition, units)

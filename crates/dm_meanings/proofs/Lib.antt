@@ -1,3 +1,4 @@
+pub mod FirstLemmas
 pub mod MetLemmas
 pub mod TokenLemmas
 pub mod NameLemmas

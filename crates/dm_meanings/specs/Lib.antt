@@ -1,4 +1,6 @@
 pub mod Captures
 pub mod First
-pub mod Types
 pub mod Own
+pub mod Subjects
+pub mod Types
+pub mod Wanted

@@ -1,88 +1,102 @@
 //! What the names of replacement lists mean.
 
-ghost use Rattle.std.specs.Prelude.{◌≡◌, ◌<◌, ◌≤◌, ◌&&◌, not, IfOk};
+ghost use Rattle.std.specs.Prelude.{◌≡◌, ◌<◌, ◌≤◌, ◌&&◌, not, slice_get, IfOk};
+ghost use Rattle.std.specs.Option.{option_copied};
+ghost use Rattle.dm_token.specs.declared.expansion.Definition.{Definition as SeenDefinition};
 ghost use Rattle.dm_meanings.specs.Captures as captures;
 ghost use Rattle.dm_meanings.specs.First.{readings_of};
 ghost use Rattle.dm_meanings.specs.Own.{AreOwn};
-ghost use Rattle.dm_rules.specs.Places.{externals_behind};
+ghost use Rattle.dm_meanings.specs.Subjects.{IsSubject};
 
 use crate::meanings::Meanings;
 use crate::own::{is_own, own_tokens};
 use dm_names::Identifier;
-use dm_rules::{Instances, names_of};
+use dm_rules::{Instances, Words, names_of};
 use dm_runs::Run;
-use dm_token::{Definition, Memory, Place, Text};
+use dm_token::{CToken, Definition, Memory, Place};
 use std::alloc::Global;
 
-fn is_parameter_name(definition: &Definition, name: &Text) -> bool
-    ensures { result ≡ captures.is_parameter_name definition.now name.now }
+/// A definition, with what is looked up of it in a unit.
+#[derive(Drop)]
+struct Subject {
+    /// The names of its parameters.
+    parameters: Words,
+    /// How many external declarations end before it.
+    behind: u32,
+}
+
+/// The token at a position.
+fn token_at(tokens: &[CToken], at: u32) -> Option<&CToken>
+    ensures { option_copied result ≡ slice_get tokens.now at }
 {
-    names_of(definition)
-        .iter()
-        .any(|other| name.bytes() == other.bytes())
+    tokens.get(at as usize)
 }
 
 /// Whether an identifier is a parameter's name.
-fn means_parameter(definition: &Definition, unit: &Meanings, one: Identifier) -> bool
-    ensures { result ≡ captures.means_parameter definition.now unit.now.index.now.reading.now one }
+fn means_parameter(subject: &Subject, unit: &Meanings, one: Identifier) -> bool
+    ensures { (definition : SeenDefinition) → let reading = unit.now.index.now.reading.now in
+        IsSubject definition reading subject.now → result ≡ captures.means_parameter definition reading one }
 {
     if one.tag {
         return false;
     }
-    match unit.index.reading.tokens.items().get(one.at as usize) {
+    match token_at(unit.index.reading.tokens.items(), one.at) {
         None => false,
-        Some(token) => is_parameter_name(definition, &token.spelling),
+        Some(token) => subject.parameters.has(&token.spelling),
     }
 }
 
 /// Whether a token is no name, or means the same where the definition stands.
-fn is_kept(definition: &Definition, unit: &Meanings, behind: u32, at: u32) -> bool
-    requires { behind ≡ externals_behind definition.now unit.now.index.now.reading.now }
-    ensures { result ≡ captures.is_kept definition.now unit.now.index.now.reading.now at }
+fn is_kept(subject: &Subject, unit: &Meanings, at: u32) -> bool
+    ensures { (definition : SeenDefinition) → let reading = unit.now.index.now.reading.now in
+        IsSubject definition reading subject.now → result ≡ captures.is_kept definition reading at }
 {
     match unit.meaning(at) {
         None => true,
         Some(one) => {
-            !means_parameter(definition, unit, one) && unit.is_visible(behind, one.number)
+            !means_parameter(subject, unit, one) && unit.is_visible(subject.behind, one.number)
         }
     }
 }
 
 /// Whether a token of a run is one of the macro's own, and means something else where the definition stands.
-fn is_captured(
-    definition: &Definition,
-    unit: &Meanings,
-    behind: u32,
-    own: &[bool],
-    run: &Run,
-    at: u32,
-) -> bool
-    requires behind { behind ≡ externals_behind definition.now unit.now.index.now.reading.now }
+fn is_captured(subject: &Subject, unit: &Meanings, own: &[bool], run: &Run, at: u32) -> bool
     requires own { AreOwn run.now own.now }
     requires inside { (run.now.span.first ≤ at) × (at < run.now.span.after) }
-    ensures { result ≡ (captures.is_own run.now at && not (captures.is_kept definition.now unit.now.index.now.reading.now at)) }
+    ensures { (definition : SeenDefinition) → let reading = unit.now.index.now.reading.now in
+        IsSubject definition reading subject.now → result ≡ (captures.is_own run.now at && not (captures.is_kept definition reading at)) }
 {
-    is_own(own, run, at) && !is_kept(definition, unit, behind, at)
+    is_own(own, run, at) && !is_kept(subject, unit, at)
 }
 
 /// Whether all names among the macro's own tokens mean the same where the definition stands.
 fn keeps_meanings(
     alloc: Global,
-    definition: &Definition,
+    subject: &Subject,
     unit: &Meanings,
-    behind: u32,
     run: &Run,
 ) -> Result<bool, Memory>
-    requires { behind ≡ externals_behind definition.now unit.now.index.now.reading.now }
-    ensures { IfOk result (λ keeps. keeps ≡ captures.keeps_meanings definition.now unit.now.index.now.reading.now run.now) }
+    ensures { IfOk result (λ keeps. (definition : SeenDefinition) → let reading = unit.now.index.now.reading.now in
+        IsSubject definition reading subject.now → keeps ≡ captures.keeps_meanings definition reading run.now) }
 {
     let own = own_tokens(alloc, run)?;
     for at in run.span.first..run.span.after {
-        if is_captured(definition, unit, behind, own.as_slice(), run, at) {
+        if is_captured(subject, unit, own.as_slice(), run, at) {
             return Ok(false);
         }
     }
     Ok(true)
+}
+
+/// What is looked up of a definition in a unit.
+fn subject_in(alloc: Global, definition: &Definition, unit: &Meanings) -> Result<Subject, Memory>
+    ensures { IfOk result (IsSubject definition.now unit.now.index.now.reading.now) }
+{
+    let parameters = Words::of(alloc, names_of(definition))?;
+    Ok(Subject {
+        parameters,
+        behind: unit.index.externals_behind(definition),
+    })
 }
 
 /// The first expansion in a unit in which a name means something else.
@@ -93,11 +107,11 @@ fn capture_in(
 ) -> Result<Option<Place>, Memory>
     ensures { IfOk result (λ place. place ≡ captures.capture_in definition.now unit.now.index.now.reading.now) }
 {
-    let behind = unit.index.externals_behind(definition);
+    let subject = subject_in(alloc, definition, unit)?;
     let mut instances = Instances::new(alloc);
     let runs = unit.index.runs_of(definition);
     for run in runs {
-        let keeps = keeps_meanings(alloc, definition, unit, behind, run)?;
+        let keeps = keeps_meanings(alloc, &subject, unit, run)?;
         instances.add_if(run, !keeps)?;
     }
     Ok(unit.index.first_with(definition, &instances))

@@ -3,11 +3,14 @@
 #![tactic(auto)]
 
 mod capture;
+mod firsts;
 mod meanings;
 mod own;
 mod typed;
 mod types;
+mod wanted;
 
 pub use capture::broken_capture;
+pub use firsts::{first_occurrences, span_of};
 pub use meanings::Meanings;
-pub use types::{Met, broken_type, first_occurrence, first_run};
+pub use types::{Met, broken_type, first_run};

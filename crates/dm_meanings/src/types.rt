@@ -3,12 +3,15 @@
 ghost use Rattle.std.specs.Prelude.{◌≡◌, option_map, IfOk};
 ghost use Rattle.dm_meanings.specs.First.{readings_of, seen};
 ghost use Rattle.dm_meanings.specs.Types as types;
+ghost use Rattle.dm_meanings.specs.Types.{Met as SeenMet};
+ghost use Rattle.dm_meanings.specs.Wanted.{IsWanted};
 ghost use Rattle.dm_rules.specs.Uses.{in_first_unit};
 
 use crate::meanings::Meanings;
+use crate::wanted::{Wanted, is_same_text};
 use dm_rules::Instances;
 use dm_runs::{Occurrence, Run};
-use dm_token::{Definition, Memory, Place, Span, Text};
+use dm_token::{Definition, Memory, Place};
 use std::alloc::Global;
 
 /// A run, and its unit.
@@ -46,88 +49,53 @@ pub fn first_run<'u, 'i, 'r>(
     None
 }
 
-/// The tokens of the first occurrence of a parameter in a run.
-pub fn first_occurrence(run: &Run, parameter: u32) -> Option<Span>
-    ensures { result ≡ types.first_occurrence run.now parameter }
-{
-    let one = run
-        .occurrences
-        .items()
-        .iter()
-        .find(|one| one.parameter == parameter)?;
-    Some(one.span)
-}
-
-fn is_same_text(one: &Option<Text>, other: &Option<Text>) -> bool
-    ensures { result ≡ types.is_same_text one.now other.now }
-{
-    match (one, other) {
-        (Some(one), Some(other)) => one.bytes() == other.bytes(),
-        _ => false,
-    }
-}
-
-/// How the type of what is passed for a parameter in the first run is spelled.
-fn parameter_text(
-    alloc: Global,
-    definition: &Definition,
-    first: &Met,
-    parameter: u32,
-) -> Result<Option<Text>, Memory>
-    ensures { IfOk result (λ text. text ≡ types.parameter_text definition.now (seen first.now) parameter) }
-{
-    match first_occurrence(first.run, parameter) {
-        None => Ok(None),
-        Some(span) => first.unit.text_at(alloc, definition, span),
-    }
-}
-
 /// Whether what is passed at an occurrence is a value of the type that it has in the first run.
 fn has_type(
     alloc: Global,
     definition: &Definition,
-    first: &Met,
+    wanted: &Wanted,
     unit: &Meanings,
     one: &Occurrence,
 ) -> Result<bool, Memory>
-    ensures { IfOk result (λ has. has ≡ types.has_type definition.now (seen first.now) unit.now.index.now.reading.now one.now) }
+    ensures { IfOk result (λ has. (first : SeenMet) → IsWanted definition.now first wanted.now
+        → has ≡ types.has_type definition.now first unit.now.index.now.reading.now one.now) }
 {
     let text = unit.text_at(alloc, definition, one.span)?;
-    let wanted = parameter_text(alloc, definition, first, one.parameter)?;
-    Ok(is_same_text(&text, &wanted) && !unit.is_void(one.span))
+    Ok(wanted.is_parameter(&text, one.parameter) && !unit.is_void(one.span))
 }
 
 /// Whether a run has the type of the first one.
 fn has_result(
     alloc: Global,
     definition: &Definition,
-    first: &Met,
+    wanted: &Wanted,
     unit: &Meanings,
     run: &Run,
 ) -> Result<bool, Memory>
-    ensures { IfOk result (λ has. has ≡ types.has_result definition.now (seen first.now) unit.now.index.now.reading.now run.now) }
+    ensures { IfOk result (λ has. (first : SeenMet) → IsWanted definition.now first wanted.now
+        → has ≡ types.has_result definition.now first unit.now.index.now.reading.now run.now) }
 {
     let text = unit.text_at(alloc, definition, run.span)?;
-    let wanted = first.unit.text_at(alloc, definition, first.run.span)?;
-    Ok(is_same_text(&text, &wanted))
+    Ok(is_same_text(&text, &wanted.result))
 }
 
 /// Whether a run has the type of the first one, and what is passed in it the types that it has there.
 fn has_types(
     alloc: Global,
     definition: &Definition,
-    first: &Met,
+    wanted: &Wanted,
     unit: &Meanings,
     run: &Run,
 ) -> Result<bool, Memory>
-    ensures { IfOk result (λ has. has ≡ types.has_types definition.now (seen first.now) unit.now.index.now.reading.now run.now) }
+    ensures { IfOk result (λ has. (first : SeenMet) → IsWanted definition.now first wanted.now
+        → has ≡ types.has_types definition.now first unit.now.index.now.reading.now run.now) }
 {
-    if !has_result(alloc, definition, first, unit, run)? {
+    if !has_result(alloc, definition, wanted, unit, run)? {
         return Ok(false);
     }
     let occurrences = run.occurrences.items();
     for one in occurrences {
-        if !has_type(alloc, definition, first, unit, one)? {
+        if !has_type(alloc, definition, wanted, unit, one)? {
             return Ok(false);
         }
     }
@@ -138,15 +106,16 @@ fn has_types(
 fn type_in(
     alloc: Global,
     definition: &Definition,
-    first: &Met,
+    wanted: &Wanted,
     unit: &Meanings,
 ) -> Result<Option<Place>, Memory>
-    ensures { IfOk result (λ place. place ≡ types.type_in definition.now (seen first.now) unit.now.index.now.reading.now) }
+    ensures { IfOk result (λ place. (first : SeenMet) → IsWanted definition.now first wanted.now
+        → place ≡ types.type_in definition.now first unit.now.index.now.reading.now) }
 {
     let mut instances = Instances::new(alloc);
     let runs = unit.index.runs_of(definition);
     for run in runs {
-        let keeps = has_types(alloc, definition, first, unit, run)?;
+        let keeps = has_types(alloc, definition, wanted, unit, run)?;
         instances.add_if(run, !keeps)?;
     }
     Ok(unit.index.first_with(definition, &instances))
@@ -156,13 +125,14 @@ fn type_in(
 fn type_in_units(
     alloc: Global,
     definition: &Definition,
-    first: &Met,
+    wanted: &Wanted,
     units: &[Meanings],
 ) -> Result<Option<Place>, Memory>
-    ensures { IfOk result (λ place. place ≡ in_first_unit (types.type_in definition.now (seen first.now)) (readings_of units.now)) }
+    ensures { IfOk result (λ place. (first : SeenMet) → IsWanted definition.now first wanted.now
+        → place ≡ in_first_unit (types.type_in definition.now first) (readings_of units.now)) }
 {
     for unit in units {
-        if let Some(place) = type_in(alloc, definition, first, unit)? {
+        if let Some(place) = type_in(alloc, definition, wanted, unit)? {
             return Ok(Some(place));
         }
     }
@@ -181,7 +151,8 @@ pub fn broken_type(
     match first_run(definition, units) {
         None => Ok(None),
         Some(first) => {
-            let place = type_in_units(alloc, definition, &first, units)?;
+            let wanted = Wanted::of(alloc, definition, &first)?;
+            let place = type_in_units(alloc, definition, &wanted, units)?;
             Ok(place)
         }
     }

@@ -5,6 +5,8 @@ mod chains;
 mod events;
 mod mentions;
 mod places;
+mod tables;
 
 pub use events::Event;
 pub use mentions::Mentions;
+pub use tables::Tables;

@@ -5,10 +5,12 @@ ghost use Rattle.std.specs.List.{position_from};
 ghost use Rattle.std.specs.FinMap as finite;
 ghost use Rattle.dm_mentions.specs.Mentions as mentions;
 ghost use Rattle.dm_mentions.specs.Mentions.{is_definition, is_mention, is_use, AreChains};
+ghost use Rattle.dm_mentions.specs.Tables.{AreTables};
 
 use crate::chains::{Chains, chained};
 use crate::events::{Event, events};
 use crate::places::{first_definitions, first_uses, identifiers};
+use crate::tables::Tables;
 use dm_name_map::NameMap;
 use dm_runs::is_at;
 use dm_token::{Memory, Place, Text, UnitTokens};
@@ -49,6 +51,34 @@ impl<'a> Mentions<'a> {
             events,
             chains,
         })
+    }
+
+    /// The unit with what is known of its names.
+    pub fn with_tables(pp: &'a UnitTokens, tables: Tables) -> Mentions<'a>
+        requires { AreTables pp.now tables }
+        ensures { result.pp.now ≡ pp.now }
+    {
+        Mentions {
+            pp,
+            identifiers: tables.identifiers,
+            uses: tables.uses,
+            definitions: tables.definitions,
+            events: tables.events,
+            chains: tables.chains,
+        }
+    }
+
+    /// What is known of the names, apart from the unit.
+    pub fn into_tables(self) -> Tables
+        ensures { AreTables self.entry.pp.now result }
+    {
+        Tables {
+            identifiers: self.identifiers,
+            uses: self.uses,
+            definitions: self.definitions,
+            events: self.events,
+            chains: self.chains,
+        }
     }
 
     /// The place of the first token of the list that is the name.

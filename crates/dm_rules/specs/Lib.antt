@@ -1,6 +1,9 @@
 pub mod Indexes
 pub mod Instances
+pub mod Lines
 pub mod Listing
 pub mod Places
 pub mod Rules
+pub mod Tables
 pub mod Uses
+pub mod Words

@@ -1,6 +1,6 @@
 //! A reading, with what answers for each definition without going through the unit again.
 
-ghost use Rattle.std.specs.Prelude.{◌≡◌, ℕ, ◌==◌, find, option_map, slice_get, IfOk, List as Sequence};
+ghost use Rattle.std.specs.Prelude.{◌≡◌, ℕ, ◌==◌, find, map, option_map, slice_get, IfOk, List as Sequence};
 ghost use Rattle.std.specs.Option.{option_copied};
 ghost use Rattle.std.specs.Coded.{codes};
 ghost use Rattle.dm_tree.specs.contracts.tree.Core as core;
@@ -12,16 +12,20 @@ ghost use Rattle.dm_runs.specs.Listings.{items_at, runs_at};
 ghost use Rattle.dm_runs.specs.Runs as seen;
 ghost use Rattle.dm_runs.specs.Spans.{positions};
 ghost use Rattle.dm_rules.specs.Instances.{AreOf};
+ghost use Rattle.dm_rules.specs.Lines as lines;
+ghost use Rattle.dm_rules.specs.Lines.{first_position, is_between};
 ghost use Rattle.dm_rules.specs.Listing.{is_expansion_at, name_if, passes_if};
 ghost use Rattle.dm_rules.specs.Places as places;
 ghost use Rattle.dm_rules.specs.Places.{is_inside, position};
 ghost use Rattle.dm_rules.specs.Rules as rules;
+ghost use Rattle.dm_rules.specs.Tables.{AreTables};
 ghost use Rattle.dm_rules.specs.Uses as uses;
 ghost use Rattle.dm_runs.specs.declared.run.Run.{Run as SeenRun};
 
 use crate::instances::Instances;
 use crate::listing::{expansions, readings};
 use crate::places::Places;
+use crate::tables::Tables;
 use dm_mentions::{Event, Mentions};
 use dm_reading::Reading;
 use dm_runs::{ByDirective, Run, Runs, is_file};
@@ -67,6 +71,38 @@ impl<'a> Index<'a> {
         })
     }
 
+    /// A reading with what is known of it, which takes no walk.
+    pub fn with_tables(reading: &'a Reading, tables: Tables) -> Index<'a>
+        requires { AreTables reading.now tables }
+        ensures { result.reading.now ≡ reading.now }
+    {
+        let pp = &reading.pp;
+        let mentions = Mentions::with_tables(pp, tables.mentions);
+        let externals = reading.core.externals.items();
+        let places = Places::with_counts(pp.tokens.items(), externals, tables.places);
+        Index {
+            reading,
+            runs: tables.runs,
+            mentions,
+            readings: tables.readings,
+            expansions: tables.expansions,
+            places,
+        }
+    }
+
+    /// What is known of the reading, apart from it.
+    pub fn into_tables(self) -> Tables
+        ensures { AreTables self.entry.reading.now result }
+    {
+        Tables {
+            runs: self.runs,
+            mentions: self.mentions.into_tables(),
+            readings: self.readings,
+            expansions: self.expansions,
+            places: self.places.into_counts(),
+        }
+    }
+
     /// The runs of a definition.
     pub fn runs_of(&self, definition: &Definition) -> &[Run]
         ensures { result.now ≡ uses.runs_in definition.now self.now.reading.now }
@@ -105,6 +141,27 @@ impl<'a> Index<'a> {
         match first(self.readings_of(definition)) {
             None => None,
             Some(number) => reading_at(self.reading.pp.read.items(), number),
+        }
+    }
+
+    /// The position of the first reading of the definition whose `#` is this byte of a file.
+    fn first_at(&self, file: u32, hash: u32) -> Option<u32>
+        ensures { result ≡ first_position (λ (one : SeenRead). seen.is_at file hash one.definition) 0 self.now.reading.now.pp.read }
+    {
+        first(self.readings.of_definition(file, hash))
+    }
+
+    /// The first definition that the unit reads of those in a file whose `#` is one of these bytes. Each byte is looked up.
+    pub fn first_between(&self, file: u32, from: u32, to: u32) -> Option<&Definition>
+        ensures { option_copied result ≡ find (is_between file from to) (map (λ (one : SeenRead). one.definition) self.now.reading.now.pp.read) }
+    {
+        let mut found = None;
+        for hash in from..to {
+            found = least(found, self.first_at(file, hash));
+        }
+        match found {
+            None => None,
+            Some(number) => definition_at(self.reading.pp.read.items(), number),
         }
     }
 
@@ -308,6 +365,26 @@ fn first(numbers: &[u32]) -> Option<u32>
     ensures { result ≡ slice_get numbers.now 0 }
 {
     numbers.first().copied()
+}
+
+/// The lesser of two numbers, if there are any.
+fn least(one: Option<u32>, other: Option<u32>) -> Option<u32>
+    ensures { result ≡ lines.least one other }
+{
+    match (one, other) {
+        (None, _) => other,
+        (Some(_), None) => one,
+        (Some(one), Some(other)) => Some(one.min(other)),
+    }
+}
+
+fn definition_at(read: &[Read], number: u32) -> Option<&Definition>
+    ensures { option_copied result ≡ option_map (λ (one : SeenRead). one.definition) (slice_get read.now number) }
+{
+    match read.get(number as usize) {
+        None => None,
+        Some(one) => Some(&one.definition),
+    }
 }
 
 fn reading_at(read: &[Read], number: u32) -> Option<&Read>

@@ -8,12 +8,16 @@ mod instances;
 mod listing;
 mod parameter;
 mod places;
+mod tables;
 mod uses;
+mod words;
 
 pub use body::broken_body;
 pub use index::Index;
 pub use instances::Instances;
 pub use parameter::{broken_parameter, names_of};
+pub use tables::Tables;
 pub use uses::{
     broken_again, broken_directive, broken_gone, broken_name, broken_place, broken_unused,
 };
+pub use words::Words;

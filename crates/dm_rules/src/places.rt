@@ -5,6 +5,7 @@ ghost use Rattle.std.specs.List.{range_with_len};
 ghost use Rattle.dm_token.specs.declared.token.Token.{Token as SeenToken};
 ghost use Rattle.dm_runs.specs.Spans as spans;
 ghost use Rattle.dm_rules.specs.Places as places;
+ghost use Rattle.dm_rules.specs.Tables.{AreCounts};
 
 use dm_runs::begun_before;
 use dm_token::{Memory, Token};
@@ -23,6 +24,15 @@ pub(crate) struct Places<'a> {
     ghost are_positions: { positions.items ≡ map (spans.begun_before tokens.now) (range_with_len 0 (length tokens.now + 1)) },
     ghost are_before: { places.AreBefore externals.now before.items },
     ghost few: { length externals.now < 2 ^ 32 },
+}
+
+/// What is known of the tokens and of the external declarations, apart from them.
+#[derive(Drop)]
+pub(crate) struct Counts {
+    /// By the number of preprocessing tokens before it, the token of phase 7.
+    positions: Vec<u32>,
+    /// By a token of phase 7, how many external declarations end before it.
+    before: Vec<u32>,
 }
 
 /// How many external declarations end before each token that stands before the end of one. More than 4,294,967,295 count as want
@@ -61,6 +71,34 @@ impl<'a> Places<'a> {
             positions,
             before,
         })
+    }
+
+    /// The tokens and the external declarations with what is known of them.
+    pub(crate) fn with_counts(
+        tokens: &'a [Token],
+        externals: &'a [CoreExternal],
+        counts: Counts,
+    ) -> Places<'a>
+        requires { AreCounts tokens.now externals.now counts }
+        ensures tokens { result.tokens.now ≡ tokens.now }
+        ensures externals { result.externals.now ≡ externals.now }
+    {
+        Places {
+            externals,
+            tokens,
+            positions: counts.positions,
+            before: counts.before,
+        }
+    }
+
+    /// What is known, apart from the tokens and the external declarations.
+    pub(crate) fn into_counts(self) -> Counts
+        ensures { AreCounts self.entry.tokens.now self.entry.externals.now result }
+    {
+        Counts {
+            positions: self.positions,
+            before: self.before,
+        }
     }
 
     /// The token of phase 7 behind so many preprocessing tokens, of which there are as many.

@@ -61,7 +61,7 @@ impl<'a> Shape<'a> {
         }
     }
 
-    // The span of an occurrence in a run.
+    // The span of an occurrence in a run. Where it would stand is looked for only if it has no tokens.
     fn span_in(
         &self,
         stand: &Stand,
@@ -79,8 +79,12 @@ impl<'a> Shape<'a> {
         if run.first == run.after {
             return run;
         }
+        let own = self.below(number, prefix, named);
+        if own.is_some() {
+            return span(run.after, own);
+        }
         let elsewhere = stand.would_stand(self.tokens, prefix, run, named.at);
-        span(elsewhere, self.below(number, prefix, named))
+        span(elsewhere, own)
     }
 
     fn occurrence(

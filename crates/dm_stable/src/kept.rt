@@ -39,7 +39,7 @@ impl<'a> Names for Kept<'a> {
 }
 
 /// Whether an object is an automatic one of a scalar type.
-fn is_scalar_local(unit: &CoreUnit, types: &Types, object: u32) -> bool
+pub fn is_scalar_local(unit: &CoreUnit, types: &Types, object: u32) -> bool
     requires { IsTrue (list_all (entry_has_known (length types.now.shapes)) unit.now.declared) }
     ensures { result ≡ stable.is_scalar_local (slice_get (view_of_unit types.now unit.now).declared object) }
 {

@@ -14,6 +14,7 @@ mod set;
 mod stability;
 mod steady;
 
+pub use kept::is_scalar_local;
 pub use laws::typed_units_have_known_entries;
 pub use names::Names;
 pub use objects::Objects;

@@ -1,18 +1,16 @@
 -- Where the run stands, and what is known of its arguments there.
-use Rattle.std.proofs.Common.{◌≡◌, ℕ, Bool, List, [], Option, Some, slice_get, ap, sym, subst, ◌∙◌}
+use Rattle.std.proofs.Common.{◌≡◌, ℕ, Bool, List, Some, slice_get, ap, sym, subst, ◌∙◌}
 use Rattle.std.specs.List.{list_all}
-use Rattle.std.specs.Option.{option_map_or}
-use Rattle.dm_tree.specs.Paths.{Path}
 use Rattle.dm_tree.specs.declared.unit.CoreUnit.{CoreUnit}
 use Rattle.dm_type.specs.Tables.{Table}
 use Rattle.dm_tree.specs.TypeNumbers.{IsTypedUnit}
-use Rattle.dm_tree.specs.Views.{view, view_of_unit}
+use Rattle.dm_tree.specs.Views.{view_of_unit}
 use Rattle.dm_effect.specs.Quiet.{is_quiet}
 use Rattle.dm_effect.specs.Sequencing.{around}
 use Rattle.dm_runs.specs.declared.run.Occurrence.{Occurrence}
-use Rattle.dm_sites.specs.Seen.{path_of, seen}
+use Rattle.dm_sites.specs.Seen.{seen}
 use Rattle.dm_sites.specs.Sites.{Site, sites_of_unit}
-use Rattle.dm_beside.specs.Tallies.{fact_in, is_passed, placed, spans_for, tally_of}
+use Rattle.dm_beside.specs.Tallies.{fact_in, is_passed, spans_for, tally_of}
 use Rattle.dm_beside.proofs.EvaluationLemmas.{placed-alike, nowhere-alike}
 use Rattle.dm_beside.proofs.noted.evaluates_alike_amid.Goals as goal
 
@@ -39,14 +37,15 @@ invariant_of-arguments c =
     let all = sites_of_unit unit in
     let site = seen types all c.in-Some-get.site.now in
     let got : slice_get all c.in-Some.number ≡ Some site = sym (c.in-Some-get.ensures types) in
-    let at : c.in_ok-at.at ≡ site.path = c.in_ok-at.ensures types ∙ ap (λ (one : Option Site). option_map_or path_of one []) got in
     let calm : Says c.are_quiet.result c.in-Some.number types site c.args.sites.now =
     subst (Says c.are_quiet.result c.in-Some.number types site) c.requires.surroundings (c.are_quiet.ensures types site) in
     record {
-      calmly = calm c.requires.typed got ∙ ap (λ (path : Path). list_all (is_quiet unit) (around path site.full)) (sym at);
+      calmly = calm c.requires.typed got;
       noted = c.requires.objects;
+      round = c.requires.surroundings;
       entries = c.requires.typed.known_in_entries;
       trees = c.requires.typed.known_in_trees;
+      placed = ∣ record { typed = c.requires.typed; there = got } ∣₁;
     }
 
 pub returns : goal.returns
@@ -57,8 +56,6 @@ returns c =
     let run = c.args.run.now in
     let site = seen types all c.in-Some-get.site.now in
     let got : slice_get all c.in-Some.number ≡ Some site = sym (c.in-Some-get.ensures types) in
-    let at : c.in_ok-at.at ≡ site.path = c.in_ok-at.ensures types ∙ ap (λ (one : Option Site). option_map_or path_of one []) got in
     c.in_ok-passed.ensures
-    ∙ (ap (λ (all : List Occurrence). list_all (λ (each : Occurrence). is_passed (tally_of (fact_in types unit (placed types c.in-Some-get.site.now c.in_ok-at.at)) (spans_for all each.parameter))) all) c.items.ensures
-    ∙ (ap (λ (path : Path). list_all (λ (each : Occurrence). is_passed (tally_of (fact_in types unit (placed types c.in-Some-get.site.now path)) (spans_for run.occurrences each.parameter))) run.occurrences) at
-    ∙ placed-alike types unit run site (sym (c.in-Some.ensures types) ∙ got)))
+    ∙ (ap (λ (all : List Occurrence). list_all (λ (each : Occurrence). is_passed (tally_of (fact_in types unit site) (spans_for all each.parameter))) all) c.items.ensures
+    ∙ placed-alike types unit run site (sym (c.in-Some.ensures types) ∙ got))

@@ -15,7 +15,7 @@ loop-run-preserved c =
     let runs = c.runs_of-runs.result.now in
     let i = c.loop-run.run-index in
     subst (λ some. AreOf some c.add_if.new.self)
-    (ap (λ keeps. filter test (take i runs) ++ cond (not keeps) (c.run-item.result ∷ []) []) c.in_ok-keeps.ensures
+    (ap (λ keeps. filter test (take i runs) ++ cond (not keeps) (c.run-item.result ∷ []) []) (c.in_ok-keeps.ensures c.args.definition.now c.in_ok-subject.ensures)
     ∙ ap (λ run. filter test (take i runs) ++ cond (test run) (run ∷ []) []) c.run-item.is
     ∙ more-filtered test runs i c.run-item.result c.loop-run-test.true)
     (c.in_ok-add_if.ensures (filter test (take i runs)) c.loop-run.invariant)

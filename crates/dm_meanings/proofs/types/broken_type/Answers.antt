@@ -2,7 +2,7 @@
 use Rattle.std.proofs.Common.{ap, ◌∙◌}
 use Rattle.std.specs.Prelude.{option_and_then}
 use Rattle.dm_rules.specs.Uses.{in_first_unit}
-use Rattle.dm_meanings.specs.First.{readings_of}
+use Rattle.dm_meanings.specs.First.{readings_of, seen}
 use Rattle.dm_meanings.specs.Types.{type_in}
 use Rattle.dm_meanings.proofs.types.broken_type.Goals as goal
 
@@ -11,4 +11,4 @@ returns-in-None c = ap (option_and_then (λ first. in_first_unit (type_in c.args
 
 pub returns-in_ok-place-in-Some : goal.returns-in_ok-place-in-Some
 returns-in_ok-place-in-Some c =
-    c.in_ok-place-in-Some.ensures ∙ ap (option_and_then (λ first. in_first_unit (type_in c.args.definition.now first) (readings_of c.args.units.now))) c.in-Some.ensures
+    c.in_ok-place-in-Some.ensures (seen c.in-Some.first) c.in_ok-wanted-in-Some.ensures ∙ ap (option_and_then (λ first. in_first_unit (type_in c.args.definition.now first) (readings_of c.args.units.now))) c.in-Some.ensures

@@ -1,25 +1,25 @@
 -- The first place of a unit is that of the first unit that has one.
 use Rattle.std.proofs.Common.{sym, ap, ◌∙◌}
 use Rattle.dm_meanings.specs.declared.meanings.Meanings.{Meanings}
-use Rattle.dm_meanings.specs.First.{readings_of, reading_of, seen}
+use Rattle.dm_meanings.specs.First.{readings_of, reading_of}
 use Rattle.dm_meanings.specs.Types.{type_in}
 use Rattle.dm_rules.specs.Uses.{in_first_unit}
 use Rattle.dm_meanings.proofs.MetLemmas.{first-unit, later-unit, no-unit}
 use Rattle.dm_meanings.proofs.types.type_in_units.Goals as goal
 
 pub returns-in-Some : goal.returns-in-Some
-returns-in-Some c =
-    let place = type_in c.args.definition.now (seen c.args.first.now) in
-    first-unit place c.args.units.now c.loop-unit.unit-index (in_first_unit place (readings_of c.args.units.now)) c.loop-unit.invariant c.unit-item.result c.loop-unit-test.true
-    c.in-Some.place (sym c.in-Some.is ∙ c.in_ok-place.ensures ∙ ap (λ (unit : Meanings). place (reading_of unit)) c.unit-item.is)
+returns-in-Some c first wanted =
+    let place = type_in c.args.definition.now first in
+    first-unit place c.args.units.now c.loop-unit.unit-index (in_first_unit place (readings_of c.args.units.now)) (c.loop-unit.invariant first wanted) c.unit-item.result c.loop-unit-test.true
+    c.in-Some.place (sym c.in-Some.is ∙ c.in_ok-place.ensures first wanted ∙ ap (λ (unit : Meanings). place (reading_of unit)) c.unit-item.is)
 
 pub loop-unit-preserved : goal.loop-unit-preserved
-loop-unit-preserved c =
-    let place = type_in c.args.definition.now (seen c.args.first.now) in
-    later-unit place c.args.units.now c.loop-unit.unit-index (in_first_unit place (readings_of c.args.units.now)) c.loop-unit.invariant c.unit-item.result c.loop-unit-test.true
-    (sym c.in_default.is ∙ c.in_ok-place.ensures ∙ ap (λ (unit : Meanings). place (reading_of unit)) c.unit-item.is)
+loop-unit-preserved c first wanted =
+    let place = type_in c.args.definition.now first in
+    later-unit place c.args.units.now c.loop-unit.unit-index (in_first_unit place (readings_of c.args.units.now)) (c.loop-unit.invariant first wanted) c.unit-item.result c.loop-unit-test.true
+    (sym c.in_default.is ∙ c.in_ok-place.ensures first wanted ∙ ap (λ (unit : Meanings). place (reading_of unit)) c.unit-item.is)
 
 pub returns : goal.returns
-returns c =
-    let place = type_in c.args.definition.now (seen c.args.first.now) in
-    sym (no-unit place c.args.units.now c.loop-unit.unit-index (in_first_unit place (readings_of c.args.units.now)) c.loop-unit.invariant c.loop-unit-test.false)
+returns c first wanted =
+    let place = type_in c.args.definition.now first in
+    sym (no-unit place c.args.units.now c.loop-unit.unit-index (in_first_unit place (readings_of c.args.units.now)) (c.loop-unit.invariant first wanted) c.loop-unit-test.false)
