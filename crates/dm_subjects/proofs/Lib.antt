@@ -3,3 +3,4 @@ pub mod LineLemmas
 pub mod NewlineLemmas
 pub mod SearchLemmas
 pub mod SortLemmas
+pub mod TableLemmas

@@ -3,3 +3,4 @@ pub mod Files
 pub mod Lines
 pub mod Newlines
 pub mod Subjects
+pub mod Tables

@@ -4,13 +4,15 @@ ghost use Rattle.std.specs.Prelude.{◌≡◌, find};
 ghost use Rattle.std.specs.List.{flat_map};
 ghost use Rattle.std.specs.Option.{option_copied};
 ghost use Rattle.dm_judge.specs.Proposals.{definitions_in};
+ghost use Rattle.dm_rules.specs.Indexes.{readings_of};
 ghost use Rattle.dm_subjects.specs.Lines as lines;
 ghost use Rattle.dm_subjects.specs.Subjects as seen;
 
 use crate::held::bytes_at;
-use crate::lines::Line;
+use crate::lines::{Line, Lines};
 use dm_project::Key;
 use dm_reading::Reading;
+use dm_rules::Index;
 use dm_search::Loader;
 use dm_token::{Definition, Origin};
 
@@ -50,7 +52,7 @@ fn definition_on(readings: &[Reading], file: u32, line: Line) -> Option<&Definit
 }
 
 /// The definition of a key, as the first unit that reads one has it. Goes through the bytes of its file, and through all definitions that
-/// the units read.
+/// the units read, which `definition_by` doesn't.
 pub fn definition_at<'a>(
     loader: &Loader,
     readings: &'a [Reading],
@@ -60,4 +62,28 @@ pub fn definition_at<'a>(
 {
     let line = Line::of(bytes_at(loader, key.file), key.line);
     definition_on(readings, key.file, line)
+}
+
+/// The first definition on a line that a unit reads. Each byte of the line is looked up, or each definition is tested where no line follows.
+fn definition_by_index<'a>(index: &'a Index, file: u32, line: Line) -> Option<&'a Definition>
+    ensures { option_copied result ≡ find (lines.stands_on file line) (definitions_in index.now.reading.now) }
+{
+    match line.bytes() {
+        Some((from, to)) => index.first_between(file, from, to),
+        None => definition_in(index.reading, file, line),
+    }
+}
+
+/// The definition of a key in the file of these lines, as the first unit that reads one has it, by the indexes of the units.
+pub fn definition_by<'a>(lines: &Lines, units: &'a [Index], key: Key) -> Option<&'a Definition>
+    requires { lines.now.file ≡ key.file }
+    ensures { option_copied result ≡ seen.definition_at lines.now.loader.now (readings_of units.now) key }
+{
+    let line = lines.line(key.line);
+    for index in units {
+        if let Some(definition) = definition_by_index(index, key.file, line) {
+            return Some(definition);
+        }
+    }
+    None
 }

@@ -10,10 +10,13 @@ mod lines;
 mod listing;
 mod newlines;
 mod subject;
+mod tables;
 
-pub use alignments::are_all_aligned;
+pub use alignments::{aligned_tables, are_all_aligned};
 pub use files::changed_files;
-pub use found::definition_at;
+pub use found::{definition_at, definition_by};
 pub use held::bytes_at;
+pub use lines::Lines;
 pub use listing::subjects;
 pub use subject::Subject;
+pub use tables::{indexes_with, tables_of};
