@@ -1,8 +1,10 @@
 -- Readings that stay: what the laws say.
 use Rattle.std.proofs.Common.{◌≡◌, ℕ, ◌<◌, ◌≤◌, Bool, true, false, ◌||◌, ◌⊎◌, inl, inr, List, [], ◌++◌, length, Option, None, Some, Ok, is_some, refl, sym, ap, ◌∙◌, subst, arith, true≢false}
+use Rattle.std.specs.List.{AllByRecursion}
 use Rattle.std.proofs.Math.ListN.{get_or-map}
 use Rattle.std.proofs.lemmas.Bool.{cases_lt, cases_eq, or_cases}
 use Rattle.std.proofs.lemmas.List.{append-nil, length-map, get_or_past}
+use Rattle.dm_token.specs.declared.token.Token.{Token}
 use Rattle.dm_token.specs.declared.unit.Unit.{Unit as Source}
 use Rattle.dm_token.specs.declared.unit.UnitTokens.{UnitTokens}
 use Rattle.dm_io.specs.Files.{Files, file_at}
@@ -15,6 +17,7 @@ use Rattle.dm_unit.specs.States.{Setting, Catalogue, State}
 use Rattle.dm_unit.specs.Includes.{number_in, is_found}
 use Rattle.dm_unit.specs.Readings.{is_among, ReadsUnit}
 use Rattle.dm_unit.specs.Units.{setting_of, first_files, state_with, AreNumbered, HasOutcome, IsReadAs}
+use Rattle.dm_unit.specs.Views.{StaysServed}
 use Rattle.dm_unit.proofs.FileLemmas.{header-held}
 use Rattle.dm_unit.proofs.GrowLemmas.{known-grows, held-now, held-other}
 use Rattle.dm_unit.proofs.OutcomeLemmas.{one-outcome}
@@ -40,7 +43,7 @@ module _ (files : Files) (unit : Source) (old new : Loaded) (starts : StartsWith
   abbrev setting : Setting
   setting = setting_of old new files unit
 
-  first-fits : Fits setting.main begins [] [] [] [] 0 0
+  pub first-fits : Fits setting.main begins [] [] [] [] 0 0
   first-fits = record {
     main_named = (own-numbered (shown old) unit.file).0;
     slots = slots-numbered (shown old) unit.file (length-map old.held is_some ∙ slots);
@@ -51,6 +54,7 @@ module _ (files : Files) (unit : Source) (old new : Loaded) (starts : StartsWith
     owned = λ file among. absurd (true≢false (sym among));
     ascending = omega arith;
     listed = tt;
+    under = tt;
     little = omega arith;
   }
 
@@ -73,6 +77,21 @@ module _ (files : Files) (unit : Source) (old new : Loaded) (starts : StartsWith
   -- the expansions that its tokens came through are listed
   pub marks-listed : (pp : UnitTokens) → IsReadAs setting unit old (Ok pp) new → AreListed pp.expansions pp.tokens
   marks-listed pp is = subst (λ (tokens : UnitTokens). AreListed tokens.expansions tokens.tokens) (sym is.2) (final-fits is.0 is.1.1).listed
+
+  -- what was read of a file is held
+  pub read-held : (pp : UnitTokens) → IsReadAs setting unit old (Ok pp) new → StaysServed (Some files) old new → (file : ℕ) → is_among file pp.files ≡ true → held_at new file ≡ file_for old files (name_of new file)
+  read-held pp is served file among =
+      let there = files-held pp is file among in
+      let name = name_of new file in
+      let held = some-there (held_at new file) there.2 in
+      let bytes : held_at new (number_of new name) ≡ Some held.0 = ap (held_at new) there.1 ∙ held.1 in
+      held.1 ∙ sym (ap (λ o. known_or o (is_absent new name) (file_at files name)) bytes) ∙ served files refl name
+
+  -- its tokens stand in files that have numbers
+  pub tokens-under : (pp : UnitTokens) → IsReadAs setting unit old (Ok pp) new → AllByRecursion (λ (token : Token). token.pp.place.file < length new.names) pp.tokens
+  tokens-under pp is =
+      subst (λ (tokens : UnitTokens). AllByRecursion (λ (token : Token). token.pp.place.file < length new.names) tokens.tokens) (sym is.2)
+      (subst (λ (c : Catalogue). AllByRecursion (λ (token : Token). token.pp.place.file < length c.names) is.0.tokens) is.3 (final-fits is.0 is.1.1).under)
 
 -- A LOADER THAT KEEPS WHAT WAS KNOWN
 

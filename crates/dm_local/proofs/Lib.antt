@@ -4,5 +4,6 @@ pub mod ExpansionLemmas
 pub mod KeptLemmas
 mod MarkLemmas
 mod OrderLemmas
+mod SearchedLemmas
 mod StayLemmas
 pub mod TokenLemmas

@@ -20,7 +20,8 @@ use Rattle.dm_token.specs.declared.unit.Use.{Use}
 use Rattle.dm_lex.specs.Classes.{quotation_mark}
 use Rattle.dm_macro.specs.Signs.{is_identifier, is_macro_name}
 use Rattle.dm_macro.specs.Tables.{Table, Defines}
-use Rattle.dm_expand.specs.Expansion.{Answer}
+use Rattle.dm_expand.specs.AnswerViews.{looked_up}
+use Rattle.dm_expand.specs.Expansion.{Answer, expansion_of}
 use Rattle.dm_expand.specs.Predefined.{file_literal}
 use Rattle.dm_search.specs.Headers.{header_number}
 use Rattle.dm_search.specs.Joining.{candidates, places}
@@ -41,7 +42,7 @@ use Rattle.dm_unit.specs.Readings.{is_among, with_text, after_expansion, after_t
 use Rattle.dm_unit.specs.Views.{AreIn}
 use Rattle.dm_local.proofs.CatalogueLemmas.{called, IsThere, Grown, grown-itself, grown-trans, grown-over, grown-again, longer, called-kept, number-kept, own-kept, there-kept, own-numbered, called-numbered, number-numbered, grown-numbered, numbered-known, slots-numbered, grown-found, found-now, slots-found, among-more, among-last, among-cases}
 use Rattle.dm_local.specs.Marks.{IsListed, AreListed}
-use Rattle.dm_local.proofs.ExpansionLemmas.{DefinitionsIn, TokensIn, all-append, expansion-alike}
+use Rattle.dm_local.proofs.ExpansionLemmas.{DefinitionsIn, TokensIn, AnswerIn, Stands, all-append, expansion-alike}
 use Rattle.dm_local.proofs.MarkLemmas.{front-covers, back-covers, listed-later}
 use Rattle.dm_local.proofs.OrderLemmas.{AreBetween, between-later, between-append, Ordered, in_unit-ordered}
 use Rattle.dm_local.proofs.TokenLemmas.{IsPartAt, bodies-weaker, at-under, at-drop, define_line-at, defines-in, replaced-in, reading-at, parts-at}
@@ -51,7 +52,7 @@ abbrev pub IsUnder : ℕ → Place → Type 0
 IsUnder count place = place.file < count
 
 -- What holds of each state of a reading: the main file and the built-in headers have numbers, so have files in which macros' tokens stand, and
--- a file that was read has that of its name; expansions ascend, those that tokens came through are listed, and the work keeps its limit.
+-- a file that was read has that of its name; tokens stand in such files; expansions ascend, those that tokens came through are listed, and the work keeps its limit.
 pub record Fits (main : ℕ) (files : Catalogue) (macros : List Definition) (read : List ℕ) (tokens : List Token) (expansions : List Expansion) (instance spent : ℕ) : Type 0 where
   pub main_named : main < length files.names
   pub slots : length files.found ≡ length files.names
@@ -60,7 +61,12 @@ pub record Fits (main : ℕ) (files : Catalogue) (macros : List Definition) (rea
   pub owned : (file : ℕ) → is_among file read ≡ true → IsThere files file
   pub ascending : AreBetween 0 expansions instance
   pub listed : AreListed expansions tokens
+  pub under : AllByRecursion (λ (one : Token). IsUnder (length files.names) one.pp.place) tokens
   pub little : spent ≤ most_work
+
+under-wider : (count more : ℕ) (tokens : List Token) → count ≤ more → AllByRecursion (λ (one : Token). IsUnder count one.pp.place) tokens → AllByRecursion (λ (one : Token). IsUnder more one.pp.place) tokens
+under-wider count more [] h all = tt
+under-wider count more (token ∷ tokens) h all = (omega (arith, h, all.0), under-wider count more tokens h all.1)
 
 -- a step that ends in a state
 abbrev Comes : State → Outcome → Type 0
@@ -69,10 +75,10 @@ Comes state outcome = Ok state ≡ outcome
 abbrev ComesTested : Tested → Result Tested Stop → Type 0
 ComesTested one result = Ok one ≡ result
 
-ok-is : {A : Type 0} (one other : A) → ◌≡◌ {A = Result A Stop} (Ok one) (Ok other) → one ≡ other
+pub ok-is : {A : Type 0} (one other : A) → ◌≡◌ {A = Result A Stop} (Ok one) (Ok other) → one ≡ other
 ok-is one other e = cc
 
-not-ok : {A : Type 0} (one : A) (stop : Stop) → ◌≡◌ {A = Result A Stop} (Ok one) (Err stop) → ⊥
+pub not-ok : {A : Type 0} (one : A) (stop : Stop) → ◌≡◌ {A = Result A Stop} (Ok one) (Err stop) → ⊥
 not-ok one stop e = cc
 
 none-of : {A : Type 0} (o : Option A) → is_some o ≡ false → o ≡ None
@@ -84,11 +90,11 @@ some-of None h = absurd (true≢false (sym h))
 some-of (Some x) h = (x, refl)
 
 -- what the first finding of a file leaves
-record FoundAs (number : ℕ) (files : Catalogue) (found : Sought) : Type 0 where
-  number_is : found.number ≡ Some number
-  grown : Grown files [] found.files []
-  slots : length found.files.found ≡ length found.files.names
-  flag : is_found found.files number ≡ true
+pub record FoundAs (number : ℕ) (files : Catalogue) (found : Sought) : Type 0 where
+  pub number_is : found.number ≡ Some number
+  pub grown : Grown files [] found.files []
+  pub slots : length found.files.found ≡ length found.files.names
+  pub flag : is_found found.files number ≡ true
 
 found-first : (number : ℕ) (bytes : List ℕ) (files : Catalogue) (found : Sought) → number < length files.names → length files.found ≡ length files.names → first_found number bytes files ≡ Ok found → FoundAs number files found
 unfolding first_found
@@ -106,7 +112,7 @@ found-first number bytes files found inside slots is = by (nat_lt source_length_
     by false false (Ok tokens) e = there (ok-is _ found e)
     by false false (Err refusal) e = absurd (not-ok found _ (sym e))
 
-found-named : (number : ℕ) (bytes : List ℕ) (files : Catalogue) (found : Sought) → number < length files.names → length files.found ≡ length files.names → found_as number bytes files ≡ Ok found → FoundAs number files found
+pub found-named : (number : ℕ) (bytes : List ℕ) (files : Catalogue) (found : Sought) → number < length files.names → length files.found ≡ length files.names → found_as number bytes files ≡ Ok found → FoundAs number files found
 found-named number bytes files found inside slots is = by (is_found files number) refl is
   where
     by : (b : Bool) → is_found files number ≡ b → cond b (Ok (sought (Some number) files)) (first_found number bytes files) ≡ Ok found → FoundAs number files found
@@ -125,11 +131,11 @@ module _ (one : Setting) (source : List ℕ → Option (List ℕ)) (looked : Lis
 
   -- THE SEARCH
 
-  record Found (header : Option ℕ) (names : List (List ℕ)) (files : Catalogue) (found : Sought) : Type 0 where
-    grown : Grown files [] found.files []
-    slots : length found.files.found ≡ length found.files.names
-    own : (number : ℕ) → found.number ≡ Some number → IsThere found.files number
-    again : Grown found.files [] all [] → Searches other header names all (Ok (sought found.number all))
+  pub record Found (header : Option ℕ) (names : List (List ℕ)) (files : Catalogue) (found : Sought) : Type 0 where
+    pub grown : Grown files [] found.files []
+    pub slots : length found.files.found ≡ length found.files.names
+    pub own : (number : ℕ) → found.number ≡ Some number → IsThere found.files number
+    pub again : Grown found.files [] all [] → Searches other header names all (Ok (sought found.number all))
 
   found-other : (header : Option ℕ) (name : List ℕ) (names : List (List ℕ)) (files : Catalogue) (found : Sought) → length files.found ≡ length files.names
       → one.looked name ≡ true → is_some (one.source name) ≡ true → FoundAs (number_in files name) (numbered name files) found → Found header (name ∷ names) files found
@@ -172,7 +178,7 @@ module _ (one : Setting) (source : List ℕ → Option (List ℕ)) (looked : Lis
         inr (subst (λ o. LooksAt other o name all (Searches other header names all) (Ok (sought found.number all))) (sym (none-of (source name) (there name may ∙ is))) (knows name may, behind.again later));
   }
 
-  search-stays : (header : Option ℕ) (names : List (List ℕ)) (files : Catalogue) (found : Sought) → length files.found ≡ length files.names → ((number : ℕ) → header ≡ Some number → IsThere files number)
+  pub search-stays : (header : Option ℕ) (names : List (List ℕ)) (files : Catalogue) (found : Sought) → length files.found ≡ length files.names → ((number : ℕ) → header ≡ Some number → IsThere files number)
       → Searches one header names files (Ok found) → Found header names files found
   unfolding Searches
   search-stays header [] files found slots own is =
@@ -248,8 +254,18 @@ module _ (one : Setting) (source : List ℕ → Option (List ℕ)) (looked : Lis
   expansion-stays s tokens fits under ends =
       ap (for_unit one.main) (expansion-alike (IsUnder (length s.files.names)) s.table s.files.names all.names tokens s.instance s.spent (literal s ends) fits.bodies under).0
 
-  text-by : (s t : State) (r : Result Answer Stop) → ((answer : Answer) → r ≡ Ok answer → Ordered s.instance answer) → FitsIn s → Comes t (after_expansion one.main s r) → FitsIn t × Grows s t × (Comes (over t) (after_expansion one.main (over s) r))
-  text-by s t (Ok answer) ordered fits is = by (nat_lt most_tokens (length (s.tokens ++ answer.tokens))) is
+  -- the tokens that come out of an expansion stand in files that tokens and macros stand in
+  answer-under : (s : State) (tokens : List PpToken) (answer : Answer) → FitsIn s → TokensUnder s tokens → expansion_in one.main s tokens ≡ Ok answer → AllByRecursion (λ (one : Token). IsUnder (length s.files.names) one.pp.place) answer.tokens
+  answer-under s tokens answer fits under is =
+      by (expansion_of (looked_up s.table s.files.names) tokens s.instance s.spent) (expansion-alike (IsUnder (length s.files.names)) s.table s.files.names s.files.names tokens s.instance s.spent (λ place within. refl) fits.bodies under).1 is
+    where
+      by : (r : Result Answer Stop) → Stands (IsUnder (length s.files.names)) (AnswerIn (IsUnder (length s.files.names))) r → for_unit one.main r ≡ Ok answer → AllByRecursion (λ (one : Token). IsUnder (length s.files.names) one.pp.place) answer.tokens
+      by (Ok made) stands e = let same : made ≡ answer = cc in subst (λ (a : Answer). AllByRecursion (λ (one : Token). IsUnder (length s.files.names) one.pp.place) a.tokens) same stands.0
+      by (Err stop) stands e = absurd (cc)
+
+  text-by : (s t : State) (r : Result Answer Stop) → ((answer : Answer) → r ≡ Ok answer → Ordered s.instance answer)
+      → ((answer : Answer) → r ≡ Ok answer → AllByRecursion (λ (one : Token). IsUnder (length s.files.names) one.pp.place) answer.tokens) → FitsIn s → Comes t (after_expansion one.main s r) → FitsIn t × Grows s t × (Comes (over t) (after_expansion one.main (over s) r))
+  text-by s t (Ok answer) ordered lie fits is = by (nat_lt most_tokens (length (s.tokens ++ answer.tokens))) is
     where
       more : FitsIn (with_text answer s)
       more = record {
@@ -262,6 +278,7 @@ module _ (one : Setting) (source : List ℕ → Option (List ℕ)) (looked : Lis
         listed = all-append (λ (one : Token). AllByRecursion (IsListed (s.expansions ++ answer.expansions)) one.trail) s.tokens answer.tokens
             (listed-later s.expansions (s.expansions ++ answer.expansions) (front-covers s.expansions answer.expansions) s.tokens fits.listed)
             (listed-later answer.expansions (s.expansions ++ answer.expansions) (back-covers s.expansions answer.expansions) answer.tokens (ordered answer refl).listed);
+        under = all-append (λ (one : Token). IsUnder (length s.files.names) one.pp.place) s.tokens answer.tokens fits.under (lie answer refl);
         little = (ordered answer refl).spent;
       }
 
@@ -269,11 +286,11 @@ module _ (one : Setting) (source : List ℕ → Option (List ℕ)) (looked : Lis
           → FitsIn t × Grows s t × (Comes (over t) (cond b (Err (limit limits.unit_tokens one.main)) (Ok (with_text answer (over s)))))
       by true e = absurd (not-ok t _ e)
       by false e = subst (λ t. FitsIn t × Grows s t × (Comes (over t) (Ok (with_text answer (over s))))) (sym (ok-is t (with_text answer s) e)) (more, grown-itself s.files s.files_read, refl)
-  text-by s t (Err stop) ordered fits is = absurd (not-ok t stop is)
+  text-by s t (Err stop) ordered lie fits is = absurd (not-ok t stop is)
 
   text-stays : (s t : State) (tokens : List PpToken) → FitsIn s → TokensUnder s tokens → Comes t (after_text one.main tokens s) → Stays s t (Comes (over t) (after_text one.main tokens (over s)))
   text-stays s t tokens fits under is =
-      let done = text-by s t (expansion_in one.main s tokens) (λ answer e. in_unit-ordered one.main s tokens answer fits.little e) fits is in (
+      let done = text-by s t (expansion_in one.main s tokens) (λ answer e. in_unit-ordered one.main s tokens answer fits.little e) (λ answer e. answer-under s tokens answer fits under e) fits is in (
         done.0,
         done.1,
         λ ends. done.2 ∙ ap (after_expansion one.main (over s)) (sym (expansion-stays s tokens fits under (grown-trans s.files t.files all s.files_read t.files_read all_read done.1 ends))),
@@ -298,6 +315,7 @@ module _ (one : Setting) (source : List ℕ → Option (List ℕ)) (looked : Lis
         owned = fits.owned;
         ascending = between-later 0 s.expansions s.instance (s.instance + length answer.expansions) (omega arith) fits.ascending;
         listed = fits.listed;
+        under = fits.under;
         little = (ordered answer refl).spent;
       }
 
@@ -398,7 +416,7 @@ module _ (one : Setting) (source : List ℕ → Option (List ℕ)) (looked : Lis
           let below = ltb-true s.spent most_work room in
           subst (λ t. Stays s t (((table : Table) × Defines s.table line origin plain table × (Comes (over t) (Ok (with_definition table (over s))))) ⊎ ((stop : Stop) × CannotDefine s.table line origin plain stop × (Comes (over t) (Err stop)))))
           (sym (ok-is t (with_definition x.0 s) x.2)) (
-            record { main_named = fits.main_named; slots = fits.slots; headers = fits.headers; bodies = defines-in (IsUnder (length s.files.names)) s.table x.0 line origin plain fits.bodies under x.1; owned = fits.owned; ascending = fits.ascending; listed = fits.listed; little = omega (arith, below) },
+            record { main_named = fits.main_named; slots = fits.slots; headers = fits.headers; bodies = defines-in (IsUnder (length s.files.names)) s.table x.0 line origin plain fits.bodies under x.1; owned = fits.owned; ascending = fits.ascending; listed = fits.listed; under = fits.under; little = omega (arith, below) },
             grown-itself s.files s.files_read,
             λ ends. inl (x.0, x.1, refl),
           )
@@ -444,7 +462,7 @@ module _ (one : Setting) (source : List ℕ → Option (List ℕ)) (looked : Lis
       line-stays s t (define_line one.main define tokens) Manifest true fits (at-under one.main (length s.files.names) (define_line one.main define tokens) fits.main_named (define_line-at one.main define tokens)) is
   manifest_text-stays s t define (Err refused) fits is = never s t _ _ is
 
-  manifests-stay : (defines : List (List ℕ)) (s t : State) → FitsIn s → DoesManifests one defines s (Ok t) → Stays s t (DoesManifests other defines (over s) (Ok (over t)))
+  pub manifests-stay : (defines : List (List ℕ)) (s t : State) → FitsIn s → DoesManifests one defines s (Ok t) → Stays s t (DoesManifests other defines (over s) (Ok (over t)))
   unfolding DoesManifests
   manifests-stay [] s t fits is = is-stays s t s _ fits (grown-itself s.files s.files_read) refl is
   manifests-stay (define ∷ defines) s t fits is =
@@ -454,7 +472,7 @@ module _ (one : Setting) (source : List ℕ → Option (List ℕ)) (looked : Lis
   -- INCLUSION
 
   -- the same state over files that were found
-  fits-found : (s : State) (files : Catalogue) → FitsIn s → Grown s.files [] files [] → length files.found ≡ length files.names → Fits one.main files s.table.read s.files_read s.tokens s.expansions s.instance s.spent
+  pub fits-found : (s : State) (files : Catalogue) → FitsIn s → Grown s.files [] files [] → length files.found ≡ length files.names → Fits one.main files s.table.read s.files_read s.tokens s.expansions s.instance s.spent
   fits-found s files fits grown slots =
       let more = longer s.files files [] [] grown in
       record {
@@ -465,11 +483,12 @@ module _ (one : Setting) (source : List ℕ → Option (List ℕ)) (looked : Lis
         owned = λ file read. there-kept s.files files [] [] file grown (fits.owned file read);
         ascending = fits.ascending;
         listed = fits.listed;
+        under = under-wider (length s.files.names) (length files.names) s.tokens more fits.under;
         little = fits.little;
       }
 
   -- how files are entered
-  abbrev EntersStay : (ℕ → State → Outcome → Type 0) → (ℕ → State → Outcome → Type 0) → Type 0
+  abbrev pub EntersStay : (ℕ → State → Outcome → Type 0) → (ℕ → State → Outcome → Type 0) → Type 0
   EntersStay E E' = (file : ℕ) (s t : State) → FitsIn s → IsThere s.files file → E file s (Ok t) → Stays s t (E' file (over s) (Ok (over t)))
 
   includes-stay : (E E' : ℕ → State → Outcome → Type 0) → EntersStay E E' → (start : PpToken) (header : Option ℕ) (names : List (List ℕ)) (found : Sought) (s t : State) → FitsIn s → Found header names s.files found
@@ -567,7 +586,7 @@ module _ (one : Setting) (source : List ℕ → Option (List ℕ)) (looked : Lis
 
   -- THE PARTS OF A FILE
 
-  part-stays : (E E' : ℕ → State → Outcome → Type 0) → EntersStay E E' → (file : ℕ) (part : Part) (s t : State) → FitsIn s → is_among file s.files_read ≡ true → IsPartAt file part
+  pub part-stays : (E E' : ℕ → State → Outcome → Type 0) → EntersStay E E' → (file : ℕ) (part : Part) (s t : State) → FitsIn s → is_among file s.files_read ≡ true → IsPartAt file part
       → ReadsPart one E file part s (Ok t) → Stays s t (ReadsPart other E' file part (over s) (Ok (over t)))
   part-stays E E' enters file (directive start behind) s t fits read are = directive-stays E E' enters file (directive_of behind) start behind s t fits read are
   part-stays E E' enters file (text tokens) s t fits read are = by (is_read s.sections)
@@ -584,8 +603,8 @@ module _ (one : Setting) (source : List ℕ → Option (List ℕ)) (looked : Lis
       then-stays (λ m. m) over (ReadsPart one E file part s) (ReadsPart other E' file part (over s)) (ReadsParts one E file parts) (ReadsParts other E' file parts) s t
       (λ m. part-stays E E' enters file part s m fits read are.0) (λ m fits' grows. parts-stay E E' enters file parts m t fits' (grows.reads file read) are.1)
 
-  fits-begun : (s : State) (file : ℕ) → FitsIn s → IsThere s.files file → FitsIn (begun file s)
-  fits-begun s file fits own = record { main_named = fits.main_named; slots = fits.slots; headers = fits.headers; bodies = fits.bodies; owned = λ number read. by number (among-cases number file s.files_read read); ascending = fits.ascending; listed = fits.listed; little = fits.little }
+  pub fits-begun : (s : State) (file : ℕ) → FitsIn s → IsThere s.files file → FitsIn (begun file s)
+  fits-begun s file fits own = record { main_named = fits.main_named; slots = fits.slots; headers = fits.headers; bodies = fits.bodies; owned = λ number read. by number (among-cases number file s.files_read read); ascending = fits.ascending; listed = fits.listed; under = fits.under; little = fits.little }
     where
       by : (number : ℕ) → (is_among number s.files_read ≡ true) ⊎ (number ≡ file) → IsThere s.files number
       by number (inl read) = fits.owned number read
@@ -613,7 +632,7 @@ module _ (one : Setting) (source : List ℕ → Option (List ℕ)) (looked : Lis
         ),
       )
 
-  enters-stay : (more : ℕ) → EntersStay (Enters one more) (Enters other more)
+  pub enters-stay : (more : ℕ) → EntersStay (Enters one more) (Enters other more)
   unfolding Enters
   enters-stay zero file s t fits own is = never s t _ _ is
   enters-stay (suc more) file s t fits own is =

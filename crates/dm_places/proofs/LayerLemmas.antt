@@ -1,6 +1,7 @@
--- The refusals of the tokens of phase 7, and of their syntax, stand at preprocessing tokens.
-use Rattle.std.proofs.Common.{◌≡◌, ℕ, zero, suc, Bool, true, false, cond, ◌&&◌, List, [], ◌∷◌, Option, None, Some, Result, Ok, Err, sym, subst}
+-- The refusals of the tokens of phase 7, of their syntax and of their typing stand at preprocessing tokens.
+use Rattle.std.proofs.Common.{◌≡◌, ℕ, zero, suc, ◌<◌, Bool, true, false, cond, ◌&&◌, ◌⊎◌, inl, inr, List, [], ◌∷◌, length, map, Option, None, Some, Result, Ok, Err, sym, subst, arith}
 use Rattle.std.specs.Prelude.{MatchOption, slice_get, position, bytes_eq, option_map, nat_lt, ℤ, pos}
+use Rattle.std.specs.FinMap as finite
 use Rattle.std.specs.List.{AllByRecursion}
 use Rattle.dm_token.specs.declared.place.Place.{Place}
 use Rattle.dm_token.specs.declared.stop.Refusal.{Refusal}
@@ -18,7 +19,32 @@ use Rattle.dm_ctok.specs.Escapes.{elements, between_quotes, character_of}
 use Rattle.dm_ctok.specs.Integers.{integer_of}
 use Rattle.dm_ctok.specs.Joins.{is_literal_class, joined, onto, joins}
 use Rattle.dm_ctok.specs.Tokens.{plain, refused, word, valued, number, is_prefixed, character, of_values, literal, of_kind, token_of, first_left_out, behind_first, each, joined_unless_refused, ctokens_of}
-use Rattle.dm_reading.specs.Syntax.{Refuses}
+use Rattle.dm_pexpr.specs.NameMaps.{NameMap}
+use Rattle.dm_syn.specs.Spans.{external_span}
+use Rattle.dm_syn.specs.Trees.{External}
+use Rattle.dm_syn.specs.declared.statement.External.{External as Written}
+use Rattle.dm_syn.specs.Views as view
+use Rattle.dm_tree.specs.Units.{TypedUnit}
+use Rattle.dm_typing.specs.Known.{Outcome, broken, place_of_token}
+use Rattle.dm_typing.specs.Sound.{BreaksWithin}
+use Rattle.dm_typing.proofs.LaterLemmas.{begins-itself}
+use Rattle.dm_edecl.specs.Placing.{externals_after}
+use Rattle.dm_edecl.specs.Units.{typed_unit}
+use Rattle.dm_edecl.proofs.UnitPlacingLemmas.{unit-within}
+use Rattle.dm_reading.specs.Elaborated.{Elaborates}
+use Rattle.dm_reading.specs.Layered.{HasLayers}
+use Rattle.dm_reading.specs.Syntax.{names_behind, Stand, IsSyntax, Refuses}
+use Rattle.dm_read.proofs.SourceLemmas.{syntax-externals}
+
+-- external declarations that stand one behind the other end where the last does
+stand-ends : (tokens : List CToken) (externals : List External) (names : NameMap) (at to : ℕ) (known : NameMap) → Stand tokens names at externals to known → externals_after at externals ≡ to
+unfolding Stand
+stand-ends tokens [] names at to known h = h.0
+stand-ends tokens (it ∷ others) names at to known h = stand-ends tokens others (names_behind tokens names it) (external_span it).after to known h.1
+
+-- a rule that is broken inside tokens is broken at one of them
+broken-inside : (end : ℕ) (outcome : Outcome TypedUnit) (rule at : ℕ) → outcome ≡ broken rule at → BreaksWithin 0 end outcome → at < end
+broken-inside end outcome rule at is within = (subst (BreaksWithin 0 end) is within).1
 
 module _ (In : Place → Type 0) where
   abbrev pub TokensLie : List Token → Type 0
@@ -137,3 +163,28 @@ module _ (In : Place → Type 0) where
 
   pub syntax-lies : (tokens : List Token) (made : List CToken) (refusal : Refusal) → TokensLie tokens → ctokens_of tokens ≡ Ok made → Refuses made (Refused refusal) → In refusal.place
   syntax-lies tokens made refusal all is refuses = token-at made refuses.0 refusal (subst AllLie is (ctokens-lie tokens all)) refuses.2
+
+  -- THE TYPING
+
+  place-lies : (tokens : List CToken) (at : ℕ) → CTokensLie tokens → at < length tokens → In (place_of_token (slice_get tokens at))
+  place-lies [] at all inside = absurd (omega (arith, inside))
+  place-lies (token ∷ tokens) zero all inside = all.0
+  place-lies (token ∷ tokens) (suc at) all inside = place-lies tokens at all.1 (omega (arith, inside))
+
+  pub typing-lies : (tokens : List Token) (made : List CToken) (externals : List External) (refusal : Refusal) → TokensLie tokens → ctokens_of tokens ≡ Ok made → IsSyntax made externals
+      → Elaborates made externals (Err (Refused refusal)) → In refusal.place
+  typing-lies tokens made externals refusal all is syntax breaks =
+      let here = breaks.1 breaks.0 (begins-itself breaks.0) in
+      let inside = broken-inside (externals_after 0 externals) (typed_unit breaks.0 made externals) here.0 here.1 here.2 (unit-within breaks.0 made externals (syntax-externals made externals syntax)) in
+      let ends = stand-ends made externals finite.empty 0 (length made) syntax.0 syntax.1 in
+      subst (λ (r : Refusal). In r.place) (sym here.3) (place-lies made here.1 (subst AllLie is (ctokens-lie tokens all)) (omega (arith, inside, ends)))
+
+  -- ALL LAYERS
+
+  pub layers-lie : (tokens : List Token) (refusal : Refusal) → TokensLie tokens → HasLayers tokens (Err (Refused refusal)) → In refusal.place
+  layers-lie tokens refusal all (inl is) = refused-lies tokens refusal all is
+  layers-lie tokens refusal all (inr behind) = by behind.2
+    where
+      by : Refuses behind.0 (Refused refusal) ⊎ ((syntax : List Written) × IsSyntax behind.0 (map view.external syntax) × Elaborates behind.0 (map view.external syntax) (Err (Refused refusal))) → In refusal.place
+      by (inl refuses) = syntax-lies tokens behind.0 refusal all behind.1 refuses
+      by (inr typed) = typing-lies tokens behind.0 (map view.external typed.0) refusal all behind.1 typed.1 typed.2

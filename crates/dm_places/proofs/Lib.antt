@@ -1,4 +1,5 @@
 mod LayerLemmas
 mod PartLemmas
 mod PlaceLemmas
+mod ReadingLemmas
 mod TextLemmas

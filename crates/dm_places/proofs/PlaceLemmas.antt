@@ -1,5 +1,5 @@
 -- Each refusal of a unit's reading lies in the file that it names, and so does each token.
-use Rattle.std.proofs.Common.{◌≡◌, ℕ, zero, suc, ◌<◌, Bool, true, false, cond, ◌⊎◌, inl, inr, List, [], ◌∷◌, ◌++◌, length, drop, map, get_or, Option, None, Some, Result, Ok, Err, MatchBool, IfErr, nat_lt, refl, sym, ap, ◌∙◌, subst, arith, append_assoc}
+use Rattle.std.proofs.Common.{◌≡◌, ℕ, zero, suc, ◌<◌, Bool, true, false, cond, ◌⊎◌, inl, inr, bytes_eq, List, [], ◌∷◌, ◌++◌, length, drop, map, get_or, Option, None, Some, Result, Ok, Err, MatchBool, IfErr, nat_lt, refl, sym, ap, ◌∙◌, subst, arith, append_assoc}
 use Rattle.std.specs.Prelude.{not, nat_le, unwrap_or, if◌then◌else◌}
 use Rattle.std.specs.List.{list_any, AllByRecursion}
 use Rattle.std.specs.Result.{result_unwrap_or}
@@ -51,17 +51,26 @@ use Rattle.dm_places.specs.Places.{IsPlaceOf, LiesIn, CanBeRead}
 use Rattle.dm_places.proofs.PartLemmas.{PartIn, parts-in, cannot-in}
 use Rattle.dm_places.proofs.TextLemmas.{AreOf, IsReadIn, reading-stands}
 
--- names come behind those that are there
-abbrev Longer : Catalogue → Catalogue → Type 0
-Longer files later = (more : List (List ℕ)) × (later.names ≡ files.names ++ more)
+-- Names for which a reading may look are such, whatever that says of them.
+module _ (one : Setting) (Fine : List ℕ → Type 0) (fine : (name from : List ℕ) (quoted : Bool) (include : List (List ℕ)) → AllByRecursion Fine (candidates name (places from quoted include))) where
+  -- such names come behind those that are there
+  abbrev pub Longer : Catalogue → Catalogue → Type 0
+  Longer files later = (more : List (List ℕ)) × (later.names ≡ files.names ++ more) × AllByRecursion Fine more
 
-longer-itself : (files : Catalogue) → Longer files files
-longer-itself files = ([], sym (append-nil files.names))
+  longer-itself : (files : Catalogue) → Longer files files
+  longer-itself files = ([], sym (append-nil files.names), tt)
 
-longer-on : (a b c : Catalogue) → Longer a b → Longer b c → Longer a c
-longer-on a b c first second = (first.0 ++ second.0, second.1 ∙ ap (λ ns. ns ++ second.0) first.1 ∙ append_assoc a.names first.0 second.0)
+  pub longer-on : (a b c : Catalogue) → Longer a b → Longer b c → Longer a c
+  longer-on a b c first second =
+      (first.0 ++ second.0, second.1 ∙ ap (λ ns. ns ++ second.0) first.1 ∙ append_assoc a.names first.0 second.0, all-append Fine first.0 second.0 first.2 second.2)
 
-module _ (one : Setting) where
+  pub numbered-longer : (files : Catalogue) (name : List ℕ) → Fine name → Longer files (numbered name files)
+  numbered-longer files name is = by (list_any (bytes_eq name) files.names)
+    where
+      by : (b : Bool) → Longer files (cond b files (record { names = files.names ++ name ∷ []; found = files.found ++ false ∷ [] }))
+      by true = ([], sym (append-nil files.names), tt)
+      by false = (name ∷ [], refl, (is, tt))
+
   abbrev In : Place → Type 0
   In place = LiesIn one place
 
@@ -286,9 +295,9 @@ module _ (one : Setting) where
   some-is : (a b : ℕ) → Some a ≡ Some b → a ≡ b
   some-is a b e = cc
 
-  found-lies : (name held : List ℕ) (files : Catalogue) → one.source name ≡ Some held → one.named (number_in files name) ≡ name → Finds files (found_as (number_in files name) held (numbered name files))
+  found-lies : (name held : List ℕ) (files : Catalogue) → Fine name → one.source name ≡ Some held → one.named (number_in files name) ≡ name → Finds files (found_as (number_in files name) held (numbered name files))
   unfolding first_found
-  found-lies name held files is named = by (is_found more number) (nat_lt source_length_limit (length held)) (nat_le most_files (found_files more)) (reading_of number held) (reading-stands number held)
+  found-lies name held files is_fine is named = by (is_found more number) (nat_lt source_length_limit (length held)) (nat_le most_files (found_files more)) (reading_of number held) (reading-stands number held)
     where
       number : ℕ
       number = number_in files name
@@ -298,7 +307,7 @@ module _ (one : Setting) where
 
       there : (later : Catalogue) → later.names ≡ (numbered name files).names → Longer files later × ((n : ℕ) → Some (number_in files name) ≡ Some n → IsNamed later n)
       there later same = (
-        ((grown-numbered files name []).names.0, same ∙ (grown-numbered files name []).names.1),
+        ((numbered-longer files name is_fine).0, same ∙ (numbered-longer files name is_fine).1, (numbered-longer files name is_fine).2),
         λ n e. subst (IsNamed later) (some-is (number_in files name) n e) (
           subst (λ ns. number_in files name < length ns) (sym same) (own-numbered files name).0,
           named ∙ sym (called-numbered files name) ∙ ap (λ ns. get_or ns (number_in files name) []) (sym same),
@@ -318,15 +327,15 @@ module _ (one : Setting) where
       by false false false (Ok tokens) stands = there (with_found (number_in files name) (numbered name files)) refl
       by false false false (Err refused) stands = lies refused stands
 
-  search-lies : (header : Option ℕ) (names : List (List ℕ)) (files : Catalogue) (result : Result Sought Stop) → ((number : ℕ) → header ≡ Some number → IsNamed files number) → Searches one header names files result → Finds files result
+  search-lies : (header : Option ℕ) (names : List (List ℕ)) (files : Catalogue) (result : Result Sought Stop) → AllByRecursion Fine names → ((number : ℕ) → header ≡ Some number → IsNamed files number) → Searches one header names files result → Finds files result
   unfolding Searches
-  search-lies header [] files result named is = subst (Finds files) (sym is) (longer-itself files, named)
-  search-lies header (name ∷ names) files result named (inl fails) = subst (Finds files) (sym fails.2) tt
-  search-lies header (name ∷ names) files result named (inr looks) = by (one.source name) refl looks (search-lies header names files result named)
+  search-lies header [] files result all named is = subst (Finds files) (sym is) (longer-itself files, named)
+  search-lies header (name ∷ names) files result all named (inl fails) = subst (Finds files) (sym fails.2) tt
+  search-lies header (name ∷ names) files result all named (inr looks) = by (one.source name) refl looks (search-lies header names files result all.1 named)
     where
       by : (o : Option (List ℕ)) → one.source name ≡ o → LooksAt one o name files (Searches one header names files) result → (Searches one header names files result → Finds files result) → Finds files result
       by None e is next = next is.1
-      by (Some held) e is next = subst (Finds files) (sym is.2) (found-lies name held files e is.1)
+      by (Some held) e is next = subst (Finds files) (sym is.2) (found-lies name held files all.0 e is.1)
 
   -- how files are entered
   abbrev EntersLies : (ℕ → State → Outcome → Type 0) → Type 0
@@ -349,7 +358,7 @@ module _ (one : Setting) where
       by (is-goes s outcome (Err (refusal refusals.out_of_subset start.place)) begins) is
     where
       search : (r : Result Sought Stop) → SearchesFor one file header.spelling s.files r → Finds s.files r
-      search r = search-lies (header_number (header_name header.spelling)) (candidates (header_name header.spelling) (places (called s.files file) (is_quoted header.spelling) one.include)) s.files r (lies.headers (header_name header.spelling))
+      search r = search-lies (header_number (header_name header.spelling)) (candidates (header_name header.spelling) (places (called s.files file) (is_quoted header.spelling) one.include)) s.files r (fine (header_name header.spelling) (called s.files file) (is_quoted header.spelling) one.include) (lies.headers (header_name header.spelling))
 
       by : Then (SearchesFor one file header.spelling s.files) (λ sought outcome. Includes one E start sought.number sought.files s outcome) outcome → Goes s outcome
       by (inl x) = is-goes s outcome (Err x.0) (search (Err x.0) x.1) x.2
@@ -436,14 +445,14 @@ module _ (one : Setting) where
 
   -- THE UNIT
 
-  main-goes : (name : List ℕ) (s : State) (outcome : Outcome) → LiesState s → ReadsMain one name s outcome → Goes s outcome
-  main-goes name s outcome lies is = by is
+  main-goes : (name : List ℕ) (s : State) (outcome : Outcome) → Fine name → LiesState s → ReadsMain one name s outcome → Goes s outcome
+  main-goes name s outcome is_fine lies is = by is
     where
       none-some : (number : ℕ) → ◌≡◌ {A = Option ℕ} None (Some number) → ⊥
       none-some number e = cc
 
       search : (r : Result Sought Stop) → Searches one None (name ∷ []) s.files r → Finds s.files r
-      search r = search-lies None (name ∷ []) s.files r (λ number e. absurd (none-some number e))
+      search r = search-lies None (name ∷ []) s.files r (is_fine, tt) (λ number e. absurd (none-some number e))
 
       found : (number : Option ℕ) (files : Catalogue) → Longer s.files files → ((n : ℕ) → number ≡ Some n → IsNamed files n) → ReadsFound one number files s outcome → Goes s outcome
       found None files longer named is = is-goes s outcome (Err (refusal refusals.not_found (absent_place one.main))) (start-lies one.main) is
@@ -455,16 +464,17 @@ module _ (one : Setting) where
       by (inl x) = is-goes s outcome (Err x.0) (search (Err x.0) x.1) x.2
       by (inr x) = let a = search (Ok x.0) x.1 in found x.0.number x.0.files a.0 a.1 x.2
 
-  pub unit-goes : (name : List ℕ) (defines : List (List ℕ)) (s : State) (outcome : Outcome) → LiesState s → AllByRecursion (CanBeRead one) defines → ReadsUnit one name defines s outcome → Goes s outcome
+  pub unit-goes : (name : List ℕ) (defines : List (List ℕ)) (s : State) (outcome : Outcome) → Fine name → LiesState s → AllByRecursion (CanBeRead one) defines → ReadsUnit one name defines s outcome → Goes s outcome
   unfolding ReadsUnit
-  unit-goes name defines s outcome lies reads =
-      then-goes (λ m. m) (DoesManifests one defines s) (ReadsMain one name) s outcome (λ r. manifests-go defines s r lies reads) (λ m lies' longer. main-goes name m outcome lies')
+  unit-goes name defines s outcome is_fine lies reads =
+      then-goes (λ m. m) (DoesManifests one defines s) (ReadsMain one name) s outcome (λ r. manifests-go defines s r lies reads) (λ m lies' longer. main-goes name m outcome is_fine lies')
 
 -- what is so before anything is read
-pub first-lies : (files : Files) (unit : Source) (old new : Loaded) → StartsWithHeaders old → AreNumbered (setting_of old new files unit) (first_files old unit) → LiesState (setting_of old new files unit) (state_with (first_files old unit))
-first-lies files unit old new starts numbered = record { headers = headers; bodies = tt; opened = tt; tokens_lie = tt }
+pub first-lies : (files : Files) (unit : Source) (old new : Loaded) (Fine : List ℕ → Type 0) (fine : (name from : List ℕ) (quoted : Bool) (include : List (List ℕ)) → AllByRecursion Fine (candidates name (places from quoted include)))
+    → StartsWithHeaders old → AreNumbered (setting_of old new files unit) (first_files old unit) → LiesState (setting_of old new files unit) Fine fine (state_with (first_files old unit))
+first-lies files unit old new Fine fine starts numbered = record { headers = headers; bodies = tt; opened = tt; tokens_lie = tt }
   where
-    headers : (name : List ℕ) (file : ℕ) → header_number name ≡ Some file → IsNamed (setting_of old new files unit) (first_files old unit) file
+    headers : (name : List ℕ) (file : ℕ) → header_number name ≡ Some file → IsNamed (setting_of old new files unit) Fine fine (first_files old unit) file
     headers name file is =
         let held = header-held old name file starts is in
         let all = longer (shown old) (first_files old unit) [] [] (grown-numbered (shown old) unit.file []) in

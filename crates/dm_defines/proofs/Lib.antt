@@ -1,0 +1,4 @@
+mod CutLemmas
+mod DefineLemmas
+mod PhaseLemmas
+mod WordLemmas
