@@ -1,17 +1,20 @@
 //! What the edit of a macro's definition adds to a unit.
 
-ghost use Rattle.std.specs.Prelude.{◌≡◌, ◌↔◌, ℕ, [], ◌∷◌, IfNone, IfOk, IfSome, IsTrue};
+ghost use Rattle.std.specs.Prelude.{◌≡◌, ◌↔◌, ℕ, [], ◌∷◌, IfNone, IfOk, IfSome, IsTrue, slice_get};
+ghost use Rattle.dm_edit.specs.declared.change.As.TheVariants as kinds;
 ghost use Rattle.dm_align.specs.Units.{Insertion};
 ghost use Rattle.dm_alignment.specs.Insertions.{IsInserted};
 ghost use Rattle.dm_alignment.specs.Readings as seen;
 ghost use Rattle.dm_alignment.specs.Readings.{IsInsertion};
 
 use dm_align::Inserted;
-use dm_edit::Change;
+use dm_edit::{As, Change};
+use dm_macro::named_count;
 use dm_meanings::Meanings;
 use dm_names::Entered;
 use dm_rules::Index;
 use dm_token::{Memory, Text};
+use dm_tree::CoreExternalForm;
 
 /// How many entries a unit has behind its first external declarations.
 fn entries_behind(unit: &Meanings, externals: u32) -> u32
@@ -57,6 +60,47 @@ fn is_same_name(one: &Text, other: &Text) -> bool
     one == other
 }
 
+/// Whether an external declaration defines a function with so many parameters.
+fn takes_so_many(count: usize, form: &CoreExternalForm) -> bool
+    ensures { IsTrue result ↔ seen.TakesSoMany count form.now }
+{
+    match form {
+        CoreExternalForm::Function {
+            function: _,
+            parameters,
+            body: _,
+        } => parameters.len() == count,
+        CoreExternalForm::Declaration(_) => false,
+    }
+}
+
+/// Whether what becomes of the macro takes as many arguments as the macro has parameters.
+fn takes_as_many(unit: &Meanings, external: u32, change: &Change) -> bool
+    ensures { IsTrue result ↔ seen.TakesAsMany change.now.kind change.now.definition (slice_get unit.now.index.now.reading.now.core.externals external) }
+{
+    match change.kind {
+        As::Function => function_takes_as_many(unit, external, change),
+        As::Enumerator => true,
+        As::Constant => true,
+    }
+}
+
+fn function_takes_as_many(unit: &Meanings, external: u32, change: &Change) -> bool
+    ensures { IsTrue result ↔ seen.TakesAsMany kinds.Function change.now.definition (slice_get unit.now.index.now.reading.now.core.externals external) }
+{
+    match unit
+        .index
+        .reading
+        .core
+        .externals
+        .items()
+        .get(external as usize)
+    {
+        None => false,
+        Some(one) => takes_so_many(named_count(&change.definition), &one.form),
+    }
+}
+
 /// What the edit adds, where the unit reads the definition. More than 4,294,967,294 external declarations count as want of memory.
 pub(crate) fn added_to<'a>(
     old: &Index,
@@ -76,6 +120,9 @@ pub(crate) fn added_to<'a>(
     let Some(number) = number_alone(new, external, name) else {
         return Ok(None);
     };
+    if !takes_as_many(new, external, change) {
+        return Ok(None);
+    }
     Ok(Some(Inserted {
         external: external as usize,
         first,

@@ -21,7 +21,8 @@ use Rattle.dm_lines.specs.Puts.{PutsText}
 use Rattle.dm_lines.specs.Statuses as statuses
 use Rattle.dm_edit.specs.declared.plan.Changed.{Changed}
 use Rattle.dm_apply.specs.declared.prepared.Prepared.{Prepared}
-use Rattle.dm_apply.specs.Commits.{HasRoom, FailsAt, IsCommittedAs, with_files, write_failed}
+use Rattle.dm_last.specs.Last.{with_files}
+use Rattle.dm_apply.specs.Commits.{HasRoom, FailsAt, IsCommittedAs, write_failed}
 
 -- ---- files that are written
 

@@ -1,12 +1,9 @@
 -- From what the steps of a command do to how it ends.
-use Rattle.std.proofs.Common.{◌≡◌, ◌≢◌, ◌∙◌, ℕ, zero, suc, ◌≤◌, Bool, true, List, [], ◌∷◌, ◌++◌, length, map, get_or, All, inl, inr, Option, Some, Result, Ok, Err, IfOk, OnOk, OnErr, refl, sym, ap, subst, arith}
+use Rattle.std.proofs.Common.{◌≡◌, ◌≢◌, ◌∙◌, ℕ, ◌≤◌, Bool, List, [], ◌∷◌, ◌++◌, length, map, get_or, All, inl, inr, Option, Some, Result, Ok, Err, IfOk, OnOk, OnErr, refl, sym, ap, subst, arith}
 use Rattle.std.specs.Prelude.{slice_get, unwrap_or, option_map}
-use Rattle.std.specs.List.{list_all}
 use Rattle.std.proofs.Math.Seq.{get_or-append_seam}
-use Rattle.std.proofs.lemmas.Bool.{and_parts, leb-true}
 use Rattle.std.proofs.lemmas.List.{length-append}
 use Rattle.std.proofs.lemmas.Option.{slice_get-map, slice_get_read}
-use Rattle.dm_token.specs.Limits.{source_length_limit}
 use Rattle.dm_token.specs.declared.stop.Memory.{Memory}
 use Rattle.dm_token.specs.declared.stop.Stop.{Stop}
 use Rattle.dm_token.specs.declared.stop.Stop.TheVariants as stop
@@ -14,8 +11,8 @@ use Rattle.dm_token.specs.declared.unit.Unit.{Unit as Source}
 use Rattle.dm_io.specs.Files.{Files, MayHaveSpoiled}
 use Rattle.dm_io.specs.Output.{appended, MayHaveAppended}
 use Rattle.dm_io.specs.Faults.{Rose}
-use Rattle.dm_manifest.specs.Defines.{is_define}
-use Rattle.dm_manifest.specs.Units.{IsLawful, is_definable}
+use Rattle.dm_manifest.proofs.Short.{lawful-short}
+use Rattle.dm_manifest.specs.Units.{IsLawful}
 use Rattle.dm_search.specs.Loaded.{Loaded}
 use Rattle.dm_project.specs.Units.{HasShortDefines}
 use Rattle.dm_edit.specs.declared.plan.Changed.{Changed}
@@ -25,7 +22,11 @@ use Rattle.dm_lines.specs.Lines.{write_fault_line}
 use Rattle.dm_lines.specs.Outside.{Outside, KeepsFiles, Puts}
 use Rattle.dm_lines.specs.Puts.{PutsText}
 use Rattle.dm_lines.specs.Stops.{status_of_stop}
-use Rattle.dm_apply.specs.Commits.{IsCommittedAs, with_files, done}
+use Rattle.dm_last.specs.Last.{with_files}
+use Rattle.dm_planning.specs.Plans.{IsPlanned}
+use Rattle.dm_promise.specs.Promises.{KeepsPrograms, KeepsToldPrograms}
+use Rattle.dm_search.specs.Fresh.{fresh}
+use Rattle.dm_apply.specs.Commits.{IsCommittedAs, done}
 use Rattle.dm_apply.specs.Commits.{write_failed as write_failed_there, output_failed as output_failed_there}
 use Rattle.dm_apply.specs.Endings.{EndsPlanningAs, EndsApplyingAs, planned, report_failed, stopped, applied, write_failed, output_failed, unplanned}
 use Rattle.dm_apply.specs.Generation.{EndsGeneratingAs, summed_up}
@@ -36,21 +37,27 @@ use Rattle.dm_apply.specs.Summaries.{files_of, units as generated_units, summary
 
 -- ---- lawful units
 
--- the defines of a lawful unit are no longer than a file
-short_defines : (defines : List (List ℕ)) → list_all is_definable defines ≡ true → All (λ (define : List ℕ). length define ≤ source_length_limit) defines
-unfolding is_define
-short_defines [] lawful k d below = absurd (omega arith)
-short_defines (define ∷ defines) lawful zero d below = leb-true _ _ (and_parts _ _ (and_parts _ _ (and_parts _ _ (and_parts _ _ lawful).0).0).0).0
-short_defines (define ∷ defines) lawful (suc k) d below = short_defines defines (and_parts _ _ lawful).1 k d (omega arith)
-
-pub lawful-short : (units : List Source) → All IsLawful units → All HasShortDefines units
-lawful-short units lawful k d below = short_defines (get_or units k d).define (lawful k d below).define
+pub all-short : (units : List Source) → All IsLawful units → All HasShortDefines units
+all-short units lawful k d below = lawful-short (get_or units k d) (lawful k d below)
 
 -- ---- causes
 
 -- faults that rose since a later moment rose since an earlier one
 Rose-earlier : (before middle after : ℕ) → before ≤ middle → Rose middle after → Rose before after
 Rose-earlier before middle after order rose = omega arith
+
+-- ---- programs
+
+abbrev pub KeepsAllPrograms : Type 0
+KeepsAllPrograms =
+    (before after : Files) (units : List Source) (new : Loaded) (now : ℕ) (plan : Plan) → IsPlanned (Some before) units fresh 0 (Ok plan) new now
+    → with_files (Some before) plan.files ≡ Some after → KeepsPrograms before after units plan
+
+told_programs : KeepsAllPrograms → (told now : Option Files) (units : List Source) (known : Loaded) (plan : Plan) → IsOnePlan told units (Ok plan) known → now ≡ with_files told plan.files
+    → KeepsToldPrograms told now units plan
+told_programs law told now units known plan is written = λ before after is_told is_now.
+    law before after units known is.0 plan (subst (λ (files : Option Files). IsPlanned files units fresh 0 (Ok plan) known is.0) is_told is.1)
+    (ap (λ (files : Option Files). with_files files plan.files) (sym is_told) ∙ (sym written ∙ is_now))
 
 -- ---- a plan is reported
 
@@ -90,20 +97,21 @@ module _ (json : Bool) (project : List ℕ) (units : List Source) (before : Outs
       (sym is ∙ (slice_get-map named plan.files (length written) ∙ ap (option_map named) (ap (λ (files : List Changed). slice_get files (length written)) split ∙ there)))
 
   -- a plan's files are written from a later moment on, at which files and output are as before
-  pub ends_committed : (middle after : Outside) (plan : Plan) (result : Result ℕ Memory) → IsOnePlan before.files units (Ok plan) known
+  pub ends_committed : KeepsAllPrograms → (middle after : Outside) (plan : Plan) (result : Result ℕ Memory) → IsOnePlan before.files units (Ok plan) known
       → middle.files ≡ before.files → before.folder_faults ≤ middle.folder_faults → middle.written ≡ before.written → middle.sink_faults ≡ before.sink_faults
       → IfOk result (IsCommittedAs (prepared_of json plan) middle after) → OnErr result (after.files ≡ middle.files) → OnErr result (after.written ≡ middle.written)
       → EndsApplyingAs json project units before after result
-  ends_committed middle after plan (Ok status) is files earlier unput quiet (done, now, ends) kept unwritten = (
+  ends_committed law middle after plan (Ok status) is files earlier unput quiet (done, now, ends) kept unwritten = (
     applied plan,
     now,
     (
       (known, is),
       ends.0 ∙ ap (λ (told : Option Files). with_files told plan.files) files,
       ends.1 ∙ ap (λ (told : Option (List ℕ)). appended told (report json plan)) unput,
+      told_programs law before.files after.files units known plan is (ends.0 ∙ ap (λ (told : Option Files). with_files told plan.files) files),
     ),
   )
-  ends_committed middle after plan (Ok status) is files earlier unput quiet (write_failed_there written file left, now, ends) kept unwritten = (
+  ends_committed law middle after plan (Ok status) is files earlier unput quiet (write_failed_there written file left, now, ends) kept unwritten = (
     write_failed plan written file left,
     now,
     (
@@ -116,7 +124,7 @@ module _ (json : Bool) (project : List ℕ) (units : List Source) (before : Outs
           (subst (λ (told : Option (List ℕ)). PutsText told after.written middle.sink_faults after.sink_faults ends.3) unput ends.5)),
     ),
   )
-  ends_committed middle after plan (Ok status) is files earlier unput quiet (output_failed_there, now, ends) kept unwritten = (
+  ends_committed law middle after plan (Ok status) is files earlier unput quiet (output_failed_there, now, ends) kept unwritten = (
     output_failed plan,
     now,
     (
@@ -124,9 +132,10 @@ module _ (json : Bool) (project : List ℕ) (units : List Source) (before : Outs
       ends.0 ∙ ap (λ (told : Option Files). with_files told plan.files) files,
       subst (λ (faults : ℕ). Rose faults after.sink_faults) quiet ends.1,
       subst (λ (told : Option (List ℕ)). MayHaveAppended told after.written (report json plan)) unput ends.2,
+      told_programs law before.files after.files units known plan is (ends.0 ∙ ap (λ (told : Option Files). with_files told plan.files) files),
     ),
   )
-  ends_committed middle after plan (Err error) is files earlier unput quiet committed kept unwritten = (kept ∙ files, unwritten ∙ unput)
+  ends_committed law middle after plan (Err error) is files earlier unput quiet committed kept unwritten = (kept ∙ files, unwritten ∙ unput)
 
 -- ---- the plan of a generated project
 

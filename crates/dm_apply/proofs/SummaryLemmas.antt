@@ -12,15 +12,16 @@ use Rattle.dm_token.specs.Names.{is_normal_name}
 use Rattle.dm_token.specs.declared.stop.Stop.{Stop}
 use Rattle.dm_token.specs.declared.unit.Unit.{Unit as Source}
 use Rattle.dm_io.specs.Files.{Files, file_at, with_file}
-use Rattle.dm_manifest.specs.Units.{IsLawful, are_distinct}
+use Rattle.dm_manifest.proofs.Short.{alone-lawful}
+use Rattle.dm_manifest.specs.Units.{IsLawful, alone}
 use Rattle.dm_search.specs.Loaded.{Loaded}
 use Rattle.dm_edit.specs.declared.plan.Changed.{Changed}
 use Rattle.dm_edit.specs.declared.plan.Plan.{Plan}
 use Rattle.dm_gen.specs.Generated.{generated_text, unit_name}
 use Rattle.dm_report.specs.Counts.{kept_count, rewritten_count}
-use Rattle.dm_apply.specs.Commits.{with_files}
+use Rattle.dm_last.specs.Last.{with_files}
 use Rattle.dm_apply.specs.Plans.{IsOnePlan}
-use Rattle.dm_apply.specs.Summaries.{alone, bytes_at, files_of, size_after, summary, summary_line}
+use Rattle.dm_apply.specs.Summaries.{bytes_at, files_of, size_after, summary, summary_line}
 use Rattle.dm_apply.specs.Summaries.{units as generated_units}
 use Rattle.dm_apply.proofs.CommitLemmas.{with_files-more}
 
@@ -81,15 +82,11 @@ pub of_project : (n : ℕ) (told : Option Files) (units : List Source) (result :
 of_project n told units result known same unit is =
     subst (λ (files : Option Files). IsOnePlan files generated_units result known) same (subst (λ (these : List Source). IsOnePlan told these result known) unit is)
 
--- a C file alone is a lawful unit
-alone-lawful : (file : List ℕ) → is_normal_name file ≡ true → IsLawful (alone file)
-unfolding are_distinct
-alone-lawful file normal = record { file = normal; include = refl; define = refl; distinct = refl }
-
+-- its unit is lawful
 normal_unit_name : is_normal_name unit_name ≡ true
 unfolding names.is_part names.is_plain_part names.is_name_byte bytes.is_digit
 normal_unit_name = refl
 
 pub all-lawful : (unit : Source) (name : List ℕ) → unit ≡ alone name → name ≡ unit_name → All IsLawful (unit ∷ [])
-all-lawful unit name is named zero d below = subst IsLawful (sym (is ∙ ap alone named)) (alone-lawful unit_name normal_unit_name)
+all-lawful unit name is named zero d below = alone-lawful unit_name unit (is ∙ ap alone named) normal_unit_name
 all-lawful unit name is named (suc k) d below = absurd (omega arith)

@@ -1,19 +1,14 @@
 -- Writing the files of a plan, and putting its report.
---     with_files told files      the files after these were given their new bytes
 --     IsCommitted prepared before after commit      how writing files and putting a report ends
-use Rattle.std.specs.Prelude.{◌≡◌, ◌≤◌, ℕ, List, [], ◌∷◌, ◌++◌, length, take, All, Option, Some, slice_get}
-use Rattle.dm_io.specs.Files.{Files, with_file, MayHaveSpoiled}
+use Rattle.std.specs.Prelude.{◌≡◌, ◌≤◌, ℕ, List, ◌∷◌, ◌++◌, length, take, All, Option, Some, slice_get}
+use Rattle.dm_io.specs.Files.{Files, MayHaveSpoiled}
 use Rattle.dm_io.specs.Output.{appended, MayHaveAppended}
 use Rattle.dm_io.specs.Faults.{Rose}
 use Rattle.dm_lines.specs.Outside.{Outside, Puts}
 use Rattle.dm_lines.specs.Statuses as statuses
 use Rattle.dm_edit.specs.declared.plan.Changed.{Changed}
+use Rattle.dm_last.specs.Last.{with_files}
 use Rattle.dm_apply.specs.declared.prepared.Prepared.{Prepared}
-
--- the files after these were given their new bytes
-abbrev pub with_files : Option Files → List Changed → Option Files
-with_files told [] = told
-with_files told (file ∷ files) = with_files (with_file told file.name file.bytes) files
 
 -- The write of the file at a position failed, behind those before it.
 abbrev pub FailsAt : Option Files → Option Files → List Changed → ℕ → Type 0

@@ -15,7 +15,8 @@ use Rattle.dm_lines.specs.Lines.{write_fault_line}
 use Rattle.dm_lines.specs.Outside.{Outside, KeepsFiles, Puts}
 use Rattle.dm_lines.specs.Statuses as statuses
 use Rattle.dm_lines.specs.Stops.{status_of_stop}
-use Rattle.dm_apply.specs.Commits.{with_files}
+use Rattle.dm_last.specs.Last.{with_files}
+use Rattle.dm_promise.specs.Promises.{KeepsToldPrograms}
 use Rattle.dm_apply.specs.Plans.{Plans, StopsPlanning, HasCause, report, line_of_no_plan}
 
 -- ---- the endings
@@ -72,17 +73,18 @@ EndsPlanning json project units before after (stopped stop files) = ExplainsStop
 EndsPlanning json project units before after memory_wanted = KeepsAll before after
 
 -- What each ending of a call that applies a plan means. The files that change are written in the order of the plan, each once, before
--- the report is put. One whose write failed has any bytes or is absent; those before it have their new bytes, and all others stay.
+-- the report is put. One whose write failed has any bytes or is absent; those before it have their new bytes, and all others stay. Where
+-- all are written, the programs of the units refine those that they had.
 abbrev pub EndsApplying : Bool → List ℕ → List Source → Outside → Outside → ApplyEnding → Type 0
 EndsApplying json project units before after (applied plan) =
     Plans before.files units plan × (after.files ≡ with_files before.files plan.files)
-    × (after.written ≡ appended before.written (report json plan))
+    × (after.written ≡ appended before.written (report json plan)) × KeepsToldPrograms before.files after.files units plan
 EndsApplying json project units before after (write_failed plan written file left) =
     Plans before.files units plan × (plan.files ≡ written ++ file ∷ left) × Rose before.folder_faults after.folder_faults
     × MayHaveSpoiled (with_files before.files written) after.files file.name × Puts before after (write_fault_line file.name)
 EndsApplying json project units before after (output_failed plan) =
     Plans before.files units plan × (after.files ≡ with_files before.files plan.files) × Rose before.sink_faults after.sink_faults
-    × MayHaveAppended before.written after.written (report json plan)
+    × MayHaveAppended before.written after.written (report json plan) × KeepsToldPrograms before.files after.files units plan
 EndsApplying json project units before after (unplanned stop files) = ExplainsStop project units before after stop files
 EndsApplying json project units before after unready = KeepsAll before after
 

@@ -7,16 +7,14 @@ use Rattle.std.specs.FinMap as finite
 use Rattle.dm_token.specs.declared.unit.Unit.{Unit as Source}
 use Rattle.dm_io.specs.Files.{Files, file_at}
 use Rattle.dm_edit.specs.declared.plan.Plan.{Plan}
+use Rattle.dm_manifest.specs.Units.{alone}
 use Rattle.dm_gen.specs.Generated.{generated_text, unit_name}
 use Rattle.dm_report.specs.Counts.{rewritten_count, kept_count}
-use Rattle.dm_apply.specs.Commits.{with_files}
+use Rattle.dm_last.specs.Last.{with_files}
 
 -- the project: a folder with one file, which is the one unit
 abbrev pub files_of : ℕ → Files
 files_of n = finite.insert finite.empty unit_name (generated_text n)
-
-abbrev pub alone : List ℕ → Source
-alone file = record { file = file; include = []; define = [] }
 
 abbrev pub units : List Source
 units = alone unit_name ∷ []

@@ -17,6 +17,7 @@ use crate::ready::make_ready;
 use crate::writing::commit;
 use dm_edit::Plan;
 use dm_io::{Folder, Sink};
+use dm_promise::applied_programs_refine;
 use dm_search::Loader;
 use dm_token::{Memory, Text, Unit};
 use std::alloc::Global;
@@ -41,6 +42,8 @@ pub fn apply_command<F: Folder, S: Sink>(
     ensures folder_later { F.faults folder.old ≤ F.faults folder.new }
     ensures sink_later { S.faults out.old ≤ S.faults out.new }
 {
+    // The law of what a plan does to programs.
+    applied_programs_refine();
     let mut loader = Loader::new(alloc)?;
     match plan_once(alloc, folder, &mut loader, units) {
         Ok(plan) => apply_plan(alloc, plan, json, folder, out),

@@ -1,9 +1,8 @@
 //! The plan of a generated project.
 
-ghost use Rattle.std.specs.Prelude.{◌≡◌, ◌≤◌, IfOk};
+ghost use Rattle.std.specs.Prelude.{◌≤◌};
 ghost use Rattle.dm_gen.specs.Generated.{greatest_count};
 ghost use Rattle.dm_apply.specs.Generation.{EndsGeneratingAs};
-ghost use Rattle.dm_apply.specs.Summaries.{alone};
 
 use crate::explain::explain_no_plan;
 use crate::planning::plan_once;
@@ -12,8 +11,9 @@ use crate::report::put_output;
 use crate::summary::{size_behind, size_of, summary_of};
 use dm_gen::generated;
 use dm_io::Sink;
+use dm_manifest::unit_alone;
 use dm_search::Loader;
-use dm_token::{List, Memory, Text, Unit};
+use dm_token::{Memory, Text};
 use std::alloc::Global;
 
 /// Makes the plan of the generated project with `n` macros and puts its summary, and answers the status. It reads and writes no file of a
@@ -37,15 +37,4 @@ pub fn gen_command<S: Sink>(alloc: Global, n: u32, out: &mut S) -> Result<u8, Me
         }
         Err(stop) => explain_no_plan(alloc, out, name.bytes(), loader.names(), stop),
     }
-}
-
-/// The unit of a C file alone.
-fn unit_alone(alloc: Global, file: &Text) -> Result<Unit, Memory>
-    ensures { IfOk result (λ unit. unit ≡ alone file.now) }
-{
-    Ok(Unit {
-        file: file.copy()?,
-        include: List::new(alloc),
-        define: List::new(alloc),
-    })
 }

@@ -4,7 +4,7 @@ ghost use Rattle.std.specs.Prelude.{◌≡◌, IfOk, Some, length};
 ghost use Rattle.dm_io.specs.Files.{Files};
 ghost use Rattle.dm_io.specs.MemoryFolder.{files_of as files_in};
 ghost use Rattle.dm_report.specs.Counts.{kept_count as kept_number, rewritten_count as rewritten_number};
-ghost use Rattle.dm_apply.specs.Commits.{with_files};
+ghost use Rattle.dm_last.specs.Last.{with_files};
 ghost use Rattle.dm_apply.specs.Summaries.{bytes_at, summary_line};
 
 use dm_edit::{Changed, Plan};

@@ -5,7 +5,8 @@ ghost use Rattle.dm_io.specs.Faults.{Rose};
 ghost use Rattle.dm_io.specs.Files.{HasFile};
 ghost use Rattle.dm_edit.specs.declared.plan.Changed.{Changed};
 ghost use Rattle.dm_lines.specs.Outside.{outside};
-ghost use Rattle.dm_apply.specs.Commits.{HasRoom, HasOutputRoom, IsCommittedAs, FailsAt, with_files};
+ghost use Rattle.dm_last.specs.Last.{with_files};
+ghost use Rattle.dm_apply.specs.Commits.{HasRoom, HasOutputRoom, IsCommittedAs, FailsAt};
 
 use crate::prepared::Prepared;
 use dm_edit::Changed;

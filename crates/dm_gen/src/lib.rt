@@ -15,6 +15,9 @@ use dm_token::{List, Memory, Text};
 use lines::unit_text;
 use std::alloc::Global;
 
+/// The greatest number of macros.
+pub const GREATEST_COUNT: u32 = 1000;
+
 /// A folder in memory with the one file `g.c`, which has `n` macros. None of its calls fails.
 ///
 /// Macro number i, counted from 0, is by the remainder of i modulo 4 a decimal constant, a function of its argument, a

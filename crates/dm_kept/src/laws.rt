@@ -18,7 +18,7 @@ use dm_local::{readings_learn_nothing, readings_stay_where_not_edited};
 pub fn first_readings_are_current()
     ensures { (files : Files) (units : List Source) (old new : Loaded) (readings : List Reading) (begun : ℕ) →
         IsOfLoader old → ReadsProject files units old (ending (Ok readings) begun new) →
-        IsOfLoader new × AreCurrent new files units readings }
+        IsOfLoader new × AreCurrent new files units readings × Follows files old new }
 {}
 
 /// So it has once new bytes are held for a file, and the units that read it have been read again: the others keep their readings.
@@ -37,7 +37,7 @@ pub fn readings_stay_where_bytes_are_put_back()
     ensures { (files : Files) (file : ℕ) (bytes : List ℕ) (units : List Source) (kept : List Reading) (known new : Loaded) →
         IsOfLoader known → is_held known file ≡ true → AreCurrent known files units kept →
         Follows files (with_bytes known file bytes) new → IsOfLoader new →
-        IsOfLoader (put_back known file new) × AreCurrent (put_back known file new) files units kept }
+        IsOfLoader (put_back known file new) × AreCurrent (put_back known file new) files units kept × Follows files known (put_back known file new) }
 {}
 
 /// So the reading of all units once more gives the same readings, and the loader knows the same files.

@@ -3,4 +3,5 @@ pub mod Each
 pub mod Keys
 pub mod Lawful
 pub mod Lines
+pub mod Short
 pub mod Steps

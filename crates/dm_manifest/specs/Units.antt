@@ -68,6 +68,10 @@ manifest_of root =
     and_then (object_at root_path (λ key. key) (codes "units" ∷ []) root) (λ _.
     and_then (array_at (codes "units") (get (codes "units") root)) units_of)
 
+-- the unit of a C file alone
+abbrev pub alone : List ℕ → Source
+alone file = record { file = file; include = []; define = [] }
+
 -- whether a text is a define of a name that can be defined
 abbrev pub is_definable : List ℕ → Bool
 is_definable define = is_define define && not (is_fixed (name_of define))

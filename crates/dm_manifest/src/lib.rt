@@ -1,5 +1,6 @@
 //! The manifest of a project: JSON that lists translation units, each a main file with its include folders and its
 //! defines.
+//! A C file alone is a unit too.
 #![tactic(auto)]
 
 ghost use Rattle.std.specs.Prelude.{◌≡◌, ◌≤◌, ◌↔◌, ℕ, List, true, length, All, IfOk, IfErr};
@@ -9,12 +10,14 @@ ghost use Rattle.dm_manifest.specs.Answers.{IsJson, IsManifest, IsFirstFault};
 ghost use Rattle.dm_manifest.specs.Defines.{line_may_stand, HasGoodCut};
 ghost use Rattle.dm_manifest.specs.Units.{IsLawful};
 
+mod alone;
 mod define;
 mod fault;
 mod path;
 mod unit;
 mod value;
 
+pub use alone::unit_alone;
 use dm_token::{List, Unit};
 pub use fault::ManifestFault;
 use serde_json::Value;

@@ -12,6 +12,7 @@ use Rattle.dm_io.specs.Files.{Files}
 use Rattle.dm_search.specs.Loaded.{Loaded, with_bytes}
 use Rattle.dm_search.specs.Loading.{StopsReplacing}
 use Rattle.dm_search.specs.Readable.{IsReadable}
+use Rattle.dm_unit.specs.Views.{StaysServed}
 use Rattle.dm_reading.specs.declared.reading.Reading.{Reading}
 use Rattle.dm_edit.specs.declared.change.Change.{Change}
 use Rattle.dm_edit.specs.declared.plan.Entry.{Entry}
@@ -20,7 +21,7 @@ use Rattle.dm_edit.specs.declared.plan.Fate.TheVariants.{Rewritten, Kept}
 use Rattle.dm_edit.specs.Cuts.{LiesIn}
 use Rattle.dm_edit.specs.Edits.{IsEdited}
 use Rattle.dm_project.specs.Again.{IsReadAgain, put_in, reader_count}
-use Rattle.dm_project.specs.Leaves.{StaysKnown}
+use Rattle.dm_project.specs.Leaves.{IsNumbered, StaysKnown}
 use Rattle.dm_judge.specs.declared.proposal.Proposal.{Proposal}
 use Rattle.dm_judge.specs.declared.proposal.Proposal.TheVariants as proposal
 use Rattle.dm_judge.specs.Proposals.{proposed}
@@ -60,10 +61,12 @@ IsOfSource (Refused refusal) = Unit {0}
 IsOfSource (Limit limit) = Unit {0}
 IsOfSource (ReadFault file) = ⊥
 
--- This comes of reading again each unit that reads a file: its new reading, or the first stop. What the loader holds stays.
+-- This comes of reading again each unit that reads a file: its new reading, or the first stop. What the loader holds stays, and so does
+-- the file that each name has.
 abbrev pub Rereads : Option Files → ℕ → List Source → List Reading → Loaded → Result (List (Option Reading)) Stop → Loaded → Type 0
 Rereads told file units kept old result new =
     StaysKnown old new × ((files : Files) → told ≡ Some files → IsReadAgain files file units kept old result new)
+    × StaysServed told old new × IsNumbered new
 
 -- after so many readings more
 abbrev pub read_again : Change → Project → ℕ

@@ -12,6 +12,7 @@ use Rattle.dm_search.specs.Loaded.{Loaded}
 use Rattle.dm_edit.specs.declared.plan.Changed.{Changed}
 use Rattle.dm_edit.specs.declared.plan.Plan.{Plan}
 use Rattle.dm_project.specs.Definitions.{definitions_in}
+use Rattle.dm_project.specs.Leaves.{IsNumbered}
 use Rattle.dm_project.specs.Units.{KeepsLimits, ReadsProject, ending}
 use Rattle.dm_subjects.specs.Files.{changed_file, edited_files}
 use Rattle.dm_subjects.specs.Subjects.{subject_of}
@@ -27,10 +28,11 @@ subjects_of first = map (subject_of first.loaded) (definitions_in first.readings
 -- ---- the plan
 
 -- Each definition is judged, in the order of first reading the last one first. The files with a rewritten one are written, in the byte
--- order of their names.
+-- order of their names, of which no two are the same.
 pub record IsPlan (told : Option Files) (units : List Source) (first last : Project) (plan : Plan) : Type 0 where
   pub judged : JudgesAll told units first (subjects_of first) plan.entries last
   pub names : plan.names ≡ last.loaded.names
+  pub numbered : IsNumbered last.loaded
   pub changed : IsPermutation (map (changed_file last.loaded) (edited_files last.loaded plan.entries)) plan.files
   pub ascending : IsSortedByKey (λ (one : Changed). one.name) (slice_cmp nat_cmp) plan.files
 

@@ -6,6 +6,7 @@ ghost use Rattle.dm_io.specs.Files.{Files};
 ghost use Rattle.dm_unit.specs.Loaders.{most_names};
 ghost use Rattle.dm_unit.specs.Views.{stop_of};
 ghost use Rattle.dm_judge.specs.Units.{AreTyped};
+ghost use Rattle.dm_rules.specs.Indexes.{readings_of};
 ghost use Rattle.dm_project.specs.Units.{HasShortDefines};
 ghost use Rattle.dm_planning.specs.Judging.{JudgesAll, Project, definition_over, entry_with};
 ghost use Rattle.dm_planning.specs.Steps.{AreGood, HasJudged, IsNext, LeavesProject, is_of_source, project_of};
@@ -17,15 +18,16 @@ use dm_io::Folder;
 use dm_judge::{Proposal, Units, indexes_of, propose_in};
 use dm_read::Steps;
 use dm_reading::{Reading, copy_of_definition};
+use dm_rules::Index;
 use dm_search::Loader;
-use dm_subjects::{Subject, definition_at};
+use dm_subjects::{Lines, Subject, definition_by};
 use dm_token::{Definition, List, Memory, Place, Stop, Unit};
 use std::alloc::Global;
 use std::sync::ledger::Ledger;
 
 /// What becomes of each definition, in their order. The last is judged first, and each in the project as edited so far.
 ///
-/// What is looked up of the readings is made anew behind each edit, also of units that no edit changed.
+/// What is looked up of the readings is made anew behind each edit, also of units that no edit changed. A definition is found by its line.
 pub(crate) fn judge_all<F: Folder, L: Ledger>(
     alloc: Global,
     folder: &mut F,
@@ -79,10 +81,14 @@ fn next_change(
     ensures more { OnOk result (length entries.old ≤ length entries.new) }
 {
     let indexes = indexes_of(alloc, kept)?;
-    let project = Units::of(alloc, indexes.as_slice())?;
+    let by_unit = indexes.as_slice();
+    let project = Units::of(alloc, by_unit)?;
+    let mut lines = Lines::of(alloc, loader, 0)?;
     for judged in entries.len()..subjects.len() {
         let subject = &subjects[subjects.len() - 1 - judged];
-        let definition = definition_in(loader, kept, subject);
+        let here = lines.at(alloc, subject.key.file)?;
+        let definition = definition_in(&here, by_unit, subject);
+        lines = here;
         match propose_in(alloc, &project, definition)? {
             Proposal::Broken { rule, place } => {
                 entries.push(kept_entry(alloc, definition, rule, place)?)?;
@@ -93,11 +99,12 @@ fn next_change(
     Ok(None)
 }
 
-/// The definition as the first unit that reads it has it, or as it was where none does.
-fn definition_in<'a>(loader: &Loader, kept: &'a [Reading], subject: &'a Subject) -> &'a Definition
-    ensures { result.now ≡ definition_over loader.now kept.now subject.now }
+/// The definition as the first unit that reads it has it, or as it was where none does, by the lines of its file.
+fn definition_in<'a>(lines: &Lines, units: &'a [Index], subject: &'a Subject) -> &'a Definition
+    requires { lines.now.file ≡ subject.now.key.file }
+    ensures { result.now ≡ definition_over lines.now.loader.now (readings_of units.now) subject.now }
 {
-    match definition_at(loader, kept, subject.key) {
+    match definition_by(lines, units, subject.key) {
         Some(definition) => definition,
         None => &subject.definition,
     }

@@ -1,6 +1,6 @@
 //! The plan of a project.
 
-ghost use Rattle.std.specs.Prelude.{◌≡◌, ◌≢◌, ◌<◌, ◌≤◌, ◌++◌, ℕ, List as Sequence, false, All, IfOk, length, map, bytes_eq, IsPermutation, IsSortedByKey};
+ghost use Rattle.std.specs.Prelude.{◌≡◌, ◌≢◌, ◌<◌, ◌≤◌, ◌++◌, ℕ, List as Sequence, false, All, IfOk, OnOk, length, map, bytes_eq, IsPermutation, IsSortedByKey};
 ghost use Rattle.std.specs.List.{IsDistinct};
 ghost use Rattle.std.specs.Cmp.Lexicographic.{slice_cmp};
 ghost use Rattle.std.specs.Ordering.{nat_cmp};
@@ -10,7 +10,7 @@ ghost use Rattle.dm_io.specs.Files.{HasFile};
 ghost use Rattle.dm_search.specs.Loaded.{is_held};
 ghost use Rattle.dm_unit.specs.Loaders.{most_names};
 ghost use Rattle.dm_edit.specs.declared.plan.Changed.{Changed};
-ghost use Rattle.dm_project.specs.Leaves.{AreThere};
+ghost use Rattle.dm_project.specs.Leaves.{AreThere, IsNumbered};
 ghost use Rattle.dm_project.specs.Units.{HasShortDefines};
 ghost use Rattle.dm_subjects.specs.Files.{changed_file, edited_files};
 ghost use Rattle.dm_planning.specs.Plans.{IsPlanned};
@@ -82,6 +82,7 @@ fn plan_of(alloc: Global, loader: &Loader, entries: List<Entry>) -> Result<Plan,
     requires room { length loader.now.names < most_names }
     ensures entries { IfOk result (λ plan. plan.entries ≡ entries) }
     ensures names { IfOk result (λ plan. plan.names ≡ loader.now.names) }
+    ensures numbered { OnOk result (IsNumbered loader.now) }
     ensures files { IfOk result (λ plan. IsPermutation (map (changed_file loader.now) (edited_files loader.now entries)) plan.files) }
     ensures ascending { IfOk result (λ plan. IsSortedByKey (λ (one : Changed). one.name) (slice_cmp nat_cmp) plan.files) }
     ensures distinct { IfOk result (λ plan. IsDistinct bytes_eq (map (λ (one : Changed). one.name) plan.files)) }

@@ -10,11 +10,11 @@ ghost use Rattle.dm_unit.specs.Views.{StaysServed, stop_of};
 ghost use Rattle.dm_reading.specs.Layered.{IsLayered};
 ghost use Rattle.dm_reading.specs.declared.reading.Reading.{Reading as One};
 ghost use Rattle.dm_project.specs.Again.{AreReaders, IsReadAgain, MayRead, NextAgain, ReadsAgain, ReadsOthers, put_in, reader_count, reads as reads_file};
-ghost use Rattle.dm_project.specs.Leaves.{AreThere, LeavesKnown, StaysKnown, memory_of};
+ghost use Rattle.dm_project.specs.Leaves.{AreThere, IsNumbered, LeavesKnown, StaysKnown, memory_of};
 ghost use Rattle.dm_project.specs.Units.{HasShortDefines, KeepsLimits, IsTyped, most_project_tokens, token_count};
 
 use crate::distinct::{definitions_with, newest};
-use crate::units::{MOST_PROJECT_TOKENS, NO_FILE, number_in, passed, read_next};
+use crate::units::{MOST_PROJECT_TOKENS, NO_FILE, number_in, number_names, passed, read_next};
 use dm_io::Folder;
 use dm_read::Steps;
 use dm_reading::Reading;
@@ -56,6 +56,7 @@ pub fn read_again<F: Folder, L: Ledger>(
     // What the loader knows stays known, and there is room for a unit more.
     ensures loader { result ≢ Err memory_wanted → StaysKnown loader.old loader.new }
     ensures roomy { result ≢ Err memory_wanted → length loader.new.names < most_names }
+    ensures numbered { IsNumbered loader.new }
     // The files of the call stay: those that the loader holds are those of the folder.
     ensures served { StaysServed (F.files folder.old) loader.old loader.new }
     ensures there { AreThere (F.files folder.old) loader.old → AreThere (F.files folder.old) loader.new }
@@ -68,7 +69,9 @@ pub fn read_again<F: Folder, L: Ledger>(
     ensures rooms_stay { (other : Sequence ℕ) → F.room folder.new other ≡ F.room folder.old other }
     ensures later { F.faults folder.old ≤ F.faults folder.new }
 {
-    let news = read_readers(alloc, folder, loader, file, units, kept, readings)?;
+    let result = read_readers(alloc, folder, loader, file, units, kept, readings);
+    number_names(loader);
+    let news = result?;
     if definitions_with(alloc, kept, news.items())?.len() > MOST_DEFINITIONS {
         return Err(passed(limit_numbers::DEFINITIONS, NO_FILE));
     }

@@ -143,7 +143,7 @@ pub(crate) fn read_next<F: Folder, L: Ledger>(
 }
 
 /// What holds of the numbers of each loader's names.
-fn number_names(loader: &Loader)
+pub(crate) fn number_names(loader: &Loader)
     ensures { IsNumbered loader.now }
 {
     loader.names_differ();

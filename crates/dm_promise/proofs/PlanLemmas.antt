@@ -27,11 +27,11 @@ use Rattle.dm_promise.proofs.LayerLemmas.{AllLayered, AllNewLayered, again_layer
 
 -- ---- readings of units, one by one
 
-all_themselves : (readings : List Reading) → AllRefine readings readings
+pub all_themselves : (readings : List Reading) → AllRefine readings readings
 all_themselves [] = tt
 all_themselves (reading ∷ readings) = (refines_itself (machine_in reading), all_themselves readings)
 
-all_through : (news middles olds : List Reading) → AllRefine news middles → AllRefine middles olds → AllRefine news olds
+pub all_through : (news middles olds : List Reading) → AllRefine news middles → AllRefine middles olds → AllRefine news olds
 all_through [] [] [] h k = tt
 all_through [] [] (old ∷ olds) h k = absurd k
 all_through [] (middle ∷ middles) olds h k = absurd h
@@ -41,7 +41,7 @@ all_through (new ∷ news) (middle ∷ middles) (old ∷ olds) h k =
     (refines_through (machine_in new) (machine_in middle) (machine_in old) h.0 k.0, all_through news middles olds h.1 k.1)
 
 -- what is done to the readings of a project
-abbrev Leads : List Reading → List Reading → Type 0
+abbrev pub Leads : List Reading → List Reading → Type 0
 Leads news olds = AllRefine news olds × AllLayered news
 
 fate_of : (kind : As) (entry : Entry) (definition : Definition) → entry ≡ entry_with definition (Rewritten kind) → IsNoCallFate entry.outcome → IsNoCall kind

@@ -1,2 +1,3 @@
+mod ParameterLemmas
 mod RuleLemmas
 mod RunLemmas

@@ -1,8 +1,5 @@
 -- From what the steps of a run do to how it ends.
 use Rattle.std.proofs.Common.{◌≡◌, ◌≢◌, ◌∙◌, ℕ, zero, suc, ◌≤◌, true, List, [], ◌∷◌, length, Option, Some, None, Result, Ok, Err, IfOk, OnOk, OnErr, All, refl, sym, subst, arith}
-use Rattle.std.proofs.lemmas.Bool.{and_parts, leb-true}
-use Rattle.std.specs.List.{list_all}
-use Rattle.dm_token.specs.Limits.{source_length_limit}
 use Rattle.dm_token.specs.declared.stop.Memory.{Memory}
 use Rattle.dm_token.specs.declared.stop.Stop.{Stop}
 use Rattle.dm_token.specs.declared.stop.Stop.TheVariants as stop
@@ -10,8 +7,6 @@ use Rattle.dm_token.specs.declared.unit.Unit.{Unit as Source}
 use Rattle.dm_io.specs.Files.{Files}
 use Rattle.dm_io.specs.Faults.{Rose}
 use Rattle.dm_search.specs.Loaded.{Loaded}
-use Rattle.dm_manifest.specs.Defines.{is_define}
-use Rattle.dm_manifest.specs.Units.{IsLawful, is_definable}
 use Rattle.dm_lines.specs.Outside.{Outside, KeepsFiles, Puts}
 use Rattle.dm_lines.specs.Puts.{PutsText}
 use Rattle.dm_lines.specs.Stops.{line_of_stop, status_of_stop}
@@ -27,16 +22,6 @@ use Rattle.dm_running.specs.Endings.{RunEnding, finished, stopped, input_missing
 -- faults that rose since a later moment rose since an earlier one
 pub Rose-earlier : (before middle after : ℕ) → before ≤ middle → Rose middle after → Rose before after
 Rose-earlier before middle after order rose = omega arith
-
--- the defines of a lawful unit are no longer than a file
-short_defines : (defines : List (List ℕ)) → list_all is_definable defines ≡ true → All (λ (define : List ℕ). length define ≤ source_length_limit) defines
-unfolding is_define
-short_defines [] lawful k d below = absurd (omega arith)
-short_defines (define ∷ defines) lawful zero d below = leb-true _ _ (and_parts _ _ (and_parts _ _ (and_parts _ _ (and_parts _ _ lawful).0).0).0).0
-short_defines (define ∷ defines) lawful (suc k) d below = short_defines defines (and_parts _ _ lawful).1 k d (omega arith)
-
-pub lawful-short : (unit : Source) → IsLawful unit → All (λ (define : List ℕ). length define ≤ source_length_limit) unit.define
-lawful-short unit lawful = short_defines unit.define lawful.define
 
 -- a unit that was read
 pub ends_finished : (request : RunRequest) (unit : Source) (input : List ℕ) (before after : Outside) (reading : Reading) (files : Loaded) (names : List (List ℕ)) (result : Result ℕ Memory) → names ≡ files.names

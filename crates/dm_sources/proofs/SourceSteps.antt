@@ -1,13 +1,13 @@
 -- Steps of finding a project's units, and the unit of a main file.
 use Rattle.std.proofs.Common.{◌≡◌, ◌∙◌, ℕ, zero, suc, Bool, true, false, List, [], ◌∷◌, length, Option, Some, None, Result, Ok, Err, IfOk, All, inl, inr, refl, sym, ap, subst, arith, if◌then◌else◌, nat_lt}
-use Rattle.std.specs.List.{list_all}
 use Rattle.dm_token.specs.declared.unit.Unit.{Unit as Source}
 use Rattle.dm_token.specs.declared.stop.Memory.{Memory as NoMemory}
 use Rattle.dm_token.specs.Names.{is_normal_name}
 use Rattle.dm_io.specs.declared.folder.Got.TheVariants.{Bytes, Long}
 use Rattle.dm_io.specs.Files.{Files, file_at}
 use Rattle.dm_io.specs.Answers.{IsAnswer, reading_of}
-use Rattle.dm_manifest.specs.Units.{IsLawful, is_folder, is_definable, are_distinct}
+use Rattle.dm_manifest.proofs.Short.{alone-lawful}
+use Rattle.dm_manifest.specs.Units.{IsLawful, alone}
 use Rattle.dm_lines.specs.Outside.{HasText}
 use Rattle.dm_sources.specs.declared.project.Sources.{Sources}
 use Rattle.dm_sources.specs.declared.project.Sources.TheVariants as sources
@@ -15,20 +15,11 @@ use Rattle.dm_sources.specs.declared.project.NoSources.TheVariants.{ProjectName,
 use Rattle.dm_sources.specs.declared.finding.Sought.{Sought}
 use Rattle.dm_sources.specs.declared.finding.Sought.TheVariants.{Found, Missing}
 use Rattle.dm_sources.specs.declared.finding.NoUnit.TheVariants.{Unfound, Unlisted}
-use Rattle.dm_sources.specs.Sources.{AreSought, HasManifest, IsProject, IsSought, ListGives, ManifestGives, NamesFile, alone}
+use Rattle.dm_sources.specs.Sources.{AreSought, HasManifest, IsProject, IsSought, ListGives, ManifestGives, NamesFile}
 
 -- a C file alone is a lawful unit
-alone-lawful : (unit : Source) (project : List ℕ) → is_normal_name project ≡ true → unit ≡ alone project → IsLawful unit
-unfolding are_distinct
-alone-lawful unit project normal is = record {
-  file = ap (λ (u : Source). is_normal_name u.file) is ∙ normal;
-  include = ap (λ (u : Source). list_all is_folder u.include) is;
-  define = ap (λ (u : Source). list_all is_definable u.define) is;
-  distinct = ap (λ (u : Source). are_distinct u.define) is;
-}
-
 pub alone-lawful-all : (project : List ℕ) → is_normal_name project ≡ true → All IsLawful (alone project ∷ [])
-alone-lawful-all project normal zero d below = alone-lawful (alone project) project normal refl
+alone-lawful-all project normal zero d below = alone-lawful project (alone project) refl normal
 alone-lawful-all project normal (suc k) d below = absurd (omega arith)
 
 -- what a reading gives is the text of the file

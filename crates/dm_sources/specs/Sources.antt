@@ -10,7 +10,7 @@ use Rattle.dm_token.specs.Limits.{source_length_limit}
 use Rattle.dm_manifest.specs.declared.fault.ManifestFault.{ManifestFault}
 use Rattle.dm_manifest.specs.declared.fault.ManifestFault.TheVariants.{Memory, Json, Shape, Name, Define, Twice, TooMany}
 use Rattle.dm_manifest.specs.Answers.{IsManifest, IsFirstFault}
-use Rattle.dm_manifest.specs.Units.{IsLawful}
+use Rattle.dm_manifest.specs.Units.{IsLawful, alone}
 use Rattle.dm_io.specs.Files.{Files}
 use Rattle.dm_io.specs.Faults.{Rose}
 use Rattle.dm_lines.specs.Outside.{HasText, IsAbsent, IsTooLong}
@@ -22,10 +22,6 @@ use Rattle.dm_sources.specs.declared.finding.Sought.{Sought}
 use Rattle.dm_sources.specs.declared.finding.Sought.TheVariants.{Found, Missing}
 use Rattle.dm_sources.specs.declared.finding.NoUnit.{NoUnit}
 use Rattle.dm_sources.specs.declared.finding.NoUnit.TheVariants.{Unfound, Unlisted}
-
--- the unit of a C file alone
-abbrev pub alone : List ℕ → Source
-alone file = record { file = file; include = []; define = [] }
 
 -- a name that ends in `.c`
 abbrev pub is_c_file : List ℕ → Bool

@@ -1,10 +1,11 @@
 ghost use Rattle.std.specs.Prelude.{◌≡◌, ◌≤◌, [], ◌∷◌, true, length, IfOk};
 ghost use Rattle.dm_token.specs.Names.{is_normal_name as names_normally};
 ghost use Rattle.dm_token.specs.Limits.{source_length_limit as length_limit};
-ghost use Rattle.dm_sources.specs.Sources.{AreLawful, AreShort, AreSought, ManifestGives, alone};
+ghost use Rattle.dm_manifest.specs.Units.{alone};
+ghost use Rattle.dm_sources.specs.Sources.{AreLawful, AreShort, AreSought, ManifestGives};
 
 use dm_io::{Folder, Got};
-use dm_manifest::{ManifestFault, manifest};
+use dm_manifest::{ManifestFault, manifest, unit_alone};
 use dm_token::{List, Memory, Text, Unit, is_normal_name, source_length_limit};
 use std::alloc::Global;
 
@@ -63,11 +64,7 @@ fn file_alone(alloc: Global, project: &Text) -> Result<Sources, Memory>
     ensures lawful { IfOk result AreLawful }
 {
     let mut units = List::new(alloc);
-    units.push(Unit {
-        file: project.copy()?,
-        include: List::new(alloc),
-        define: List::new(alloc),
-    })?;
+    units.push(unit_alone(alloc, project)?)?;
     Ok(Sources::Found(units))
 }
 

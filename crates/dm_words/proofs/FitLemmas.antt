@@ -7,7 +7,8 @@ use Rattle.dm_words.specs.declared.command.Command.TheVariants.{Plan, Apply, Exp
 use Rattle.dm_words.specs.declared.testing.Operands.{Operands}
 use Rattle.dm_words.specs.declared.testing.Operands.TheVariants.{Neither, One, Both}
 use Rattle.dm_words.specs.declared.testing.Found.{Found}
-use Rattle.dm_words.specs.Requests.{Given, only, IsNumber, IsNumberGiven, Means, Request, plan, apply, expand, run, gen, most_generated}
+use Rattle.dm_gen.specs.Generated.{greatest_count}
+use Rattle.dm_words.specs.Requests.{Given, only, IsNumber, IsNumberGiven, Means, Request, plan, apply, expand, run, gen}
 use Rattle.dm_words.specs.Readings.{followed, held, texts_of, value_of, number_in, Finds, fits, kind_of, no_values, is_lone, is_pair, is_count, is_few, may_be_number}
 use Rattle.dm_words.proofs.NumberLemmas.{read-is_number, is_number-read}
 
@@ -30,9 +31,9 @@ number_of default (Some text) may = at (number_in text.now) refl may
     at None is none = absurd (false≢true none)
     at (Some number) is some = (number, read-is_number text.now number is)
 
-few_of : (text : List ℕ) (found : Option ℕ) → number_in text ≡ found → is_few found ≡ true → (count : ℕ) × IsNumber text count × (count ≤ most_generated)
+few_of : (text : List ℕ) (found : Option ℕ) → number_in text ≡ found → is_few found ≡ true → (count : ℕ) × IsNumber text count × (count ≤ greatest_count)
 few_of text None is none = absurd (false≢true none)
-few_of text (Some count) is few = (count, read-is_number text count is, leb-true count most_generated few)
+few_of text (Some count) is few = (count, read-is_number text count is, leb-true count greatest_count few)
 
 inputs_of : (value : Text) → value_of value ++ [] ≡ option_to_list (option_map (λ (text : Bor (List ℕ)). text.now) value)
 inputs_of None = refl
@@ -133,12 +134,12 @@ number_there : (default : ℕ) (value : Text) (number : ℕ) → IsNumberGiven d
 number_there default None number is = refl
 number_there default (Some text) number is = ap is_some (is_number-read text.now number is)
 
-count_there : (texts : Operands) (text : List ℕ) (count : ℕ) → texts_of texts ++ [] ≡ text ∷ [] → IsNumber text count → count ≤ most_generated → is_count texts ≡ true
+count_there : (texts : Operands) (text : List ℕ) (count : ℕ) → texts_of texts ++ [] ≡ text ∷ [] → IsNumber text count → count ≤ greatest_count → is_count texts ≡ true
 count_there Neither text count is number few = absurd cc
 count_there (Both first second) text count is number few = absurd cc
 count_there (One first) text count is number few =
     let same : first.now ≡ text = cc in
-    ap is_few (ap number_in same ∙ is_number-read text count number) ∙ le-leb count most_generated few
+    ap is_few (ap number_in same ∙ is_number-read text count number) ∙ le-leb count greatest_count few
 
 nothing_there : (found : Found) → value_of found.order ++ [] ≡ [] → value_of found.steps ++ [] ≡ [] → value_of found.input ++ [] ≡ [] → no_values found ≡ true
 nothing_there found number count name =

@@ -11,7 +11,8 @@ use Rattle.dm_words.specs.declared.part.Name.{Name}
 use Rattle.dm_words.specs.declared.part.Name.TheVariants as name
 use Rattle.dm_words.specs.declared.part.Part as read
 use Rattle.dm_words.specs.declared.part.Part.TheVariants as one
-use Rattle.dm_words.specs.Requests.{Part, operand, json, order, steps, input, Given, Are, given_by, Means, Request, plan, apply, expand, run, gen, AsksFor, is_plain_word, equals_sign, most_digits, most_generated}
+use Rattle.dm_gen.specs.Generated.{greatest_count}
+use Rattle.dm_words.specs.Requests.{Part, operand, json, order, steps, input, Given, Are, given_by, Means, Request, plan, apply, expand, run, gen, AsksFor, is_plain_word, equals_sign, most_digits}
 
 -- the greatest number of 64 bits
 abbrev pub greatest_number : ℕ
@@ -171,7 +172,7 @@ may_be_number (Some text) = is_some (number_in text.now)
 
 abbrev pub is_few : Option ℕ → Bool
 is_few None = false
-is_few (Some count) = nat_le count most_generated
+is_few (Some count) = nat_le count greatest_count
 
 abbrev pub is_count : Operands → Bool
 is_count (One text) = is_few (number_in text.now)

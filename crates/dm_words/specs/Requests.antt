@@ -10,6 +10,7 @@ use Rattle.std.specs.Prelude.{◌≡◌, ◌⊎◌, ◌≤◌, ◌<◌, ◌^◌,
 use Rattle.std.specs.List.{list_all}
 use Rattle.dm_token.specs.Limits.{usual_steps}
 use Rattle.dm_token.specs.Bytes.{is_digit}
+use Rattle.dm_gen.specs.Generated.{greatest_count}
 use Rattle.dm_words.specs.declared.asked.Request as code
 use Rattle.dm_words.specs.declared.asked.Request.TheVariants as asked
 use Rattle.dm_words.specs.declared.asked.RunWords.{RunWords}
@@ -123,16 +124,12 @@ pub record MeansRun (given : Given) (request : RunRequest) : Type 0 where
 abbrev pub MeansReport : Given → List ℕ → Bool → Type 0
 MeansReport given project as_json = given ≡ record (only (project ∷ [])) { jsons = if as_json then 1 else 0 }
 
--- how many definitions may be generated
-abbrev pub most_generated : ℕ
-most_generated = 1000
-
--- one operand, which writes a number
+-- one operand, which writes a number of definitions that may be generated
 pub record MeansGenerated (given : Given) (count : ℕ) : Type 0 where
   pub operand : List ℕ
   pub operands : given ≡ only (operand ∷ [])
   pub number : IsNumber operand count
-  pub few : count ≤ most_generated
+  pub few : count ≤ greatest_count
 
 -- the operands and options of each request
 abbrev pub Means : Given → Request → Type 0

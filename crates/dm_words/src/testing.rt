@@ -6,9 +6,7 @@ ghost use Rattle.dm_words.specs.Readings.{Selects, Tests, TakesOn, fits as fits_
 use crate::command::{Command, command_named};
 use crate::number::number;
 use crate::part::{Part, next_part};
-
-/// How many definitions may be generated.
-const MOST_GENERATED: u64 = 1000;
+use dm_gen::GREATEST_COUNT;
 
 /// The operands that were found.
 #[derive(Clone, Copy)]
@@ -168,7 +166,7 @@ fn is_count(operands: Operands<'_>) -> bool
 {
     match operands {
         Operands::One(text) => match number(text) {
-            Some(count) => count <= MOST_GENERATED,
+            Some(count) => count <= u64::from(GREATEST_COUNT),
             None => false,
         },
         Operands::Neither | Operands::Both(_, _) => false,

@@ -7,7 +7,7 @@ use Rattle.dm_apply.proofs.apply.apply_command.Goals as goal
 
 pub returns-in-Ok-clause-ending : goal.returns-in-Ok-clause-ending
 returns-in-Ok-clause-ending g c =
-    ends_committed c.args.json c.args.project.now c.args.units.now (outside g.F.Folder g.S.Sink c.args.folder.now c.args.out.now) c.plan_once.new.loader
+    ends_committed c.args.json c.args.project.now c.args.units.now (outside g.F.Folder g.S.Sink c.args.folder.now c.args.out.now) c.plan_once.new.loader c.applied_programs_refine.ensures
     (outside g.F.Folder g.S.Sink c.plan_once.new.folder c.args.out.now) (outside g.F.Folder g.S.Sink c.apply_plan.new.folder c.apply_plan.new.out) c.in-Ok.plan c.apply_plan.result
     c.in-Ok.ensures.plan c.in-Ok.ensures.files_stay c.in-Ok.ensures.later refl refl c.apply_plan.ensures.committed c.apply_plan.ensures.files_stay c.apply_plan.ensures.written_stays
 

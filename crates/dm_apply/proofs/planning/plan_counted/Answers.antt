@@ -8,7 +8,7 @@ use Rattle.dm_token.specs.declared.stop.Stop.TheVariants.{ReadFault}
 use Rattle.dm_io.specs.Faults.{Rose}
 use Rattle.dm_search.specs.Fresh.{fresh}
 use Rattle.dm_apply.specs.Plans.{HasCause}
-use Rattle.dm_apply.proofs.EndingLemmas.{lawful-short}
+use Rattle.dm_apply.proofs.EndingLemmas.{all-short}
 use Rattle.dm_apply.proofs.planning.plan_counted.Goals as goal
 
 -- what is said of a fault where there is one
@@ -18,7 +18,7 @@ caused (Ok plan) before after old is rose unheld = tt
 caused (Err stop) before after old is rose unheld = λ file fault. (rose file (ap Err fault), subst (λ (loaded : Loaded). is_held loaded file ≡ false) is (unheld file (ap Err fault)))
 
 pub plan-requires-clause-short : goal.plan-requires-clause-short
-plan-requires-clause-short g c = lawful-short c.args.units.now c.requires.lawful
+plan-requires-clause-short g c = all-short c.args.units.now c.requires.lawful
 
 pub returns-clause-cause : goal.returns-clause-cause
 returns-clause-cause g c =

@@ -1,7 +1,7 @@
 -- The size is that of the file when the files so far are written.
 use Rattle.std.proofs.Common.{◌≡◌, Some, length, take}
 use Rattle.dm_io.specs.Files.{Files}
-use Rattle.dm_apply.specs.Commits.{with_files}
+use Rattle.dm_last.specs.Last.{with_files}
 use Rattle.dm_apply.specs.Summaries.{bytes_at}
 use Rattle.dm_apply.proofs.summary.size_behind.Given as goal
 

@@ -1,6 +1,6 @@
 -- The files so far are written.
 use Rattle.std.proofs.Common.{◌≡◌, ℕ, ◌≤◌, List, take}
-use Rattle.dm_apply.specs.Commits.{with_files}
+use Rattle.dm_last.specs.Last.{with_files}
 use Rattle.dm_apply.proofs.writing.write_files.Given as goal
 
 abbrev pub invariant-loop-at : goal.invariant-loop-at

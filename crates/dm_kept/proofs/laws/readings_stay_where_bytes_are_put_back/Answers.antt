@@ -7,4 +7,5 @@ pub returns : goal.returns
 returns c files file bytes units kept known new of held are follows after = (
   edited-loader files new file (old_bytes files known file bytes held of new follows after) (held-behind files known file bytes held of new follows after) after,
   current-follow files units kept known (restored files known file bytes held of new follows after) are of (follows-back files known file bytes held of new follows after),
+  follows-back files known file bytes held of new follows after,
 )

@@ -19,13 +19,19 @@ returns-in-Change-clause-next c =
     let inside = c.loop-judged-test.true in
     let less : length entries < length subjects = omega (arith, counted, inside) in
     let project = c.in_ok-project.project in
+    let seen : indexes.readings_of c.as_slice-by_unit.result.now ≡ c.args.kept.now =
+    ap indexes.readings_of c.as_slice-by_unit.ensures.value ∙ c.in_ok-indexes.ensures in
+    let over : c.definition_in-definition.result.now ≡ definition_over c.args.loader.now c.args.kept.now subject =
+    c.definition_in-definition.ensures
+    ∙ ap (λ loaded. definition_over loaded (indexes.readings_of c.as_slice-by_unit.result.now) subject) (c.in_ok-here.ensures.loader ∙ c.loop-judged.invariant.loader)
+    ∙ ap (λ readings. definition_over c.args.loader.now readings subject) seen in
     let whole : readings_of project ≡ c.args.kept.now =
-    ap indexes.readings_of (c.in_ok-project.ensures.indexes ∙ c.as_slice.ensures.value) ∙ c.in_ok-indexes.ensures in (
+    ap indexes.readings_of (c.in_ok-project.ensures.indexes ∙ c.as_slice-by_unit.ensures.value) ∙ c.in_ok-indexes.ensures in (
       less,
       subject,
       last-left subjects entries (length subjects - 1 - c.loop-judged.judged) subject less (ap (λ n. length subjects - 1 - n) (sym counted)) c.index-subjects-subjects.is,
       sym (ap (λ readings. proposed readings (definition_over c.args.loader.now c.args.kept.now subject)) whole)
-          ∙ ap (proposed (readings_of project)) (sym c.definition_in-definition.ensures) ∙ c.in_ok-rule.ensures ∙ ap Some c.in-Change.is,
+          ∙ ap (proposed (readings_of project)) (sym over) ∙ c.in_ok-rule.ensures ∙ ap Some c.in-Change.is,
     )
 
 pub loop-judged-preserved : goal.loop-judged-preserved
@@ -37,20 +43,27 @@ loop-judged-preserved c =
     let inside = c.loop-judged-test.true in
     let less : length entries < length subjects = omega (arith, counted, inside) in
     let project = c.in_ok-project.project in
+    let seen : indexes.readings_of c.as_slice-by_unit.result.now ≡ c.args.kept.now =
+    ap indexes.readings_of c.as_slice-by_unit.ensures.value ∙ c.in_ok-indexes.ensures in
+    let over : c.definition_in-definition.result.now ≡ definition_over c.args.loader.now c.args.kept.now subject =
+    c.definition_in-definition.ensures
+    ∙ ap (λ loaded. definition_over loaded (indexes.readings_of c.as_slice-by_unit.result.now) subject) (c.in_ok-here.ensures.loader ∙ c.loop-judged.invariant.loader)
+    ∙ ap (λ readings. definition_over c.args.loader.now readings subject) seen in
     let whole : readings_of project ≡ c.args.kept.now =
-    ap indexes.readings_of (c.in_ok-project.ensures.indexes ∙ c.as_slice.ensures.value) ∙ c.in_ok-indexes.ensures in
+    ap indexes.readings_of (c.in_ok-project.ensures.indexes ∙ c.as_slice-by_unit.ensures.value) ∙ c.in_ok-indexes.ensures in
     let is =
     sym (ap (λ readings. proposed readings (definition_over c.args.loader.now c.args.kept.now subject)) whole)
-    ∙ ap (proposed (readings_of project)) (sym c.definition_in-definition.ensures) ∙ c.in_ok-rule.ensures ∙ ap Some c.in-Broken.is in
+    ∙ ap (proposed (readings_of project)) (sym over) ∙ c.in_ok-rule.ensures ∙ ap Some c.in-Broken.is in
     let rule = c.in-Broken.rule in
     let place = c.in-Broken.place in
     let entry = c.in_ok-kept_entry-in-Broken.field-0 in
-    let entry_is = c.in_ok-kept_entry-in-Broken.ensures ∙ ap (λ definition. entry_with definition (Kept rule place)) c.definition_in-definition.ensures in
+    let entry_is = c.in_ok-kept_entry-in-Broken.ensures ∙ ap (λ definition. entry_with definition (Kept rule place)) over in
     let pushed = c.in_ok-push-in-Broken.ensures.ok in
     let count = ap length pushed ∙ length-append entries (entry ∷ []) in
     let more = c.loop-judged.invariant.more in
     record {
       counted = omega (arith, count, counted);
+      loader = c.in_ok-here.ensures.loader ∙ c.loop-judged.invariant.loader;
       more = omega (arith, count, more);
       judged = λ told units first readings before.
           let now = project_of c.args.loader.now c.args.kept.now readings in

@@ -9,6 +9,7 @@ use Rattle.dm_planning.proofs.judging.next_change.Given as goal
 abbrev pub invariant-loop-judged : goal.invariant-loop-judged
 invariant-loop-judged l = record {
   counted : length l.entries ≡ l.judged;
+  loader : l.lines.loader.now ≡ l.loader;
   more : length l.initial.entries ≤ length l.entries;
   judged : (told : Option Files) (units : List Source) (first : Project) (count : ℕ) → HasJudged told units first l.subjects l.initial.entries (project_of l.loader l.kept count)
       → HasJudged told units first l.subjects l.entries (project_of l.loader l.kept count);

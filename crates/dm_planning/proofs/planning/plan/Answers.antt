@@ -63,6 +63,7 @@ returns-clause-planned g c =
       record {
         judged = subst (λ (these : List Entry). JudgesAll told units first (subjects_of first) these last) (sym made.entries) judged;
         names = made.names;
+        numbered = made.numbered;
         changed = subst (λ (these : List Entry). IsPermutation (map (changed_file last.loaded) (edited_files last.loaded these)) plan.files) (sym made.entries) made.files;
         ascending = made.ascending;
       },

@@ -2,7 +2,8 @@
 use Rattle.std.proofs.Common.{ap, Err}
 use Rattle.dm_lines.specs.Outside.{outside}
 use Rattle.dm_words.specs.Requests.{request_of}
-use Rattle.dm_running.proofs.RunSteps.{ends_finished, ends_stopped, lawful-short}
+use Rattle.dm_manifest.proofs.Short.{lawful-short}
+use Rattle.dm_running.proofs.RunSteps.{ends_finished, ends_stopped}
 use Rattle.dm_running.proofs.run.run_with.Goals as goal
 
 pub read_once-requires-clause-short : goal.read_once-requires-clause-short

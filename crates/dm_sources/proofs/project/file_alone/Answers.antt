@@ -1,7 +1,7 @@
 -- The one unit is lawful.
 use Rattle.std.proofs.Common.{rules, ◌≡◌, ◌∷◌, [], All, sym, subst}
 use Rattle.dm_manifest.specs.Units.{IsLawful}
-use Rattle.dm_sources.specs.Sources.{alone}
+use Rattle.dm_manifest.specs.Units.{alone}
 use Rattle.dm_sources.proofs.SourceSteps.{alone-lawful-all}
 use Rattle.dm_sources.proofs.project.file_alone.Goals as goal
 

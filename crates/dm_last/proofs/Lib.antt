@@ -1,0 +1,3 @@
+pub mod EditedLemmas
+mod FileLemmas
+pub mod OverLemmas
