@@ -14,7 +14,8 @@ use Rattle.dm_words.specs.Requests.{plan as to_plan, apply as to_apply}
 use Rattle.dm_sources.specs.declared.project.NoSources.{NoSources}
 use Rattle.dm_sources.specs.Sources.{IsProject, HasNoSources}
 use Rattle.dm_sources.specs.Explanations.{line_without_sources, status_without_sources}
-use Rattle.dm_apply.specs.Commits.{with_files}
+use Rattle.dm_last.specs.Last.{with_files}
+use Rattle.dm_promise.specs.Promises.{KeepsToldPrograms}
 use Rattle.dm_apply.specs.Plans.{Plans, StopsPlanning, report}
 use Rattle.dm_apply.specs.Endings.{PlanEnding, planned, report_failed, stopped, memory_wanted, ApplyEnding, applied, write_failed, output_failed, unplanned, unready, EndsPlanning, EndsPlanningAs, EndsApplying, EndsApplyingAs, ExplainsStop}
 use Rattle.demacro.specs.Endings.{EndsForAs, LacksUnits}
@@ -31,6 +32,9 @@ module _ (json : Bool) (project : List ℕ) (units : List Source) (before middle
 
   plans_too : (plan : Plan) → Plans middle.files units plan → Plans before.files units plan
   plans_too plan = subst (λ told. Plans told units plan) same_files
+
+  programs_too : (plan : Plan) → KeepsToldPrograms middle.files after.files units plan → KeepsToldPrograms before.files after.files units plan
+  programs_too plan = subst (λ told. KeepsToldPrograms told after.files units plan) same_files
 
   rose_too : Rose middle.folder_faults after.folder_faults → Rose before.folder_faults after.folder_faults
   rose_too = Rose-earlier before.folder_faults middle.folder_faults after.folder_faults earlier
@@ -61,11 +65,11 @@ module _ (json : Bool) (project : List ℕ) (units : List Source) (before middle
 
   apply_too : (ending : ApplyEnding) → EndsApplying json project units middle after ending → EndsApplying json project units before after ending
   apply_too (applied plan) ends =
-      (plans_too plan ends.0, subst (λ told. after.files ≡ with_files told plan.files) same_files ends.1, reports_too (report json plan) ends.2)
+      (plans_too plan ends.0, subst (λ told. after.files ≡ with_files told plan.files) same_files ends.1, reports_too (report json plan) ends.2, programs_too plan ends.3)
   apply_too (write_failed plan written file left) ends =
       (plans_too plan ends.0, ends.1, rose_too ends.2, subst (λ told. MayHaveSpoiled (with_files told written) after.files file.name) same_files ends.3, puts_too _ ends.4)
   apply_too (output_failed plan) ends =
-      (plans_too plan ends.0, subst (λ told. after.files ≡ with_files told plan.files) same_files ends.1, fails_too ends.2, appends_too (report json plan) ends.3)
+      (plans_too plan ends.0, subst (λ told. after.files ≡ with_files told plan.files) same_files ends.1, fails_too ends.2, appends_too (report json plan) ends.3, programs_too plan ends.4)
   apply_too (unplanned stop files) ends = stop_too stop files ends
   apply_too unready ends = (keeps_too ends.0, ends.1 ∙ same_written)
 

@@ -6,7 +6,8 @@ use Rattle.dm_token.specs.declared.stop.Memory.{Memory}
 use Rattle.dm_token.specs.declared.unit.Unit.{Unit as Source}
 use Rattle.dm_lines.specs.Outside.{Outside, Puts, KeepsFiles}
 use Rattle.dm_lines.specs.Statuses as statuses
-use Rattle.dm_words.specs.Requests.{Request, plan, apply, expand, run, gen, Asks, most_generated}
+use Rattle.dm_gen.specs.Generated.{greatest_count}
+use Rattle.dm_words.specs.Requests.{Request, plan, apply, expand, run, gen, Asks}
 use Rattle.dm_sources.specs.declared.project.NoSources.{NoSources}
 use Rattle.dm_sources.specs.declared.finding.NoUnit.{NoUnit}
 use Rattle.dm_sources.specs.Sources.{IsProject, HasUnit, HasNoSources, HasNoUnit}
@@ -82,4 +83,4 @@ IsModest (plan project json) = Unit {0}
 IsModest (apply project json) = Unit {0}
 IsModest (expand project file) = Unit {0}
 IsModest (run request) = Unit {0}
-IsModest (gen count) = count ≤ most_generated
+IsModest (gen count) = count ≤ greatest_count

@@ -1,3 +1,4 @@
+pub mod Applied
 pub mod Arguments
 pub mod Completeness
 pub mod Endings

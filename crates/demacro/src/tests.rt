@@ -9,6 +9,7 @@ use std::test::Fail;
 
 mod calls;
 mod expanding;
+mod limits;
 mod planning;
 mod programs;
 mod running;
@@ -76,6 +77,23 @@ fn a_file_may_have_so_many_bytes(rt: HostRuntime) -> Result<(), Fail> {
     calls::expect(&rt, "apply a.c", files.as_str(), 0, "rewritten 0 kept 0\n")?;
     let more = format!(in rt.alloc(); "== a.c\n{most}\n")?;
     calls::expect(&rt, "apply a.c", more.as_str(), 4, "limit L1 a.c\n")
+}
+
+/// Eight units, each of five tokens and those of the header.
+const EIGHT: &str =
+    "== m.json\n{\"units\":[{\"file\":\"a.c\"},{\"file\":\"b.c\"},{\"file\":\"c.c\"},{\"file\":\"d.c\"},{\"file\":\"e.c\"},{\"file\":\"f.c\"},{\"file\":\"g.c\"},{\"file\":\"h.c\"}]}== a.c\nchar *s =\n#include \"s.h\"\n;\n== b.c\nchar *s =\n#include \"s.h\"\n;\n== c.c\nchar *s =\n#include \"s.h\"\n;\n== d.c\nchar *s =\n#include \"s.h\"\n;\n== e.c\nchar *s =\n#include \"s.h\"\n;\n== f.c\nchar *s =\n#include \"s.h\"\n;\n== g.c\nchar *s =\n#include \"s.h\"\n;\n== h.c\nchar *s =\n#include \"s.h\"\n;\n";
+
+#[test]
+fn units_may_have_so_many_tokens_together(rt: HostRuntime) -> Result<(), Fail> {
+    for (literals, status, output) in [
+        (499_995, 0, "rewritten 0 kept 0\n"),
+        (499_996, 4, "limit L10 h.c\n"),
+    ] {
+        let header = "\"\"".repeat(rt.alloc(), literals)?;
+        let files = format!(in rt.alloc(); "{EIGHT}== s.h\n{header}\n")?;
+        calls::expect(&rt, "plan m.json", files.as_str(), status, output)?;
+    }
+    Ok(())
 }
 
 #[test]

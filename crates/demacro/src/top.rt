@@ -1,8 +1,9 @@
-ghost use Rattle.std.specs.Prelude.{◌≡◌, ◌≤◌, ◌⊎◌, map, string_bytes};
+ghost use Rattle.std.specs.Prelude.{◌≡◌, ◌≤◌, ◌⊎◌, ℕ, Bool, List as Sequence, map, string_bytes};
 ghost use Rattle.dm_io.specs.Faults.{Rose};
 ghost use Rattle.dm_lines.specs.Outside.{outside};
 ghost use Rattle.dm_lines.specs.Statuses as statuses;
-ghost use Rattle.dm_words.specs.Requests.{AsksFor, Request as Asked, asked_by};
+ghost use Rattle.dm_words.specs.Requests.{AsksFor, Request as Asked, apply, asked_by};
+ghost use Rattle.demacro.specs.Applied.{IsApplied};
 ghost use Rattle.demacro.specs.Endings.{Ends, EndsAs, EndsForAs, IsModest};
 ghost use Rattle.demacro.specs.Completeness.{Holds};
 
@@ -36,6 +37,9 @@ pub fn run<F: Folder, S: Sink>(alloc: Global, words: &[String], folder: &mut F, 
     ensures ending { Ends (map string_bytes words.now)
         (outside F.Folder S.Sink folder.old out.old)
         (outside F.Folder S.Sink folder.new out.new) result }
+    // A project whose application is done is written as planned, and the programs of its units refine those that they had.
+    ensures applied { (project : Sequence ℕ) (json : Bool) → AsksFor (map string_bytes words.now) (apply project json) → result ≡ statuses.done
+        → IsApplied project json (outside F.Folder S.Sink folder.old out.old) (outside F.Folder S.Sink folder.new out.new) }
     // Where the words are good, what they ask for can be done and nothing fails, it is done, or memory is wanted.
     ensures complete { (request : Asked) → AsksFor (map string_bytes words.now) request → Holds (F.files folder.old) request
         → ¬ Rose (F.faults folder.old) (F.faults folder.new) → ¬ Rose (S.faults out.old) (S.faults out.new)

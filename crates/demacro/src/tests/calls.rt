@@ -88,7 +88,20 @@ fn call_on<R: Abort + AllocGlobal>(
     Ok(())
 }
 
-/// The same on a folder that isn't used any more.
+/// Makes a call on files of a text, and compares the files where the status isn't 0.
+pub fn status_of<R: Abort + AllocGlobal>(rt: &R, line: &str, files: &str) -> Result<u8, Fail> {
+    let alloc = rt.alloc();
+    let mut folder = folder_of(alloc, numbers(alloc, &[])?, files)?;
+    let mut out = MemorySink::new(alloc, numbers(alloc, &[])?);
+    let words = words_of(alloc, line)?;
+    let status = run(alloc, &words, &mut folder, &mut out);
+    if status != 0 {
+        expect_files(rt, line, &folder, files, "")?;
+    }
+    Ok(status)
+}
+
+/// Compares status and output of a call on a folder that isn't used any more.
 pub fn expect_on<R: Abort + AllocGlobal>(
     rt: &R,
     line: &str,

@@ -174,10 +174,12 @@ fn a_macro_that_breaks_a_rule_is_kept(rt: HostRuntime) -> Result<(), Fail> {
     Ok(())
 }
 
+/// A project of two units and a header.
+pub const PROJECT: &str =
+    "== m.json\n{\"units\":[{\"file\":\"main.c\"},{\"file\":\"util.c\"}]}== util.h\n#ifndef UTIL_H\n#define UTIL_H\n#define BUF_SIZE 64\n#define NEWLINE '\\n'\n#define LIMIT 200u\n#define ABS(v) ((v) < 0 ? -(v) : (v))\n#define MIN(a, b) ((a) < (b) ? (a) : (b))\n#define IS_DIGIT(c) ((c) >= '0' && (c) <= '9')\n#define PUT(c) putchar(c)\n#define LOG(...) puts(__VA_ARGS__)\n#define DEBUG 0\n#define NAME \"util\"\nint length(const char *s);\n#endif\n== util.c\n#include \"util.h\"\nint length(const char *s) {\n    int n = 0;\n    while (s[n] && n < BUF_SIZE) n++;\n    return MIN(n, BUF_SIZE);\n}\n== main.c\n#include <stdio.h>\n#include \"util.h\"\nstatic char buf[BUF_SIZE];\nint main(void) {\n    int c, n = 0, d = 0;\n    unsigned int total = 0;\n    while ((c = getchar()) != EOF && n < BUF_SIZE - 1) {\n        if (IS_DIGIT(c)) d++;\n        buf[n++] = (char)c;\n        total += ABS(c);\n        if (total > LIMIT) break;\n    }\n#if DEBUG\n    puts(NAME);\n#endif\n    LOG(\"done\");\n    PUT('0' + MIN(n, 9));\n    PUT(NEWLINE);\n    return MIN(d, length(buf));\n}\n";
+
 #[test]
 fn projects_are_planned_whole(rt: HostRuntime) -> Result<(), Fail> {
-    let project =
-        "== m.json\n{\"units\":[{\"file\":\"main.c\"},{\"file\":\"util.c\"}]}== util.h\n#ifndef UTIL_H\n#define UTIL_H\n#define BUF_SIZE 64\n#define NEWLINE '\\n'\n#define LIMIT 200u\n#define ABS(v) ((v) < 0 ? -(v) : (v))\n#define MIN(a, b) ((a) < (b) ? (a) : (b))\n#define IS_DIGIT(c) ((c) >= '0' && (c) <= '9')\n#define PUT(c) putchar(c)\n#define LOG(...) puts(__VA_ARGS__)\n#define DEBUG 0\n#define NAME \"util\"\nint length(const char *s);\n#endif\n== util.c\n#include \"util.h\"\nint length(const char *s) {\n    int n = 0;\n    while (s[n] && n < BUF_SIZE) n++;\n    return MIN(n, BUF_SIZE);\n}\n== main.c\n#include <stdio.h>\n#include \"util.h\"\nstatic char buf[BUF_SIZE];\nint main(void) {\n    int c, n = 0, d = 0;\n    unsigned int total = 0;\n    while ((c = getchar()) != EOF && n < BUF_SIZE - 1) {\n        if (IS_DIGIT(c)) d++;\n        buf[n++] = (char)c;\n        total += ABS(c);\n        if (total > LIMIT) break;\n    }\n#if DEBUG\n    puts(NAME);\n#endif\n    LOG(\"done\");\n    PUT('0' + MIN(n, 9));\n    PUT(NEWLINE);\n    return MIN(d, length(buf));\n}\n";
     expect_done(
         &rt,
         "apply m.json",
@@ -202,14 +204,14 @@ fn projects_are_planned_whole(rt: HostRuntime) -> Result<(), Fail> {
     expect_done(
         &rt,
         "apply m.json",
-        project,
+        PROJECT,
         "kept util.h:2 UTIL_H rule 1 Body util.h:2:9\nrewritten util.h:3 BUF_SIZE enumerator\nrewritten util.h:4 NEWLINE enumerator\nrewritten util.h:5 LIMIT constant\nrewritten util.h:6 ABS function\nkept util.h:7 MIN rule 14 Evaluation main.c:19:12\nrewritten util.h:8 IS_DIGIT function\nkept util.h:9 PUT rule 15 Reread util.h:9:9\nkept util.h:10 LOG rule 1 Body util.h:10:9\nkept util.h:11 DEBUG rule 3 Directive main.c:13:5\nkept util.h:12 NAME rule 4 Unused util.h:12:9\nrewritten 5 kept 6\n",
         "== util.h\n#ifndef UTIL_H\n#define UTIL_H\nenum { BUF_SIZE = 64 };\nenum { NEWLINE = '\\n' };\nstatic const unsigned int LIMIT = 200u;\nstatic inline int ABS(int v) { return ((v) < 0 ? -(v) : (v)); }\n#define MIN(a, b) ((a) < (b) ? (a) : (b))\nstatic inline int IS_DIGIT(int c) { return ((c) >= '0' && (c) <= '9'); }\n#define PUT(c) putchar(c)\n#define LOG(...) puts(__VA_ARGS__)\n#define DEBUG 0\n#define NAME \"util\"\nint length(const char *s);\n#endif\n",
     )?;
     expect_done(
         &rt,
         "plan m.json",
-        project,
+        PROJECT,
         "kept util.h:2 UTIL_H rule 1 Body util.h:2:9\nrewritten util.h:3 BUF_SIZE enumerator\nrewritten util.h:4 NEWLINE enumerator\nrewritten util.h:5 LIMIT constant\nrewritten util.h:6 ABS function\nkept util.h:7 MIN rule 14 Evaluation main.c:19:12\nrewritten util.h:8 IS_DIGIT function\nkept util.h:9 PUT rule 15 Reread util.h:9:9\nkept util.h:10 LOG rule 1 Body util.h:10:9\nkept util.h:11 DEBUG rule 3 Directive main.c:13:5\nkept util.h:12 NAME rule 4 Unused util.h:12:9\nrewritten 5 kept 6\n",
         "",
     )?;
