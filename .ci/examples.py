@@ -1,5 +1,5 @@
 #!/usr/bin/env python3
-"""Runs the examples of README.md and docs/GUIDE.md on the built program, and compares what it puts and leaves.
+"""Runs the examples of README.md, docs/GUIDE.md and docs/RULES.md on the built program, and compares what it puts and leaves.
 
 Each document's examples run in a copy of examples/, in their order. A code block is one of an example by the line before it:
 a line that ends in the name of a file, as `light.c`, gives the file these bytes; one that ends in a command and `prints`, as
@@ -17,7 +17,7 @@ import sys
 import tempfile
 
 TOP = os.path.dirname(os.path.dirname(os.path.abspath(__file__)))
-DOCUMENTS = ["README.md", "docs/GUIDE.md"]
+DOCUMENTS = ["README.md", "docs/GUIDE.md", "docs/RULES.md"]
 BLOCK = re.compile(r"^([^\n]*)\n\n```\w*\n(.*?)^```$", re.MULTILINE | re.DOTALL)
 PRINTS = re.compile(r"`demacro ([^`]+)` prints$")
 LEAVES = re.compile(r"\bleaves `([^`]+)`$")
