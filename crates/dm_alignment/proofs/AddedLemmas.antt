@@ -36,6 +36,7 @@ module _ (old new : Reading) (change : Change) (it : Inserted) (inserted : IsIns
     name = inserted.name;
     kind = subst (λ (kind : As). IsOfKind kind added) inserted.kind fits.0;
     counted = inserted.counted;
+    plain = inserted.plain;
     alone = subst (DeclaresAlone new it.external it.name.now) (sym fits.1) inserted.alone;
   }
 

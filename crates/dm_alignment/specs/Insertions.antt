@@ -5,7 +5,8 @@ use Rattle.dm_align.specs.declared.insertion.Inserted.{Inserted}
 use Rattle.dm_edit.specs.declared.change.Change.{Change}
 use Rattle.dm_reading.specs.declared.reading.Reading.{Reading}
 use Rattle.dm_rules.specs.Places.{externals_behind}
-use Rattle.dm_alignment.specs.Readings.{DeclaresAlone, TakesAsMany, entries_behind}
+use Rattle.dm_rules.specs.Uses.{runs_in}
+use Rattle.dm_alignment.specs.Readings.{DeclaresAlone, IsPlain, TakesAsMany, entries_behind}
 
 pub record IsInserted (old new : Reading) (change : Change) (it : Inserted) : Type 0 where
   pub external : it.external ≡ externals_behind change.definition old
@@ -14,4 +15,5 @@ pub record IsInserted (old new : Reading) (change : Change) (it : Inserted) : Ty
   pub name : it.name.now ≡ change.definition.name
   pub kind : it.kind ≡ change.kind
   pub counted : TakesAsMany change.kind change.definition (slice_get new.core.externals it.external)
+  pub plain : IsPlain (runs_in change.definition old) new (slice_get new.core.externals it.external)
   pub alone : DeclaresAlone new it.external it.name.now it.number

@@ -2,15 +2,19 @@
 --     entries_behind reading k      how many entries the unit has behind its first external declarations
 --     DeclaresAlone reading k name number      in file scope the external declaration of this number declares this name and nothing else
 --     TakesAsMany kind definition found      what becomes of a macro takes as many arguments as the macro has parameters
+--     IsPlain runs new found      where the macro has a run, no type name in the added function names an automatic object
 --     IsInsertion old new change put      what the edit adds to the new reading
 --     AreAlignedReadings old new change      the readings are the same but for that, and for what stands where runs of the macro stood
-use Rattle.std.specs.Prelude.{◌≡◌, ℕ, suc, ◌+◌, true, false, List, [], ◌∷◌, length, Option, Some, None, slice_get}
+use Rattle.std.specs.Prelude.{◌≡◌, ℕ, suc, ◌+◌, true, false, List, [], ◌∷◌, length, IfSome, Option, Some, None, slice_get}
 use Rattle.std.specs.Option.{IsSomeAnd}
 use Rattle.dm_token.specs.declared.expansion.Definition.{Definition}
 use Rattle.dm_macro.specs.Bodies.{named_parameters}
+use Rattle.dm_runs.specs.declared.run.Run.{Run}
 use Rattle.dm_tree.specs.declared.unit.CoreExternal.{CoreExternal}
 use Rattle.dm_tree.specs.declared.unit.CoreExternalForm.{CoreExternalForm}
 use Rattle.dm_tree.specs.declared.unit.CoreExternalForm.TheVariants as code
+use Rattle.dm_tree.specs.Views.{view_of_form}
+use Rattle.dm_plain.specs.Plain.{HasPlainBody}
 use Rattle.dm_align.specs.Insertions.{IsOfKind, number_of}
 use Rattle.dm_align.specs.Units.{AreAligned, Insertion}
 use Rattle.dm_edit.specs.declared.change.As.{As}
@@ -49,6 +53,12 @@ abbrev pub TakesAsMany : As → Definition → Option CoreExternal → Type 0
 TakesAsMany Function definition found = IsSomeAnd found (λ (one : CoreExternal). TakesSoMany (length (named_parameters definition.parameters)) one.form)
 TakesAsMany kind definition found = Unit {0}
 
+-- In a type name in the added function no array length and no enumerator's value names an automatic object, as none can in file scope (6.2.1p4,
+-- 6.6p6), where the function agrees with a run of the macro. Of a unit without runs nothing is asked.
+abbrev pub IsPlain : List Run → Reading → Option CoreExternal → Type 0
+IsPlain [] new found = Unit {0}
+IsPlain (run ∷ runs) new found = IfSome found (λ (one : CoreExternal). HasPlainBody (unit_in new) (view_of_form new.types one.form))
+
 -- One external declaration stands where the definition stood, behind as many as there. At any depth it declares what is entered behind it and
 -- not before it; and in file scope the macro's name alone, as a declaration of the change's kind, with the macro's parameters.
 pub record IsInsertion (old new : Reading) (change : Change) (put : Insertion) : Type 0 where
@@ -59,6 +69,7 @@ pub record IsInsertion (old new : Reading) (change : Change) (put : Insertion) :
   pub name : put.name ≡ change.definition.name
   pub kind : IsOfKind change.kind put.added
   pub counted : TakesAsMany change.kind change.definition (slice_get new.core.externals put.external)
+  pub plain : IsPlain (runs_in change.definition old) new (slice_get new.core.externals put.external)
   pub alone : DeclaresAlone new put.external put.name (number_of put.added)
 
 -- nothing where the unit doesn't read the definition

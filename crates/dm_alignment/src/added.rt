@@ -1,6 +1,9 @@
 //! What the edit of a macro's definition adds to a unit.
 
 ghost use Rattle.std.specs.Prelude.{◌≡◌, ◌↔◌, ℕ, [], ◌∷◌, IfNone, IfOk, IfSome, IsTrue, slice_get};
+ghost use Rattle.dm_type.specs.Tables.{Table};
+ghost use Rattle.dm_tree.specs.Views.{view_of_form, view_of_unit};
+ghost use Rattle.dm_plain.specs.Plain.{HasPlainBody};
 ghost use Rattle.dm_edit.specs.declared.change.As.TheVariants as kinds;
 ghost use Rattle.dm_align.specs.Units.{Insertion};
 ghost use Rattle.dm_alignment.specs.Insertions.{IsInserted};
@@ -12,9 +15,12 @@ use dm_edit::{As, Change};
 use dm_macro::named_count;
 use dm_meanings::Meanings;
 use dm_names::Entered;
+use dm_plain::has_plain_types;
 use dm_rules::Index;
+use dm_runs::Run;
 use dm_token::{Memory, Text};
-use dm_tree::CoreExternalForm;
+use dm_tree::{CoreExternalForm, CoreUnit};
+use std::alloc::Global;
 
 /// How many entries a unit has behind its first external declarations.
 fn entries_behind(unit: &Meanings, externals: u32) -> u32
@@ -101,8 +107,37 @@ fn function_takes_as_many(unit: &Meanings, external: u32, change: &Change) -> bo
     }
 }
 
+/// Whether no type name in the body of a function names an automatic object.
+fn has_plain_body(alloc: Global, unit: &CoreUnit, form: &CoreExternalForm) -> Result<bool, Memory>
+    ensures { IfOk result (λ answer. (types : Table) → IsTrue answer ↔ HasPlainBody (view_of_unit types unit.now) (view_of_form types form.now)) }
+{
+    match form {
+        CoreExternalForm::Function {
+            function: _,
+            parameters: _,
+            body,
+        } => has_plain_types(alloc, unit, body),
+        CoreExternalForm::Declaration(_) => Ok(true),
+    }
+}
+
+/// Whether it is so of what is added, where the macro has a run.
+fn is_plain(alloc: Global, unit: &Meanings, external: u32, runs: &[Run]) -> Result<bool, Memory>
+    ensures { IfOk result (λ answer. IsTrue answer ↔ seen.IsPlain runs.now unit.now.index.now.reading.now (slice_get unit.now.index.now.reading.now.core.externals external)) }
+{
+    if runs.is_empty() {
+        return Ok(true);
+    }
+    let core = &unit.index.reading.core;
+    match core.externals.items().get(external as usize) {
+        None => Ok(true),
+        Some(one) => has_plain_body(alloc, core, &one.form),
+    }
+}
+
 /// What the edit adds, where the unit reads the definition. More than 4,294,967,294 external declarations count as want of memory.
 pub(crate) fn added_to<'a>(
+    alloc: Global,
     old: &Index,
     new: &Meanings,
     change: &'a Change,
@@ -121,6 +156,9 @@ pub(crate) fn added_to<'a>(
         return Ok(None);
     };
     if !takes_as_many(new, external, change) {
+        return Ok(None);
+    }
+    if !is_plain(alloc, new, external, old.runs_of(&change.definition))? {
         return Ok(None);
     }
     Ok(Some(Inserted {

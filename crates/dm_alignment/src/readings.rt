@@ -49,7 +49,7 @@ fn are_same(alloc: Global, old: &Index, new: &Meanings, change: &Change) -> Resu
     if !old.reads(&change.definition) {
         return are_aligned(alloc, &units);
     }
-    match added_to(old, new, change)? {
+    match added_to(alloc, old, new, change)? {
         None => Ok(false),
         Some(added) => are_aligned_for(alloc, &units, &added),
     }

@@ -52,10 +52,6 @@ pub data Stands (prefix : List Mark) (tokens : List CToken) (elsewhere : ℕ) (s
   scattered : (m : ℕ) (token : CToken) → span ≡ empty_at m → slice_get tokens m ≡ Some token → begins prefix token.trail ≡ true → Stands prefix tokens elsewhere span
   filled : span.first < span.after → Filled prefix tokens span → Stands prefix tokens elsewhere span
 
-filled_by : (prefix : List Mark) (tokens : List CToken) (elsewhere : ℕ) (ps : List ℕ) → tokens_under prefix tokens ≡ ps → Filled prefix tokens (span_of elsewhere (tokens_under prefix tokens))
-    → Filled prefix tokens (span_of elsewhere ps)
-filled_by prefix tokens elsewhere ps e h = subst (λ (qs : List ℕ). Filled prefix tokens (span_of elsewhere qs)) e h
-
 pub span_stands : (prefix : List Mark) (tokens : List CToken) (elsewhere : ℕ) → Stands prefix tokens elsewhere (span_of elsewhere (tokens_under prefix tokens))
 span_stands prefix tokens elsewhere = by_positions (tokens_under prefix tokens) refl
   where

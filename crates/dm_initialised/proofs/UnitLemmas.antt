@@ -21,7 +21,7 @@ use Rattle.dm_initialised.specs.Units.{numbers_below, numbers_below_all, AreOnce
 
 -- ---- lists
 
-scope_among : (scope : Scope) (d : ℕ) → is_in_scope scope d ≡ true → IsAmong d scope
+pub scope_among : (scope : Scope) (d : ℕ) → is_in_scope scope d ≡ true → IsAmong d scope
 scope_among [] d e = absurd (false≢true e)
 scope_among (c ∷ scope) d e = by_name (c == d) refl e (scope_among scope d)
   where
@@ -36,15 +36,15 @@ module _ (needs : ℕ → Bool) where
   abbrev Covers : List ℕ → Scope → Type 0
   Covers before scope = (d : ℕ) → needs d ≡ true → IsAmong d scope → IsAmong d before
 
-  once_left : (xs ys : List ℕ) → AreOnce needs (xs ++ ys) → AreOnce needs xs
+  pub once_left : (xs ys : List ℕ) → AreOnce needs (xs ++ ys) → AreOnce needs xs
   once_left [] ys h = tt
   once_left (x ∷ xs) ys h = ((λ n a. h.0 n (among_left x xs ys a)), once_left xs ys h.1)
 
-  once_right : (xs ys : List ℕ) → AreOnce needs (xs ++ ys) → AreOnce needs ys
+  pub once_right : (xs ys : List ℕ) → AreOnce needs (xs ++ ys) → AreOnce needs ys
   once_right [] ys h = h
   once_right (x ∷ xs) ys h = once_right xs ys h.1
 
-  once_apart : (xs ys : List ℕ) → AreOnce needs (xs ++ ys) → Apart xs ys
+  pub once_apart : (xs ys : List ℕ) → AreOnce needs (xs ++ ys) → Apart xs ys
   once_apart [] ys h d n a b = absurd a
   once_apart (x ∷ xs) ys h d n (inl e) b = h.0 (subst (λ k. needs k ≡ true) e n) (subst (λ k. IsAmong k (xs ++ ys)) e (among_right d xs ys b))
   once_apart (x ∷ xs) ys h d n (inr a) b = once_apart xs ys h.1 d n a b

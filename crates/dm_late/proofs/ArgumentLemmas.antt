@@ -28,7 +28,7 @@ use Rattle.dm_rewrite.specs.ClosedStates.{IsOther, IsName, NamesOnly, AllNameOnl
 use Rattle.dm_rewrite.specs.Effects.{Effect, Stage, own_effects, effects_of, effects_in}
 use Rattle.dm_agree.specs.Standing.{runs_below}
 use Rattle.dm_agree.specs.Agreement.{Added, Rewriting, Here, here_at, here_below, SameBody, SameBodies, Left, left_at, standing_in, standing_below, standing_for, IsCallOf, AtRun, Agrees, AllAgree, PassesFrom}
-use Rattle.dm_refine.specs.Calls.{AreTypesPlain, AllTypesPlain}
+use Rattle.dm_plain.specs.Plain.{AreTypesPlain, AllTypesPlain}
 use Rattle.dm_refine.proofs.CallBodyLemmas.{not_true, or_other, not_in_scope, scopes_inside, ReadsHere, IsNodeHere, by_here, left_here}
 use Rattle.dm_refine.proofs.CallGivesLemmas.{gives}
 use Rattle.dm_refine.proofs.CallTreeLemmas.{AddsFunction, IsAddedEntry, AreArguments, at_run}

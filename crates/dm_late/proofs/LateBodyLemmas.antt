@@ -23,7 +23,7 @@ use Rattle.dm_meaning.proofs.OptionLemmas.{and_left, and_right}
 use Rattle.dm_effect.specs.Scoped.{names_in_scope, same_scopes, is_scoped, are_scoped}
 use Rattle.dm_agree.specs.Agreement.{Rewriting, Here, here_below, SameBody, SameBodies, Left, left_at, standing_in, standing_below}
 use Rattle.dm_central.specs.Arguments.{ReadsParameter, IsSameBut, AreSameBut, IsUntouched, IsStanding, Stands, StandBelow, StandsWhole}
-use Rattle.dm_refine.specs.Calls.{AreTypesPlain, AllTypesPlain}
+use Rattle.dm_plain.specs.Plain.{AreTypesPlain, AllTypesPlain}
 use Rattle.dm_refine.proofs.CallBodyLemmas.{slice_among, not_true, read_object, names_first, scopes_inside, ReadsHere, IsNodeHere, by_here, same_meaning, left_here}
 use Rattle.dm_refine.proofs.ConstantTreeLemmas.{inside_declared}
 use Rattle.dm_refine.proofs.ReadFirstLemmas.{NamesNone, NameNone, IfFirst, OnlyFirst, OnlyFirstBelow, either}

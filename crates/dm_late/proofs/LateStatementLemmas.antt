@@ -26,9 +26,10 @@ use Rattle.dm_rewrite.specs.Closed.{unseen, names_first}
 use Rattle.dm_agree.specs.Standing.{runs_below}
 use Rattle.dm_agree.specs.Agreement.{Added, Rewriting, IsCallOf, AtRun, Agrees, AllAgree}
 use Rattle.dm_central.specs.Bodies as central
-use Rattle.dm_central.specs.Bodies.{Known, closed_numbers, AreNamedOnce, ExpressionAgrees}
+use Rattle.dm_central.specs.Bodies.{Known, closed_numbers, ExpressionAgrees}
 use Rattle.dm_central.specs.ClosedPrograms.{known_with}
-use Rattle.dm_refine.specs.Calls.{AreTypesPlain, IsEvaluated, AreEvaluated}
+use Rattle.dm_plain.specs.Plain.{AreTypesPlain}
+use Rattle.dm_refine.specs.Calls.{IsEvaluated, AreEvaluated}
 use Rattle.dm_refine.proofs.CallBodyLemmas.{not_true}
 use Rattle.dm_refine.proofs.CallLocalLemmas.{same_statement}
 use Rattle.dm_refine.proofs.CallTreeLemmas.{AddsFunction, IsAddedEntry, at_run, bare_of, some_run}
@@ -65,7 +66,7 @@ module _ (change : Called) (told : (d : ℕ) → option_map facts_of (declaratio
     (distinct : AreDistinct change.added.parameters) (own : (p : ℕ) → IsAmong p change.added.parameters → (d : ℕ) → change.rename d ≡ p → ⊥)
     (apart : (d : ℕ) → change.rename d ≡ change.added.function → ⊥) (body_expression : is_expression change.body ≡ true) (body_value : Gives change.body)
     (automatic : ℕ → Bool) (still : (d : ℕ) → automatic (change.rename d) ≡ false → is_nowhere_local change.old d ≡ true) (body_scoped : is_scoped automatic change.added.parameters change.body ≡ true)
-    (body_plain : AreTypesPlain automatic change.body) (body_scene : Scene) (body_declared : body_scene.declared ≡ change.declared) (body_typed : IsWellTyped body_scene change.body)
+    (body_scene : Scene) (body_declared : body_scene.declared ≡ change.declared) (body_typed : IsWellTyped body_scene change.body)
     (judged : Judged) (local : (d : ℕ) → judged.closed d ≡ true → automatic (change.rename d) ≡ true) where
   abbrev ps : List ℕ
   ps = change.added.parameters
@@ -77,7 +78,7 @@ module _ (change : Called) (told : (d : ℕ) → option_map facts_of (declaratio
   it = record { runs = runs; added = added; rename = change.rename; value = constant change.old.table change.old.declared }
 
   abbrev Early : Type 0
-  Early = IsEarly judged ps change.body
+  Early = IsEarly judged ps change.body × AreTypesPlain automatic change.body
 
   abbrev known : Known
   known = known_with judged.closed judged.quiet judged.safe
@@ -96,7 +97,7 @@ module _ (change : Called) (told : (d : ℕ) → option_map facts_of (declaratio
   expression_part scene e old_scene standing early_ones all tree other n m typed old_typed evaluated only h alike = (
     erased_expression (spot (spans_of other)) other ∙ typed-expression old_scene other old_typed (ap not m),
     λ statics objects named.
-        tree_begun (spot (spans_of other)) change told injective types entries entry runs added adds distinct own apart body_expression body_value automatic still body_scoped body_plain body_scene body_declared body_typed judged local (statics ++ objects)
+        tree_begun (spot (spans_of other)) change told injective types entries entry runs added adds distinct own apart body_expression body_value automatic still body_scoped body_scene body_declared body_typed judged local (statics ++ objects)
         (closed_numbers judged.closed objects) named.apart named.closed_ones named.closed_names scene e standing early_ones all tree other typed (typed-expression scene tree typed (ap not n)) evaluated only h [] alike [] (λ effect l. absurd l),
   )
 

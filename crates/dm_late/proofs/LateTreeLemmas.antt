@@ -35,10 +35,11 @@ use Rattle.dm_rewrite.specs.Effects.{Effect, Stage, effects_of, effects_in}
 use Rattle.dm_agree.specs.Standing.{runs_below}
 use Rattle.dm_agree.specs.Agreement.{Added, Rewriting, here_at, SameBody, Left, standing_for, IsCallOf, AtRun, Agrees, AllAgree, PassesFrom}
 use Rattle.dm_central.specs.Agreement as central
-use Rattle.dm_central.specs.Agreement.{IsCall, BegunOutside, AllBegun, BegunPasses, before_rest}
+use Rattle.dm_central.specs.Agreement.{IsCall, BegunOutside, AllBegun, before_rest}
 use Rattle.dm_central.specs.Arguments.{ReadsApart, at_once, untouched, runs_at, trees_at, ReadsSomewhere, ReadsBelow, ReadsFirst, ReadsFirstBelow}
 use Rattle.dm_central.specs.Standing.{standing_of}
-use Rattle.dm_refine.specs.Calls.{AreTypesPlain, is_name_of, names, any_names, NotInSizeof, IsEvaluated, AreEvaluated}
+use Rattle.dm_plain.specs.Plain.{AreTypesPlain}
+use Rattle.dm_refine.specs.Calls.{is_name_of, names, any_names, NotInSizeof, IsEvaluated, AreEvaluated}
 use Rattle.dm_refine.proofs.CallBodyLemmas.{slice_among, not_true, counted}
 use Rattle.dm_refine.proofs.CallGivesLemmas.{gives}
 use Rattle.dm_refine.proofs.CallLocalLemmas.{same_statement}
@@ -142,7 +143,7 @@ module _ (at : Spans) (change : Called) (told : (d : ℕ) → option_map facts_o
     (distinct : AreDistinct change.added.parameters) (own : (p : ℕ) → IsAmong p change.added.parameters → (d : ℕ) → change.rename d ≡ p → ⊥)
     (apart : (d : ℕ) → change.rename d ≡ change.added.function → ⊥) (body_expression : is_expression change.body ≡ true) (body_value : Gives change.body)
     (automatic : ℕ → Bool) (still : (d : ℕ) → automatic (change.rename d) ≡ false → is_nowhere_local change.old d ≡ true) (body_scoped : is_scoped automatic change.added.parameters change.body ≡ true)
-    (body_plain : AreTypesPlain automatic change.body) (body_scene : Scene) (body_declared : body_scene.declared ≡ change.declared) (body_typed : IsWellTyped body_scene change.body)
+    (body_scene : Scene) (body_declared : body_scene.declared ≡ change.declared) (body_typed : IsWellTyped body_scene change.body)
     (judged : Judged) (local : (d : ℕ) → judged.closed d ≡ true → automatic (change.rename d) ≡ true) where
   abbrev ps : List ℕ
   ps = change.added.parameters
@@ -153,8 +154,9 @@ module _ (at : Spans) (change : Called) (told : (d : ℕ) → option_map facts_o
   abbrev it : Rewriting
   it = record { runs = runs; added = added; rename = change.rename; value = constant change.old.table change.old.declared }
 
+  -- what is asked of the expression where a run stands
   abbrev Early : Type 0
-  Early = IsEarly judged ps change.body
+  Early = IsEarly judged ps change.body × AreTypesPlain automatic change.body
 
   run_here : (run : Run) (inner : List Run) (label : Label) (kind : CType) (parts : Trees) (other : Tree) (Passed : Type 0) → AtRun it added run inner label kind parts other Passed
       → IsCallOf it f ps change.body run inner label kind parts other × Passed
@@ -165,7 +167,7 @@ module _ (at : Spans) (change : Called) (told : (d : ℕ) → option_map facts_o
   there early_ones run inner other same n p e =
       some_left (standing_for it run inner n other)
       (λ none.
-      named_somewhere p change.body (read_somewhere judged p change.body (early_ones p (slice_among ps n p e)))
+      named_somewhere p change.body (read_somewhere judged p change.body (early_ones.0 p (slice_among ps n p e)))
       (sym (counted change own distinct n p e it refl run body_scene body_declared (here_at run inner other) change.body other body_typed same) ∙ none))
 
   module _ (objects : Objects) (numbers : List ℕ) (named_apart : (c d n : ℕ) → object_named objects c ≡ Some n → object_named objects d ≡ Some n → c ≡ d)
@@ -253,14 +255,14 @@ module _ (at : Spans) (change : Called) (told : (d : ℕ) → option_map facts_o
           safely : judged.safe tree ≡ true
               → ((judged.safe tree ≡ true) × ((p : ℕ) → given ps (ways_of judged.late ps trees) p ≡ Some (untouched tree) → ReadsSomewhere p change.body))
               ⊎ ((p : ℕ) → given ps (ways_of judged.late ps trees) p ≡ Some (untouched tree) → ReadsFirst p change.body)
-          safely e = inl (e, λ p g. read_somewhere judged p change.body (early_ones p (given_among ps (ways_of judged.late ps trees) p (untouched tree) g)))
+          safely e = inl (e, λ p g. read_somewhere judged p change.body (early_ones.0 p (given_among ps (ways_of judged.late ps trees) p (untouched tree) g)))
 
           firstly : judged.safe tree ≡ false
               → ((judged.safe tree ≡ true) × ((p : ℕ) → given ps (ways_of judged.late ps trees) p ≡ Some (untouched tree) → ReadsSomewhere p change.body))
               ⊎ ((p : ℕ) → given ps (ways_of judged.late ps trees) p ≡ Some (untouched tree) → ReadsFirst p change.body)
           firstly e =
               inr (λ p g.
-              by_test (judged.first p) (ReadsFirst p change.body) (λ k. (early_ones p (given_among ps (ways_of judged.late ps trees) p (untouched tree) g)).1 k)
+              by_test (judged.first p) (ReadsFirst p change.body) (λ k. (early_ones.0 p (given_among ps (ways_of judged.late ps trees) p (untouched tree) g)).1 k)
               (λ k. absurd (true≢false (sym (of_given judged.late judged.first (λ one. judged.safe one ≡ true) ps trees h p tree g k) ∙ e))))
 
       apart_ones : (beside : List Tree) (effects : List Effect) → Covering (other ∷ beside) effects → (rest : Trees) → AreArguments ps rest → AreStable judged it at beside 0 ps run inner other
@@ -324,7 +326,7 @@ module _ (at : Spans) (change : Called) (told : (d : ℕ) → option_map facts_o
         old_only m (q ∷ qs) (more_trees first trees) args well some_ones only h d picked =
             let one = there_first at change.old objects numbers judged named_apart closed_ones it run inner other m q qs some_ones in (
               subst (λ (tree : Tree). NamesOnly d (erased at tree)) (sym (first_is other (lefts m) one))
-                  (passed_names at change told injective types entries entry runs added adds distinct own apart body_expression automatic d (local d picked) body_scoped body_plain scene e m (q ∷ qs) (more_trees first trees) args well (only d picked)
+                  (passed_names at change told injective types entries entry runs added adds distinct own apart body_expression automatic d (local d picked) body_scoped early_ones.1 scene e m (q ∷ qs) (more_trees first trees) args well (only d picked)
                   run inner other h 0 q refl m (omega arith) one.left (first_among (lefts m) one)),
               old_only (suc m) qs trees args.1 well.1 (there_rest at change.old objects numbers judged named_apart closed_ones it run inner other m q qs some_ones) (λ c k. (only c k).1) h.1 d picked,
             )
@@ -342,9 +344,9 @@ module _ (at : Spans) (change : Called) (told : (d : ℕ) → option_map facts_o
                 ways = ways_of judged.late ps (old_arguments 0 rest);
                 stands = body_stands at change own automatic still judged.late (given ps kinds) (given ps (trees_at (ways_of judged.late ps (old_arguments 0 rest))))
                     (given ps (runs_at (ways_of judged.late ps (old_arguments 0 rest)) (all_begun (old_arguments 0 rest)))) it refl run body_scene body_declared (here_at run inner other) change.body other body_typed body_expression
-                    body_scoped body_plain (read_first (early judged.late ps) change.body (λ p k. let found = early_among judged.late ps p k in early_first judged p change.body (early_ones p found.0) found.1)) same given_ones;
+                    body_scoped early_ones.1 (read_first (early judged.late ps) change.body (λ p k. let found = early_among judged.late ps p k in early_first judged p change.body (early_ones.0 p found.0) found.1)) same given_ones;
                 each = runs_as_many (old_arguments 0 rest) ∙ many;
-                once = λ d g. (early_ones d (given_among ps (ways_of judged.late ps (old_arguments 0 rest)) d at_once g)).0 (once_early judged.late ps (old_arguments 0 rest) d g);
+                once = λ d g. (early_ones.0 d (given_among ps (ways_of judged.late ps (old_arguments 0 rest)) d at_once g)).0 (once_early judged.late ps (old_arguments 0 rest) d g);
                 untouched_ones = all_untouched judged.late stage (effects_in stage (all_begun (old_arguments 0 rest)) ++ effects) ps (old_arguments 0 rest) many
                     (apart_ones beside (effects_in stage (all_begun (old_arguments 0 rest)) ++ effects)
                     (appended_cover at change.old objects numbers judged named_apart closed_ones (other ∷ []) beside (effects_in stage (all_begun (old_arguments 0 rest))) effects

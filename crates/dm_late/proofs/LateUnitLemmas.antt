@@ -45,9 +45,9 @@ use Rattle.dm_central.specs.QuietFrames.{WritesNothing}
 use Rattle.dm_central.proofs.QuietTreeLemmas.{writes_nothing}
 use Rattle.dm_central.proofs.RefineLemmas.{safe_calls_refine}
 use Rattle.dm_central.proofs.WholeLemmas.{no_statements}
-use Rattle.dm_refine.specs.Calls.{HasPlainTypes, IsEvaluated, AreOthersEvaluated}
+use Rattle.dm_plain.specs.Plain.{HasPlainTypes}
+use Rattle.dm_refine.specs.Calls.{IsEvaluated, AreOthersEvaluated}
 use Rattle.dm_refine.proofs.AutomaticLemmas.{nowhere_local}
-use Rattle.dm_refine.proofs.CallBodyLemmas.{not_true}
 use Rattle.dm_refine.proofs.CallGivesLemmas.{gives}
 use Rattle.dm_refine.proofs.CallLocalLemmas.{same_statement}
 use Rattle.dm_refine.proofs.CallStaticLemmas.{LocalAgrees, statics_agree}
@@ -59,7 +59,7 @@ use Rattle.dm_refine.proofs.PutLemmas.{parts_of_list, all_without}
 use Rattle.dm_refine.proofs.TypedLemmas.{typed_body}
 use Rattle.dm_void.specs.Bodies.{with_functions}
 use Rattle.dm_late.specs.Late as late
-use Rattle.dm_late.specs.Late.{Judged, AreReadFirst, EvaluatesAlike, FormAlike, EvaluateAlike, AreClosed}
+use Rattle.dm_late.specs.Late.{Judged, AreReadFirst, FormAlike, EvaluateAlike, AreClosed}
 use Rattle.dm_late.proofs.AddedLemmas.{IsAddedFunction, IsValueThere}
 use Rattle.dm_late.proofs.ArgumentLemmas.{names_trees}
 use Rattle.dm_late.proofs.DefinitionLemmas.{zipped_map, zipped_partner, weaker_option, both_some, related_lookup, found_added, related_main, none_static}
@@ -115,7 +115,8 @@ module _ (old_types new_types : Table) (old new : TypedUnit) (runs : List Run) (
     (same_entries : map entry_of (other_entries (Some put) new.declared) ≡ map entry_of old.declared)
     (agreed : Zipped (aligned.ExternalsAgree (rewriting_of old_types old runs (Some put))) (other_externals (Some put) new.externals) old.externals)
     (f : ℕ) (parameters : List ℕ) (body : Tree) (adds : put.added ≡ added_function f parameters body)
-    (lengths : HasPlainTypes new body) (evaluated : AreOthersEvaluated f put new) (judged : Judged) (first : AreReadFirst judged runs parameters body)
+    (lengths : (run : Run) → IsAmong run runs → HasPlainTypes new body) (evaluated : AreOthersEvaluated f put new) (judged : Judged)
+    (closed_lengths : (d : ℕ) → judged.closed d ≡ true → HasPlainTypes new body) (first : AreReadFirst judged runs parameters body)
     (alike : EvaluateAlike judged (rewriting_of old_types old runs (Some put)) parameters (other_externals (Some put) new.externals) old.externals)
     (silent : late.AreQuiet judged (program_of old_types old)) (always : AreAlwaysSafe (erased_program (program_of old_types old)) judged.safe) where
   abbrev Fits : External → Type 0
@@ -176,9 +177,6 @@ module _ (old_types new_types : Table) (old new : TypedUnit) (runs : List Run) (
     is_added : AddsFunction change put.added
     is_added = subst (AddsFunction change) (sym adds) (refl, refl, refl)
 
-    body_is : is_statement (label_of body) ≡ false
-    body_is = not_true (is_statement (label_of body)) (and_right (not (is_lvalue body)) (not (is_statement (label_of body))) value.value)
-
     body_expression : is_expression body ≡ true
     body_expression = typed-expression value.inner body value.typed (and_right (not (is_lvalue body)) (not (is_statement (label_of body))) value.value)
 
@@ -195,8 +193,8 @@ module _ (old_types new_types : Table) (old new : TypedUnit) (runs : List Run) (
     local : (d : ℕ) → judged.closed d ≡ true → is_automatic new.declared (moved (Some put) d) ≡ true
     local d picked = same_automatic d ∙ (closed d picked).0
 
-    early_ones : (run : Run) → IsAmong run runs → IsEarly judged parameters body
-    early_ones run k p l = first run k p l
+    early_ones : (run : Run) → IsAmong run runs → IsEarly judged parameters body × HasPlainTypes new body
+    early_ones run k = (λ p l. first run k p l, lengths run k)
 
     -- ---- external declarations
 
@@ -231,7 +229,7 @@ module _ (old_types new_types : Table) (old new : TypedUnit) (runs : List Run) (
         subst (λ (t : Tree). ListNamesOnly d (parts_of t)) (sym (settled_statement other other_kind other_spans others old_s))
         (only_list d (all_settled others)
         (all_names_settled d nowhere others
-        (names_trees nowhere change told injective new_types typed.entries entry runs put.added is_added distinct own apart body_expression (is_automatic new.declared) d (local d picked) body_scoped lengths (inside scene label (listed parts))
+        (names_trees nowhere change told injective new_types typed.entries entry runs put.added is_added distinct own apart body_expression (is_automatic new.declared) d (local d picked) body_scoped (closed_lengths d picked) (inside scene label (listed parts))
         (inside_declared scene label (listed parts) ∙ e) only_closed other other_spans parts others t.1 agree.1 (list_only (moved (Some put) d) parts only))))
     names_body scene e (run ∷ inner) (node label kind spans parts) other is t agree d picked only =
         absurd (no_block (sym is ∙ (at_run change told injective new_types typed.entries entry runs put.added is_added distinct put.added is_added run inner label kind parts other _ agree).0.0))
@@ -258,7 +256,7 @@ module _ (old_types new_types : Table) (old new : TypedUnit) (runs : List Run) (
               (
                 agree.0,
                 agree.1,
-                items_agree change told injective new_types typed.entries entry runs put.added is_added distinct own apart body_expression body_value (is_automatic new.declared) still body_scoped lengths value.inner value.same value.typed judged
+                items_agree change told injective new_types typed.entries entry runs put.added is_added distinct own apart body_expression body_value (is_automatic new.declared) still body_scoped value.inner value.same value.typed judged
                     local scene refl (body_scene (file_scene old_types old.declared) old_body.result) (runs_at runs other) early_ones (spot (spans_of other)) tree other new_body.block new_body.typed old_body.typed calls.0
                     (λ d picked. list_or (moved (Some put) d) (trees_of tree) (only_names d picked)) agree.2 same,
               ),

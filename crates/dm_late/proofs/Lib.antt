@@ -13,6 +13,5 @@ mod LateStatementLemmas
 mod AddedLemmas
 mod LateUnitLemmas
 mod NoRunLemmas
-mod NoneLateLemmas
 mod LateFunctionLemmas
 mod MaxExample

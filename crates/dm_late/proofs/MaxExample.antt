@@ -5,13 +5,20 @@ use Rattle.std.proofs.Common.{arith, true≢false, ap, sym, subst, inl, inr}
 use Rattle.std.proofs.lemmas.List.Elements.{All-nil, All-from_recursion}
 use Rattle.dm_type.specs.Tables.{no_type}
 use Rattle.dm_tree.specs.Typing.{IsEntry, ExternalFits, IsWellTypedUnit, file_scene}
+use Rattle.dm_tree.specs.Units.{Declaration, External}
 use Rattle.dm_meaning.specs.Among.{IsAmong}
 use Rattle.dm_meaning.specs.Units.{program_of}
+use Rattle.dm_sound.specs.TypedTrees.{IsProper}
+use Rattle.dm_sound.specs.TypedRuns.{IsProperForm, IsProperUnit, IsTypedProgram}
+use Rattle.dm_sound.proofs.ExampleLemmas.{table_sound}
+use Rattle.dm_sound.proofs.UnitLemmas.{unit_typed}
 use Rattle.dm_central.specs.Arguments.{ReadsFirst}
+use Rattle.dm_central.specs.ClosedPrograms.{AreAlwaysSafe}
 use Rattle.dm_align.specs.Examples.{max_old, max_new, max_body, max_put, max_rewriting, run_of_max}
 use Rattle.dm_align.specs.Units.{moved, other_externals}
 use Rattle.dm_refine.proofs.ExampleLemmas.{one_statement}
 use Rattle.dm_late.specs.Examples.{judged}
+use Rattle.dm_late.specs.Settled.{erased_program}
 use Rattle.dm_late.specs.Late.{AreReadFirst, EvaluateAlike, AreClosed, AreQuiet}
 
 pub old_typed : IsWellTypedUnit no_type max_old
@@ -192,3 +199,20 @@ closed d e = absurd (true≢false (sym e))
 
 pub quiet : AreQuiet judged (program_of no_type max_old)
 quiet definition l e = absurd (true≢false (sym e))
+
+pub safe : AreAlwaysSafe (erased_program (program_of no_type max_old)) judged.safe
+safe input n state runs_to place run use_of rest e tree picked stands = absurd (true≢false (sym picked))
+
+-- ---- the new program
+
+new_proper : IsProperUnit max_new
+new_proper = record {
+  entries = All-from_recursion (λ (entry : Declaration). IsProper entry.kind) max_new.declared (tt, (tt, ((tt, (tt, (tt, tt))), (tt, (tt, ((tt, (tt, (tt, tt))), tt))))));
+  externals = All-from_recursion (λ (external : External). IsProperForm external.form) max_new.externals (
+    (tt, ((tt, ((tt, ((tt, ((tt, ((tt, tt), tt)), ((tt, ((tt, tt), tt)), tt))), ((tt, ((tt, tt), tt)), ((tt, ((tt, tt), tt)), tt)))), tt)), tt)),
+    ((tt, ((tt, ((tt, (((tt, (tt, (tt, tt))), tt), ((tt, ((tt, tt), tt)), ((tt, ((tt, tt), tt)), tt)))), tt)), tt)), tt),
+  );
+}
+
+pub new_sound : IsTypedProgram (program_of no_type max_new)
+new_sound = unit_typed no_type max_new table_sound new_typed new_proper

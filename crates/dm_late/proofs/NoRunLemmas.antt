@@ -1,6 +1,7 @@
 -- Where the added function has no result, but its expression has a value, no run stands in the unit: a call would have the type of its run. So the
 -- units agree also where there are no runs, and the function is never called.
 --     units_alone      the external declarations agree without runs
+--     units_without      so they do whatever is added, where there are none
 --     uncalled      no other function names the added one
 --     alike_alone      without runs nothing is read late
 use Rattle.std.specs.Prelude.{◌≡◌, refl, ◌⊎◌, ℕ, Bool, true, false, ◌&&◌, IsTrue, IfSome, All, List, [], ◌∷◌, flat_map, Option, Some, None, slice_get}
@@ -261,3 +262,43 @@ module _ (it : Rewriting) (added : Added) where
     alike_alone [] others = tt
     alike_alone (one ∷ externals) [] = tt
     alike_alone (one ∷ externals) (other ∷ others) = (form_alike one.form other.form, alike_alone externals others)
+
+-- ---- other things added
+
+module _ (it : Rewriting) (one two : Added) where
+  mutual
+    tree_without : (tree other : Tree) → Agrees (alone it one) [] tree other → Agrees (alone it two) [] tree other
+    tree_without (node label kind spans parts) other h = (h.0, trees_without (label_of other) (spans_of other) parts (trees_of other) h.1)
+
+    trees_without : (label : Label) (spans : Spans) (trees others : Trees) → AllAgree (alone it one) label spans trees others → AllAgree (alone it two) label spans trees others
+    trees_without label spans no_trees no_trees h = tt
+    trees_without label spans no_trees (more_trees other others) h = absurd h
+    trees_without label spans (more_trees first rest) no_trees h = absurd h
+    trees_without label spans (more_trees first rest) (more_trees other others) h = (
+      subst (λ (runs : List Run). Agrees (alone it two) runs first other) (sym (none_below label spans other))
+          (tree_without first other (subst (λ (runs : List Run). Agrees (alone it one) runs first other) (none_below label spans other) h.0)),
+      trees_without label spans rest others h.1,
+    )
+
+  whole_without : (tree other : Tree) → AgreesWhole (alone it one) tree other → AgreesWhole (alone it two) tree other
+  whole_without tree other h =
+      subst (λ (runs : List Run). Agrees (alone it two) runs tree other) (sym (none_at other)) (tree_without tree other (subst (λ (runs : List Run). Agrees (alone it one) runs tree other) (none_at other) h))
+
+  list_without : (trees others : List Tree) → AllAgreeWhole (alone it one) trees others → AllAgreeWhole (alone it two) trees others
+  list_without [] [] h = tt
+  list_without [] (other ∷ others) h = absurd h
+  list_without (tree ∷ trees) [] h = absurd h
+  list_without (tree ∷ trees) (other ∷ others) h = (whole_without tree other h.0, list_without trees others h.1)
+
+  form_without : (form other : ExternalForm) → aligned.FormsAgree (alone it one) form other → aligned.FormsAgree (alone it two) form other
+  form_without (declares declarators trees) (declares others other_trees) h = (h.0, list_without trees other_trees h.1)
+  form_without (declares declarators trees) (defines_function g others other) h = absurd h
+  form_without (defines_function g names tree) (declares others other_trees) h = absurd h
+  form_without (defines_function g names tree) (defines_function k others other) h = (h.0, h.1, whole_without tree other h.2)
+
+  pub units_without : (externals others : List External) → Zipped (aligned.ExternalsAgree (alone it one)) externals others → Zipped (aligned.ExternalsAgree (alone it two)) externals others
+  units_without [] [] h = tt
+  units_without [] (other ∷ others) h = absurd h
+  units_without (external ∷ externals) [] h = absurd h
+  units_without (external ∷ externals) (other ∷ others) h =
+      ((list_without external.constants other.constants h.0.0, form_without external.form other.form h.0.1), units_without externals others h.1)

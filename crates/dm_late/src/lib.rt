@@ -5,4 +5,4 @@ mod examples;
 mod laws;
 
 pub use examples::a_maximum_refines;
-pub use laws::{late_typed_units_refine, late_units_refine, once_typed_units_refine};
+pub use laws::{late_typed_units_refine, uncalled_units_refine};

@@ -1,25 +1,25 @@
 -- The parameters of the added function when it is called, and their objects, which the old program has none of.
-use Rattle.std.specs.Prelude.{◌≡◌, refl, ◌⊎◌, ℕ, suc, ◌≤◌, ◌==◌, Bool, true, false, List, [], ◌∷◌, ◌++◌, length, map, Option, Some, None, if◌then◌else◌}
+use Rattle.std.specs.Prelude.{◌≡◌, refl, ◌⊎◌, ℕ, suc, ◌≤◌, false, List, [], ◌∷◌, ◌++◌, length, map, Option, Some, None, if◌then◌else◌}
 use Rattle.std.proofs.Common.{arith, ap, sym, ◌∙◌, subst, inl, inr}
 use Rattle.dm_type.specs.CTypes.{CType}
 use Rattle.dm_meaning.specs.Among.{IsAmong}
-use Rattle.dm_meaning.specs.Values.{At, Value}
+use Rattle.dm_meaning.specs.Values.{Value}
 use Rattle.dm_meaning.specs.Memory.{Memory, Block, look_up, killed, IsFresh}
 use Rattle.dm_meaning.specs.Causes.{is_unset}
-use Rattle.dm_meaning.specs.Operations.{of_value, Objects, object_named}
-use Rattle.dm_meaning.specs.Running.{Run, done, Runs, no_runs, more_runs}
+use Rattle.dm_meaning.specs.Operations.{Objects, object_named}
+use Rattle.dm_meaning.specs.Running.{Runs, no_runs, more_runs}
 use Rattle.dm_meaning.specs.Statements.{named_from}
 use Rattle.dm_meaning.specs.Steps.{given_from}
 use Rattle.dm_meaning.specs.Called.{Called, new_of}
-use Rattle.dm_meaning.specs.CalledWithAll.{given, AreDistinct}
+use Rattle.dm_meaning.specs.CalledWithAll.{AreDistinct}
 use Rattle.dm_meaning.specs.Extending.{HasAll}
 use Rattle.dm_meaning.specs.MoreObjects.{IsSpare, Grown}
-use Rattle.dm_meaning.proofs.OptionLemmas.{none_is_some, some_is_some}
+use Rattle.dm_meaning.proofs.OptionLemmas.{none_is_some}
 use Rattle.dm_meaning.proofs.RunLemmas.{renamed_objects}
-use Rattle.dm_meaning.proofs.GrowLemmas.{equal_is, equal_of, differ_is, look_added, look_beside}
+use Rattle.dm_meaning.proofs.GrowLemmas.{equal_is, differ_is, look_added, look_beside}
 use Rattle.dm_meaning.proofs.MatchLemmas.{parameter_block}
-use Rattle.dm_meaning.proofs.StandLemmas.{suc_same, run_list}
-use Rattle.dm_meaning.proofs.PassRunLemmas.{Entry, HaveCome, AreStored}
+use Rattle.dm_meaning.proofs.StandLemmas.{suc_same}
+use Rattle.dm_meaning.proofs.PassRunLemmas.{Entry, HaveCome}
 
 -- ---- when the function is called
 
@@ -60,31 +60,6 @@ given_entries change names i [] values entries memory e = refl
 given_entries change names i (p ∷ ps) [] entries memory e = absurd (zero_suc (length ps) e)
 given_entries change names i (p ∷ ps) (value ∷ values) entries memory e =
     given_entries change names (suc i) ps values (record { parameter = p; stored = names i; value = value } ∷ entries) memory (suc_same (length values) (length ps) e)
-
--- what stands before others stays
-kept_entry : (names : ℕ → ℕ) (i : ℕ) (ps : List ℕ) (values : List Value) (entries : List Entry) (entry : Entry) → IsAmong entry entries → IsAmong entry (entries_from names i ps values entries)
-kept_entry names i [] values entries entry h = h
-kept_entry names i (p ∷ ps) [] entries entry h = h
-kept_entry names i (p ∷ ps) (value ∷ values) entries entry h = kept_entry names (suc i) ps values (record { parameter = p; stored = names i; value = value } ∷ entries) entry (inr h)
-
--- each argument's value is a parameter's
-pub value_stored : (names : ℕ → ℕ) (i : ℕ) (ps : List ℕ) (values : List Value) (entries : List Entry) (d : ℕ) (value : Value) → given ps values d ≡ Some value
-    → (entry : Entry) × IsAmong entry (entries_from names i ps values entries) × (entry.parameter ≡ d) × (entry.value ≡ value)
-value_stored names i [] values entries d value e = absurd (none_is_some value e)
-value_stored names i (p ∷ ps) [] entries d value e = absurd (none_is_some value e)
-value_stored names i (p ∷ ps) (first ∷ values) entries d value e =
-    by_case (p == d) (equal_of p d) e (value_stored names (suc i) ps values (record { parameter = p; stored = names i; value = first } ∷ entries) d value)
-  where
-    by_case : (b : Bool) → (b ≡ true → p ≡ d) → (if b then Some first else given ps values d) ≡ Some value
-        → (given ps values d ≡ Some value → (entry : Entry) × IsAmong entry (entries_from names (suc i) ps values (record { parameter = p; stored = names i; value = first } ∷ entries)) × (entry.parameter ≡ d) × (entry.value ≡ value))
-        → (entry : Entry) × IsAmong entry (entries_from names (suc i) ps values (record { parameter = p; stored = names i; value = first } ∷ entries)) × (entry.parameter ≡ d) × (entry.value ≡ value)
-    by_case true same f later = (
-      record { parameter = p; stored = names i; value = first },
-      kept_entry names (suc i) ps values (record { parameter = p; stored = names i; value = first } ∷ entries) (record { parameter = p; stored = names i; value = first }) (inl refl),
-      same refl,
-      some_is_some first value f,
-    )
-    by_case false same f later = later f
 
 -- a parameter is one of the function's, with one of the values
 pub entry_from : (names : ℕ → ℕ) (i : ℕ) (ps : List ℕ) (values : List Value) (entries : List Entry) (entry : Entry) → IsAmong entry (entries_from names i ps values entries)
@@ -131,34 +106,12 @@ own_named rename (entry ∷ entries) own p apart =
 
 -- ---- the values of arguments
 
-pub come_at : (ps : List ℕ) (kinds : List CType) (values : List Value) (inner : Runs) → HaveCome kinds values inner → (d : ℕ) (kind : CType) (run : Run) → given ps kinds d ≡ Some kind → given ps (run_list inner) d ≡ Some run
-    → (value : Value) × (given ps values d ≡ Some value) × (locks : List At) × (run ≡ done kind (of_value value) locks)
-come_at [] kinds values inner h d kind run e f = absurd (none_is_some kind e)
-come_at (p ∷ ps) [] values inner h d kind run e f = absurd (none_is_some kind e)
-come_at (p ∷ ps) (own ∷ kinds) [] inner h d kind run e f = absurd h
-come_at (p ∷ ps) (own ∷ kinds) (value ∷ values) no_runs h d kind run e f = absurd h
-come_at (p ∷ ps) (own ∷ kinds) (value ∷ values) (more_runs first rest) h d kind run e f = by_case (p == d) e f (come_at ps kinds values rest h.2 d kind run)
-  where
-    by_case : (b : Bool) → (if b then Some own else given ps kinds d) ≡ Some kind → (if b then Some first else given ps (run_list rest) d) ≡ Some run
-        → (given ps kinds d ≡ Some kind → given ps (run_list rest) d ≡ Some run → (v : Value) × (given ps values d ≡ Some v) × (locks : List At) × (run ≡ done kind (of_value v) locks))
-        → (v : Value) × ((if b then Some value else given ps values d) ≡ Some v) × (locks : List At) × (run ≡ done kind (of_value v) locks)
-    by_case true g k later =
-        (value, refl, h.0.0, sym (some_is_some first run k) ∙ h.0.1 ∙ ap (λ t. done t (of_value value) h.0.0) (some_is_some own kind g))
-    by_case false g k later = later g k
-
 pub come_set : (kinds : List CType) (values : List Value) (inner : Runs) → HaveCome kinds values inner → (value : Value) → IsAmong value values → is_unset value ≡ false
 come_set kinds [] inner h value k = absurd k
 come_set [] (first ∷ values) inner h value k = absurd h
 come_set (kind ∷ kinds) (first ∷ values) no_runs h value k = absurd h
 come_set (kind ∷ kinds) (first ∷ values) (more_runs run rest) h value (inl e) = ap is_unset e ∙ h.1
 come_set (kind ∷ kinds) (first ∷ values) (more_runs run rest) h value (inr k) = come_set kinds values rest h.2 value k
-
-pub all_stored : (names : ℕ → ℕ) (ps : List ℕ) (kinds : List CType) (values : List Value) (inner : Runs) → HaveCome kinds values inner
-    → AreStored (given ps kinds) (given ps (run_list inner)) (entries_from names 0 ps values [])
-all_stored names ps kinds values inner h d kind run e f =
-    let come = come_at ps kinds values inner h d kind run e f in
-    let there = value_stored names 0 ps values [] d come.0 come.1 in
-    (there.0, there.1, there.2, come.2, come.3 ∙ ap (λ v. done kind (of_value v) come.2) (sym there.3))
 
 -- ---- the objects of parameters
 

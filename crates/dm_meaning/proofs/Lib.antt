@@ -27,16 +27,13 @@ pub mod SetLemmas
 pub mod PassRunLemmas
 pub mod PassStatementLemmas
 pub mod PassStateLemmas
-pub mod PassRefineLemmas
 pub mod FrameLemmas
 pub mod KnownLemmas
 pub mod OrderLemmas
-pub mod PassUnitLemmas
 pub mod LikenessLemmas
 pub mod StandLemmas
 pub mod ShrinkLemmas
 pub mod MatchLemmas
 pub mod EntryLemmas
-pub mod CallInstanceLemmas
 pub mod WholeLemmas
 pub mod AnywhereLemmas

@@ -1,6 +1,6 @@
--- What the matching of steps of two programs needs beside trees that agree: what renaming keeps, when steps agree, parts left out of parts
--- left out, and objects that are spare.
-use Rattle.std.specs.Prelude.{◌≡◌, refl, ◌⊎◌, ℕ, Bool, true, false, ◌&&◌, ◌||◌, IsTrue, List, [], ◌∷◌, ◌++◌, map, Option, None, option_map, if◌then◌else◌}
+-- What the matching of steps of two programs needs beside trees that agree: what renaming keeps, parts left out of parts left out, and objects
+-- that are spare.
+use Rattle.std.specs.Prelude.{◌≡◌, refl, ◌⊎◌, ℕ, Bool, true, false, ◌&&◌, ◌||◌, IsTrue, List, [], ◌∷◌, ◌++◌, map, None, option_map}
 use Rattle.std.proofs.Common.{ap, sym, ◌∙◌, subst, inl, inr}
 use Rattle.dm_token.specs.declared.place.Place.{Place}
 use Rattle.dm_type.specs.CTypes.{CType}
@@ -11,7 +11,7 @@ use Rattle.dm_meaning.specs.Memory.{Memory, Block, look_up, new_block}
 use Rattle.dm_meaning.specs.Programs.{Program, layout}
 use Rattle.dm_meaning.specs.Operations.{World, Scene, whole}
 use Rattle.dm_meaning.specs.Running.{Doing, evaluates, gives_truth, gives_value, Run, to_do, Runs, no_runs, more_runs, Open, first_open, others_open, open_of, open_parts, operands_in, Hole, here, within, Holes, in_first, in_others, filled_in, all_filled_in, IsOpen, AreOpen, hole_in, holes_in}
-use Rattle.dm_meaning.specs.Expressions.{Move, goes, calls, fails, exits, lifted, function_in, where_open, moves, moves_in}
+use Rattle.dm_meaning.specs.Expressions.{Move, lifted, function_in, where_open, moves, moves_in}
 use Rattle.dm_meaning.specs.Statements.{type_declared}
 use Rattle.dm_meaning.specs.Replaced.{relabelled}
 use Rattle.dm_meaning.specs.Called.{Called, new_of, means_the_same}
@@ -20,7 +20,7 @@ use Rattle.dm_meaning.specs.MoreObjects.{IsMadeName, LocksMade}
 use Rattle.dm_meaning.proofs.AmongLemmas.{among_left, among_right, among_either, among-map_from}
 use Rattle.dm_meaning.proofs.MoveLemmas.{IsToDo, moving_to_do, none_first, none_later}
 use Rattle.dm_meaning.proofs.OptionLemmas.{none_is_some}
-use Rattle.dm_meaning.proofs.RunLemmas.{redone, OptionAgrees}
+use Rattle.dm_meaning.proofs.RunLemmas.{redone}
 use Rattle.dm_meaning.proofs.GrowLemmas.{differ_is}
 use Rattle.dm_meaning.proofs.YieldLemmas.{may_give}
 
@@ -46,10 +46,6 @@ function_in_redone rename (evaluates label) = refl
 function_in_redone rename gives_truth = refl
 function_in_redone rename gives_value = refl
 
-pub if_agrees : {X Y : Type 0} (R : X → Y → Type 0) (b : Bool) (x x' : Option X) (y y' : Option Y) → OptionAgrees R x y → OptionAgrees R x' y' → OptionAgrees R (if b then x else x') (if b then y else y')
-if_agrees R true x x' y y' h k = h
-if_agrees R false x x' y y' h k = k
-
 pub among_nothing : (locks others : List At) → locks ≡ [] → AreAmong locks others
 among_nothing locks others e lock k = absurd (subst (λ l. IsAmong lock l) e k)
 
@@ -73,35 +69,6 @@ truth_stands program true = refl
 truth_stands program false = refl
 
 -- ---- steps
-
--- a step and another one come to the same, unless the other is undefined
-abbrev pub MoveAgrees : {T H U G : Type 0} → (ℕ → ℕ) → (T → U → Type 0) → (CType → H → G → Type 0) → Move T H → Move U G → Type 0
-MoveAgrees rename R S m (fails cause place) = Unit {0}
-MoveAgrees rename R S (goes world t) (goes other u) = (world ≡ other) × R t u
-MoveAgrees rename R S (calls f arguments kind h) (calls g others other g_hole) = (f ≡ rename g) × (arguments ≡ others) × (kind ≡ other) × S kind h g_hole
-MoveAgrees rename R S (exits status) (exits other) = status ≡ other
-MoveAgrees rename R S m n = ⊥
-
-pub lifted_agrees : {T H U G T' H' U' G' : Type 0} (rename : ℕ → ℕ) (R : T → U → Type 0) (S : CType → H → G → Type 0) (R' : T' → U' → Type 0) (S' : CType → H' → G' → Type 0)
-    (f : T → T') (g : H → H') (f' : U → U') (g' : G → G')
-    → ((t : T) (u : U) → R t u → R' (f t) (f' u)) → ((type : CType) (h : H) (k : G) → S type h k → S' type (g h) (g' k))
-    → (m : Move T H) (n : Move U G) → MoveAgrees rename R S m n → MoveAgrees rename R' S' (lifted f g m) (lifted f' g' n)
-lifted_agrees rename R S R' S' f g f' g' p q (goes world t) (goes other u) h = (h.0, p t u h.1)
-lifted_agrees rename R S R' S' f g f' g' p q (goes world t) (calls d others other b) h = absurd h
-lifted_agrees rename R S R' S' f g f' g' p q (goes world t) (fails other_cause at) h = tt
-lifted_agrees rename R S R' S' f g f' g' p q (goes world t) (exits other) h = absurd h
-lifted_agrees rename R S R' S' f g f' g' p q (calls e arguments kind a) (goes other u) h = absurd h
-lifted_agrees rename R S R' S' f g f' g' p q (calls e arguments kind a) (calls d others other b) h = (h.0, h.1, h.2, q kind a b h.3)
-lifted_agrees rename R S R' S' f g f' g' p q (calls e arguments kind a) (fails other_cause at) h = tt
-lifted_agrees rename R S R' S' f g f' g' p q (calls e arguments kind a) (exits other) h = absurd h
-lifted_agrees rename R S R' S' f g f' g' p q (fails cause place) (goes other u) h = absurd h
-lifted_agrees rename R S R' S' f g f' g' p q (fails cause place) (calls d others other b) h = absurd h
-lifted_agrees rename R S R' S' f g f' g' p q (fails cause place) (fails other_cause at) h = tt
-lifted_agrees rename R S R' S' f g f' g' p q (fails cause place) (exits other) h = absurd h
-lifted_agrees rename R S R' S' f g f' g' p q (exits status) (goes other u) h = absurd h
-lifted_agrees rename R S R' S' f g f' g' p q (exits status) (calls d others other b) h = absurd h
-lifted_agrees rename R S R' S' f g f' g' p q (exits status) (fails other_cause at) h = tt
-lifted_agrees rename R S R' S' f g f' g' p q (exits status) (exits other) h = h
 
 mutual
   -- a part left out of a part left out

@@ -183,9 +183,6 @@ module _ (scene : Scene) (world : World) (more : Memory) (has : HasAll more worl
   world_same : WorldSpared more world.memory wide world
   world_same = (grown_same more world.memory has, refl, refl)
 
-  stays : (run : Run) → LocksMade world.memory (locks_in run) → Related (goes wide run) (goes world run)
-  stays run h = (world_same, refl, h)
-
   did_spared : (kind : CType) (place : Place) (own : List At) → LocksMade world.memory own → (did wider : Did) → SameUnlessUndefined did wider
       → DidChanges scene world locks did → DidChanges scene wide locks wider → Related (as_move kind place own wider) (as_move kind place own did)
   did_spared kind place own h (breaks cause) wider same changes wider_changes = tt

@@ -2,8 +2,7 @@
 use Rattle.std.specs.Prelude.{◌≡◌, refl, ℕ, suc, ◌+◌, ◌≤◌, ◌<◌, max, ◌==◌, Bool, true, false, List, [], ◌∷◌, Option, Some, None, if◌then◌else◌}
 use Rattle.std.proofs.Common.{arith, inl, sym, subst}
 use Rattle.dm_token.specs.declared.place.Place.{Place}
-use Rattle.dm_meaning.specs.Among.{IsAmong}
-use Rattle.dm_meaning.specs.Machines.{Standing, going, exited, undefined}
+use Rattle.dm_meaning.specs.Machines.{going}
 use Rattle.dm_meaning.specs.Memory.{Memory, Block, look_up, IsFresh}
 use Rattle.dm_meaning.specs.Programs.{Program}
 use Rattle.dm_meaning.specs.Running.{Run, done, to_do, locks_in}
@@ -100,12 +99,3 @@ has_step program state e =
     let fresh = fresh_names state.world.memory in
     let one = has_next fresh.0 program state e in
     (one.0, (fresh.0, fresh.1, one.1))
-
--- a state that has ended has none
-pub ended_stays : (program : Program) (state other : State) → (state.standing ≡ going → ⊥) → Step program state other → ⊥
-ended_stays program state other n step = none_from state.standing (task_steps program step.0 state (unfolded state.frame.tasks)) n step.2
-  where
-    none_from : (standing : Standing) (states : List State) → (standing ≡ going → ⊥) → IsAmong other (steps_from standing states) → ⊥
-    none_from going states k h = k refl
-    none_from (exited status) states k h = h
-    none_from (undefined cause place) states k h = h

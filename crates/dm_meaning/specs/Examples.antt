@@ -1,9 +1,9 @@
 -- Small programs as typed trees: the examples of `src/examples.rt`.
 --     by_choice choice steps input program      how the program stands after so many steps that take the same choice, and what it has written
-use Rattle.std.specs.Prelude.{ℕ, zero, suc, true, false, List, [], ◌∷◌, ◌++◌, replicate, Option, Some, None, option_map, pos, codes}
+use Rattle.std.specs.Prelude.{ℕ, zero, suc, true, false, List, [], ◌∷◌, replicate, Option, Some, None, option_map, pos, codes}
 use Rattle.dm_token.specs.declared.place.Place.{Place}
 use Rattle.dm_token.specs.declared.place.Span.{Span}
-use Rattle.dm_int.specs.declared.Kind.TheVariants.{Char, Int, ULong}
+use Rattle.dm_int.specs.declared.Kind.TheVariants.{Char, Int}
 use Rattle.dm_int.specs.declared.Op.{Op}
 use Rattle.dm_int.specs.declared.Op.TheVariants.{Add, Sub, Mul, Div, Less, Equal}
 use Rattle.dm_type.specs.declared.shape.Shape.TheVariants.{Integer as IntegerShape}
@@ -12,13 +12,12 @@ use Rattle.dm_type.specs.Layouts.{contained}
 use Rattle.dm_type.specs.Tables.{Table, with_struct, with_content}
 use Rattle.dm_tree.specs.declared.unit.Sort.TheVariants.{Object, Function, Enumerator}
 use Rattle.dm_tree.specs.declared.unit.Linkage.TheVariants.{External as ExternalLinkage, Absent}
-use Rattle.dm_tree.specs.Trees.{Label, number, enumerator, literal, object, function, read, decay, convert, address, follow, member, binary, both, choose, comma, store, update, count, call, sizeof_tree, block, declare, full, if_statement, switch, case, default, while_loop, do_loop, for_loop, break, continue, return, Tree, node, trees, Initialiser, one_expression, in_braces, no_items, more_items}
+use Rattle.dm_tree.specs.Trees.{Label, number, enumerator, literal, object, function, read, decay, convert, address, follow, member, binary, both, choose, comma, store, update, count, call, block, declare, full, if_statement, switch, case, default, while_loop, do_loop, for_loop, break, continue, return, Tree, node, trees, Initialiser, one_expression, in_braces, no_items, more_items}
 use Rattle.dm_tree.specs.Units.{Declaration, External, declares, defines_function, TypedUnit}
 use Rattle.dm_meaning.specs.Machines.{Standing}
 use Rattle.dm_meaning.specs.Replaced.{Replaced}
 use Rattle.dm_meaning.specs.ReplacedUnits.{change_of}
-use Rattle.dm_meaning.specs.Called.{Called}
-use Rattle.dm_meaning.specs.Programs.{Definition, Program}
+use Rattle.dm_meaning.specs.Programs.{Program}
 use Rattle.dm_meaning.specs.Units.{program_of}
 use Rattle.dm_meaning.specs.Choices.{run_by}
 use Rattle.dm_meaning.specs.States.{State}
@@ -374,221 +373,12 @@ exiting = program (of_function (codes "exit") (function_type void (more_types in
 abbrev pub unset_read : Program
 unset_read = alone (local (codes "x") int ∷ []) (declared_only 1 ∷ returned (value_at 7 int (named int 1)) ∷ [])
 
--- int n = 0; int *place(void) { return &n; } int main(void) { *place() += 3; return *place() += 3; }
-abbrev pub stored_there : ℕ → Tree
-stored_there place = tree 7 (update Add int) int (tree 0 follow int (called 0 place (pointer int) [] ∷ []) ∷ constant 3 ∷ [])
-
-abbrev there : List External → List Tree → List External
-there others items =
-    external 1 (Some one_expression) (constant 0 ∷ []) ∷ defined 2 [] (returned (tree 0 address (pointer int) (named int 1 ∷ [])) ∷ [])
-    ∷ others ++ defined 0 [] items ∷ []
-
-abbrev pointer_of_nothing : CType
-pointer_of_nothing = function_type (pointer int) no_types
-
-abbrev pub stored_twice : Program
-stored_twice = program (fixed (codes "n") int ∷ of_function (codes "place") pointer_of_nothing ∷ [])
-    (there [] (statement (stored_there 2) ∷ returned (stored_there 2) ∷ []))
-
--- .. int add(void) { return *place() += 3; } int main(void) { add(); return add(); }
-abbrev adding : Tree
-adding = tree 9 block void (returned (stored_there 2) ∷ [])
-
-abbrev pub called_add : Tree
-called_add = called 0 3 int []
-
-abbrev pub called_twice : Program
-called_twice = program (fixed (codes "n") int ∷ of_function (codes "place") pointer_of_nothing ∷ of_function (codes "add") int_of_nothing ∷ [])
-    (there (defined 3 [] (returned (stored_there 2) ∷ []) ∷ []) (statement called_add ∷ returned called_add ∷ []))
-
--- the numbers of the declarations where a fourth one is added
-abbrev pub beyond_third : ℕ → ℕ
-beyond_third zero = 0
-beyond_third (suc zero) = 1
-beyond_third (suc (suc zero)) = 2
-beyond_third (suc (suc (suc d))) = suc (suc (suc (suc d)))
-
--- the change between the two
-abbrev pub calling_twice : Called
-calling_twice = record {
-  old = stored_twice;
-  declared = called_twice.declared;
-  functions = called_twice.functions;
-  statics = called_twice.statics;
-  rename = beyond_third;
-  added = record { function = 3; parameters = []; body = adding };
-  body = stored_there 2;
-}
-
--- int n = 0; int *place(void) { return &n; } int main(void) { int k = 4; k + (*place() += 3); return k * 2 + (*place() += 3); }
-abbrev pub summed : Tree → Tree
-summed argument = operated 0 Add argument (stored_there 2)
-
 abbrev pub doubled : Tree → Tree
 doubled operand = operated 0 Mul operand (constant 2)
-
-abbrev pub summed_twice : Program
-summed_twice = program (fixed (codes "n") int ∷ of_function (codes "place") pointer_of_nothing ∷ local (codes "k") int ∷ [])
-    (there [] (declared_as 3 (constant 4) ∷ statement (summed (reading 3)) ∷ returned (summed (doubled (reading 3))) ∷ []))
-
--- .. int sum(int x) { return x + (*place() += 3); } int main(void) { int k = 4; sum(k); return sum(k * 2); }
-abbrev pub called_with : Tree → Tree
-called_with argument = called 0 3 int (argument ∷ [])
-
-abbrev summing : Tree
-summing = tree 9 block void (returned (summed (reading 4)) ∷ [])
-
-abbrev pub called_with_twice : Program
-called_with_twice =
-    program (fixed (codes "n") int ∷ of_function (codes "place") pointer_of_nothing ∷ of_function (codes "sum") int_of_int ∷ local (codes "x") int ∷ local (codes "k") int ∷ [])
-    (there (defined 3 (4 ∷ []) (returned (summed (reading 4)) ∷ []) ∷ [])
-    (declared_as 5 (constant 4) ∷ statement (called_with (reading 5)) ∷ returned (called_with (doubled (reading 5))) ∷ []))
-
--- the numbers of the declarations where a fourth and a fifth are added
-abbrev pub beyond_two : ℕ → ℕ
-beyond_two zero = 0
-beyond_two (suc zero) = 1
-beyond_two (suc (suc zero)) = 2
-beyond_two (suc (suc (suc d))) = suc (suc (suc (suc (suc d))))
-
--- the change between the two
-abbrev pub calling_with_twice : Called
-calling_with_twice = record {
-  old = summed_twice;
-  declared = called_with_twice.declared;
-  functions = called_with_twice.functions;
-  statics = called_with_twice.statics;
-  rename = beyond_two;
-  added = record { function = 3; parameters = 4 ∷ []; body = summing };
-  body = summed (reading 4);
-}
-
-abbrev pub called_one : Tree → Tree
-called_one argument = called 0 1 int (argument ∷ [])
-
--- int main(void) { int k = 4; return k++ ? 0 : 1; }
-abbrev pub inverted : Tree → Tree
-inverted operand = tree 0 choose int (operand ∷ constant 0 ∷ constant 1 ∷ [])
-
-abbrev pub inverted_unit : TypedUnit
-inverted_unit = unit (local (codes "k") int ∷ []) (defined 0 [] (declared_as 1 (constant 4) ∷ returned (inverted (counted 1)) ∷ []) ∷ [])
-
--- int none(int x) { return x ? 0 : 1; } int main(void) { int k = 4; return none(k++); }
-abbrev pub inverting : Tree
-inverting = tree 9 block void (returned (inverted (reading 2)) ∷ [])
-
-abbrev pub inverting_unit : TypedUnit
-inverting_unit =
-    unit (of_function (codes "none") int_of_int ∷ local (codes "x") int ∷ local (codes "k") int ∷ [])
-    (defined 1 (2 ∷ []) (returned (inverted (reading 2)) ∷ []) ∷ defined 0 [] (declared_as 3 (constant 4) ∷ returned (called_one (counted 3)) ∷ []) ∷ [])
-
--- int main(void) { int k = 4; return k++ * 2 * 2; }
-abbrev pub doubled_count : Program
-doubled_count = alone (local (codes "k") int ∷ []) (declared_as 1 (constant 4) ∷ returned (doubled (doubled (counted 1))) ∷ [])
-
--- int twice(int x) { return x * 2; } int main(void) { int k = 4; return twice(twice(k++)); }
-abbrev pub called_count : Program
-called_count =
-    program (of_function (codes "twice") int_of_int ∷ local (codes "x") int ∷ local (codes "k") int ∷ [])
-    (defined 1 (2 ∷ []) (returned (doubled (reading 2)) ∷ []) ∷ defined 0 [] (declared_as 3 (constant 4) ∷ returned (called_one (called_one (counted 3))) ∷ []) ∷ [])
-
--- the numbers of the declarations where a second and a third are added
-abbrev pub beyond_main : ℕ → ℕ
-beyond_main zero = 0
-beyond_main (suc d) = suc (suc (suc d))
-
--- the change between the two
-abbrev pub calling_double : Called
-calling_double = record {
-  old = doubled_count;
-  declared = called_count.declared;
-  functions = called_count.functions;
-  statics = called_count.statics;
-  rename = beyond_main;
-  added = record { function = 1; parameters = 2 ∷ []; body = tree 9 block void (returned (doubled (reading 2)) ∷ []) };
-  body = doubled (reading 2);
-}
-
--- int main(void) { int k = 4; k++; return k++; }
-abbrev pub counted_twice : Program
-counted_twice = alone (local (codes "k") int ∷ []) (declared_as 1 (constant 4) ∷ statement (counted 1) ∷ returned (counted 1) ∷ [])
-
--- int same(int x) { return x; } int main(void) { int k = 4; same(k++); return same(same(k++)); }
-abbrev pub called_same_twice : Program
-called_same_twice =
-    program (of_function (codes "same") int_of_int ∷ local (codes "x") int ∷ local (codes "k") int ∷ [])
-    (defined 1 (2 ∷ []) (returned (reading 2) ∷ []) ∷
-    defined 0 [] (declared_as 3 (constant 4) ∷ statement (called_one (counted 3)) ∷ returned (called_one (called_one (counted 3))) ∷ []) ∷ [])
-
--- the change between the two
-abbrev pub calling_same : Called
-calling_same = record {
-  old = counted_twice;
-  declared = called_same_twice.declared;
-  functions = called_same_twice.functions;
-  statics = called_same_twice.statics;
-  rename = beyond_main;
-  added = record { function = 1; parameters = 2 ∷ []; body = tree 9 block void (returned (reading 2) ∷ []) };
-  body = reading 2;
-}
-
--- int main(void) { int j = 4, k = 9; return k++ - (j++ - 1); }
-abbrev pub taken : Tree → Tree → Tree
-taken less more = operated 0 Sub more less
-
-abbrev pub taken_unit : TypedUnit
-taken_unit = unit (local (codes "j") int ∷ local (codes "k") int ∷ [])
-    (defined 0 [] (declared_as 1 (constant 4) ∷ declared_as 2 (constant 9) ∷ returned (taken (taken (constant 1) (counted 1)) (counted 2)) ∷ []) ∷ [])
-
-abbrev pub taken_twice : Program
-taken_twice = program_of types taken_unit
-
--- int take(int x, int y) { return y - x; } int main(void) { int j = 4, k = 9; return take(take(1, j++), k++); }
-abbrev pub called_take : Tree → Tree → Tree
-called_take less more = called 0 1 int (less ∷ more ∷ [])
-
-abbrev pub called_take_unit : TypedUnit
-called_take_unit =
-    unit (of_function (codes "take") (function_type int (more_types int (more_types int no_types))) ∷ local (codes "x") int ∷ local (codes "y") int ∷ local (codes "j") int ∷ local (codes "k") int ∷ [])
-    (defined 1 (2 ∷ 3 ∷ []) (returned (taken (reading 2) (reading 3)) ∷ []) ∷
-    defined 0 [] (declared_as 4 (constant 4) ∷ declared_as 5 (constant 9) ∷ returned (called_take (called_take (constant 1) (counted 4)) (counted 5)) ∷ []) ∷ [])
-
-abbrev pub called_take_twice : Program
-called_take_twice = program_of types called_take_unit
-
--- the numbers of the declarations where a second, a third and a fourth are added
-abbrev pub beyond_take : ℕ → ℕ
-beyond_take zero = 0
-beyond_take (suc d) = suc (suc (suc (suc d)))
-
-abbrev pub take : Definition
-take = record { function = 1; parameters = 2 ∷ 3 ∷ []; body = tree 9 block void (returned (taken (reading 2) (reading 3)) ∷ []) }
-
--- the change between the two
-abbrev pub calling_take : Called
-calling_take = record {
-  old = taken_twice;
-  declared = called_take_twice.declared;
-  functions = called_take_twice.functions;
-  statics = called_take_twice.statics;
-  rename = beyond_take;
-  added = take;
-  body = taken (reading 2) (reading 3);
-}
 
 -- int main(void) { return 3 * 2; }
 abbrev pub six_unit : TypedUnit
 six_unit = unit [] (defined 0 [] (returned (doubled (constant 3)) ∷ []) ∷ [])
-
--- int six(void) { return 3 * 2; } int main(void) { return six(); }
-abbrev pub six_body : Tree
-six_body = tree 9 block void (returned (doubled (constant 3)) ∷ [])
-
-abbrev pub called_six : Tree
-called_six = called 0 1 int []
-
-abbrev pub calling_six_unit : TypedUnit
-calling_six_unit = unit (of_function (codes "six") int_of_nothing ∷ []) (defined 1 [] (returned (doubled (constant 3)) ∷ []) ∷ defined 0 [] (returned called_six ∷ []) ∷ [])
 
 -- the numbers of the declarations where a second one is added
 abbrev pub beyond_six : ℕ → ℕ
@@ -661,42 +451,3 @@ enumerated_unit = unit (named_six ∷ []) (record { span = no_span; constants = 
 -- the change between its program and that of `return 3 * 2;`
 abbrev pub enumerating_six : Replaced
 enumerating_six = change_of types enumerated_unit six_unit beyond_six
-
--- struct { int a; int b; } f(void) { struct { .. } s = { 4, 5 }; return s; } extern int e[3]; int main(void) { return f().a + (int)sizeof e; }
-abbrev pair_of_nothing : CType
-pair_of_nothing = function_type (struct 0) no_types
-
-abbrev giving_pair : ℕ → ℕ → External
-giving_pair f s = defined f []
-    (declared_with s (Some (in_braces (more_items one_expression (more_items one_expression no_items)))) (constant 4 ∷ constant 5 ∷ []) ∷ returned (value_at 0 (struct 0) (named (struct 0) s)) ∷ [])
-
-abbrev pub first_of : ℕ → Tree
-first_of f = tree 0 (member 0) int (called 0 f (struct 0) [] ∷ [])
-
-abbrev pub size_of : ℕ → Tree
-size_of d = tree 0 convert int (tree 0 sizeof_tree (integer ULong) (named (array int (Some 3)) d ∷ []) ∷ [])
-
-abbrev pub beside_size : ℕ → Tree → Tree
-beside_size d operand = operated 0 Add operand (size_of d)
-
-abbrev pub sized_member : Program
-sized_member = program (of_function (codes "f") pair_of_nothing ∷ local (codes "s") (struct 0) ∷ fixed (codes "e") (array int (Some 3)) ∷ [])
-    (giving_pair 1 2 ∷ defined 0 [] (returned (beside_size 3 (first_of 1)) ∷ []) ∷ [])
-
--- .. int sized(int x) { return x + (int)sizeof e; } int main(void) { return sized(f().a); }
-abbrev pub called_sized : Program
-called_sized =
-    program (of_function (codes "sized") int_of_int ∷ local (codes "x") int ∷ of_function (codes "f") pair_of_nothing ∷ local (codes "s") (struct 0) ∷ fixed (codes "e") (array int (Some 3)) ∷ [])
-    (defined 1 (2 ∷ []) (returned (beside_size 5 (reading 2)) ∷ []) ∷ giving_pair 3 4 ∷ defined 0 [] (returned (called_one (first_of 3)) ∷ []) ∷ [])
-
--- the change between the two
-abbrev pub calling_sized : Called
-calling_sized = record {
-  old = sized_member;
-  declared = called_sized.declared;
-  functions = called_sized.functions;
-  statics = called_sized.statics;
-  rename = beyond_main;
-  added = record { function = 1; parameters = 2 ∷ []; body = tree 9 block void (returned (beside_size 5 (reading 2)) ∷ []) };
-  body = beside_size 5 (reading 2);
-}

@@ -24,6 +24,5 @@ pub mod MoreObjects
 pub mod Called
 pub mod CalledWith
 pub mod CalledWithAll
-pub mod CalledUnits
 pub mod Choices
 pub mod Examples

@@ -75,9 +75,6 @@ abbrev mutual
 abbrev pub IsExpression : Core → Type 0
 IsExpression core = (types : Table) → IsTrue (is_expression (view types core))
 
-abbrev pub AreExpressions : List Core → Type 0
-AreExpressions cores = (types : Table) → IsTrue (all_expressions (map (view types) cores))
-
 abbrev pub IsWhole : Core → Type 0
 IsWhole core = (types : Table) → IsTrue (is_whole (view types core))
 

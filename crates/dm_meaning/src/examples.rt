@@ -1,15 +1,12 @@
 //! Small programs by the machine's definitions, each run by a choice of steps: 0 is the leftmost, 9 here always the last. What they come
 //! to is what ISO/IEC 9899:2011 says; each is proved by computing.
 
-ghost use Rattle.std.specs.Prelude.{◌≡◌, ℕ, [], ◌∷◌, ◌++◌, Some, codes};
+ghost use Rattle.std.specs.Prelude.{◌≡◌, [], ◌∷◌, ◌++◌, Some, codes};
 ghost use Rattle.dm_int.specs.declared.Kind.TheVariants.{Int, Long};
 ghost use Rattle.dm_int.specs.declared.Op.TheVariants.{Sub, Less, Equal};
 ghost use Rattle.dm_type.specs.CTypes.{integer};
 ghost use Rattle.dm_meaning.specs.declared.cause.Cause.TheVariants.{Overflow, Division, Conflict, Null, Bounds, Pointer, Life, Unset, OtherType, Const, NoValue, External};
 ghost use Rattle.dm_meaning.specs.Machines.{going, exited, undefined};
-ghost use Rattle.dm_meaning.specs.Called.{new_of, IsCalling};
-ghost use Rattle.dm_meaning.specs.CalledWith.{IsCallingWith};
-ghost use Rattle.dm_meaning.specs.CalledWithAll.{IsCallingWithAll};
 ghost use Rattle.dm_meaning.specs.Refinement.{Refines};
 ghost use Rattle.dm_meaning.specs.Replaced as replaced;
 ghost use Rattle.dm_meaning.specs.Replaced.{IsReplacement};
@@ -146,71 +143,6 @@ pub fn values_fit_their_types()
     ensures unset { by_choice 0 60 [] examples.unset_read ≡ Some (undefined Unset (at 7), []) }
 {}
 
-/// A program with calls of an added function meets each premise of `called_refines`, and refines the program without them.
-pub fn calls_of_an_added_function_refine()
-    ensures stored { by_choice 0 60 [] examples.stored_twice ≡ Some (exited 6, []) }
-    ensures called { by_choice 0 60 [] examples.called_twice ≡ Some (exited 6, []) }
-    ensures new { new_of examples.calling_twice ≡ examples.called_twice }
-    ensures premises { IsCalling examples.calling_twice }
-    ensures refines { Refines (machine_of examples.called_twice) (machine_of examples.stored_twice) }
-{}
-
-/// A program with calls of an added function with a parameter meets each premise of `called_with_refines`.
-pub fn calls_with_a_parameter_refine()
-    ensures summed_from_the_left { by_choice 0 90 [] examples.summed_twice ≡ Some (exited 14, []) }
-    ensures summed_from_the_right { by_choice 9 90 [] examples.summed_twice ≡ Some (exited 14, []) }
-    ensures called_from_the_left { by_choice 0 90 [] examples.called_with_twice ≡ Some (exited 14, []) }
-    ensures called_from_the_right { by_choice 9 90 [] examples.called_with_twice ≡ Some (exited 14, []) }
-    ensures new { new_of examples.calling_with_twice ≡ examples.called_with_twice }
-    ensures premises { IsCallingWith examples.calling_with_twice 4 }
-    ensures refines { Refines (machine_of examples.called_with_twice) (machine_of examples.summed_twice) }
-{}
-
-/// A program with such calls in the arguments of others meets them too.
-pub fn nested_calls_with_a_parameter_refine()
-    ensures doubled { by_choice 0 90 [] examples.doubled_count ≡ Some (exited 16, []) }
-    ensures called { by_choice 0 90 [] examples.called_count ≡ Some (exited 16, []) }
-    ensures new { new_of examples.calling_double ≡ examples.called_count }
-    ensures premises { IsCallingWith examples.calling_double 2 }
-    ensures refines { Refines (machine_of examples.called_count) (machine_of examples.doubled_count) }
-{}
-
-/// A unit with calls of an added function with a parameter meets each premise of `called_with_units_refine`.
-pub fn units_with_calls_refine()
-    ensures inverted { by_choice 0 90 [] (program_of examples.types examples.inverted_unit) ≡ Some (exited 0, []) }
-    ensures called { by_choice 0 90 [] (program_of examples.types examples.inverting_unit) ≡ Some (exited 0, []) }
-    ensures refines { Refines (machine_of (program_of examples.types examples.inverting_unit)) (machine_of (program_of examples.types examples.inverted_unit)) }
-{}
-
-/// A program with calls of an added function with two parameters meets each premise of `called_with_all_refines`, and a unit
-/// with them each one of `called_with_all_units_refine`.
-pub fn calls_with_two_parameters_refine()
-    ensures taken_from_the_left { by_choice 0 90 [] examples.taken_twice ≡ Some (exited 6, []) }
-    ensures taken_from_the_right { by_choice 9 90 [] examples.taken_twice ≡ Some (exited 6, []) }
-    ensures called_from_the_left { by_choice 0 90 [] examples.called_take_twice ≡ Some (exited 6, []) }
-    ensures called_from_the_right { by_choice 9 90 [] examples.called_take_twice ≡ Some (exited 6, []) }
-    ensures new { new_of examples.calling_take ≡ examples.called_take_twice }
-    ensures premises { IsCallingWithAll examples.calling_take }
-    ensures refines { Refines (machine_of examples.called_take_twice) (machine_of examples.taken_twice) }
-    ensures units_refine { Refines (machine_of (program_of examples.types examples.called_take_unit)) (machine_of (program_of examples.types examples.taken_unit)) }
-{}
-
-/// A program with calls of an added function that only returns its parameter meets each premise of `called_with_all_refines`.
-pub fn calls_that_return_their_argument_refine()
-    ensures counted { by_choice 0 60 [] examples.counted_twice ≡ Some (exited 5, []) }
-    ensures called { by_choice 0 90 [] examples.called_same_twice ≡ Some (exited 5, []) }
-    ensures new { new_of examples.calling_same ≡ examples.called_same_twice }
-    ensures premises { IsCallingWithAll examples.calling_same }
-    ensures refines { Refines (machine_of examples.called_same_twice) (machine_of examples.counted_twice) }
-{}
-
-/// A unit with calls of an added function without parameters meets each premise of `called_units_refine`.
-pub fn units_with_calls_without_arguments_refine()
-    ensures written { by_choice 0 60 [] (program_of examples.types examples.six_unit) ≡ Some (exited 6, []) }
-    ensures called { by_choice 0 60 [] (program_of examples.types examples.calling_six_unit) ≡ Some (exited 6, []) }
-    ensures refines { Refines (machine_of (program_of examples.types examples.calling_six_unit)) (machine_of (program_of examples.types examples.six_unit)) }
-{}
-
 /// A program in which an enumerator stands in place of a constant expression meets each premise of `enumerated_refines`, and its
 /// unit each one of `units_refine`.
 pub fn enumerators_refine()
@@ -221,13 +153,4 @@ pub fn enumerators_refine()
     ensures refines { Refines (machine_of (replaced.new_of examples.enumerating_six)) (machine_of examples.enumerating_six.old) }
     ensures unit_premises { IsUnitReplacement examples.types examples.enumerated_unit examples.six_unit examples.beyond_six }
     ensures units_refine { Refines (machine_of (program_of examples.types examples.enumerated_unit)) (machine_of (program_of examples.types examples.six_unit)) }
-{}
-
-/// A member of what a function returns may be an argument, and the expression may name an object that the program doesn't define.
-pub fn calls_with_a_member_and_an_undefined_object_refine()
-    ensures sized { by_choice 0 90 [] examples.sized_member ≡ Some (exited 16, []) }
-    ensures called { by_choice 0 90 [] examples.called_sized ≡ Some (exited 16, []) }
-    ensures new { new_of examples.calling_sized ≡ examples.called_sized }
-    ensures premises { IsCallingWithAll examples.calling_sized }
-    ensures refines { Refines (machine_of examples.called_sized) (machine_of examples.sized_member) }
 {}

@@ -5,15 +5,10 @@ ghost use Rattle.dm_meaning.specs.MoreObjects.{IsSettled, Spared, with_memory};
 ghost use Rattle.dm_meaning.specs.Refinement.{Refines};
 ghost use Rattle.dm_meaning.specs.Replaced.{Replaced, new_of, IsReplacement};
 ghost use Rattle.dm_meaning.specs.Choices.{run_by};
-ghost use Rattle.dm_meaning.specs.Called as called;
-ghost use Rattle.dm_meaning.specs.Called.{Called, IsCalling};
-ghost use Rattle.dm_meaning.specs.CalledUnits.{IsUnitCalling, IsUnitCallingWith, IsUnitCallingWithAll};
-ghost use Rattle.dm_meaning.specs.CalledWith.{IsCallingWith};
-ghost use Rattle.dm_meaning.specs.CalledWithAll.{IsCallingWithAll};
 ghost use Rattle.dm_meaning.specs.Simulation.{IsSimulation, GoesWrong};
 ghost use Rattle.dm_meaning.specs.Values.{At, Value};
-ghost use Rattle.dm_meaning.specs.Programs.{Definition, Program};
-ghost use Rattle.dm_tree.specs.Trees.{Label, Tree};
+ghost use Rattle.dm_meaning.specs.Programs.{Program};
+ghost use Rattle.dm_tree.specs.Trees.{Label};
 ghost use Rattle.dm_type.specs.CTypes.{CType};
 ghost use Rattle.dm_meaning.specs.Operations.{World, Scene, Operand, operate};
 ghost use Rattle.dm_meaning.specs.Running.{Run, Hole, filled_in, hole_in, IsOpen, locks_in};
@@ -123,14 +118,6 @@ pub fn extended_answers()
         → SameOptionalAnswer (Prim name kind layout memory arguments input output) (Prim name kind layout more arguments input output) }
 {}
 
-/// A program in which calls of an added function without parameters, whose body is one `return` of an expression, stand in
-/// place of the expression, at any places in any functions, refines the program with the expression. The expression gives a
-/// value and names no objects but those of static storage duration, which the program may define or not, and the values of
-/// `case` labels stay the same.
-pub fn called_refines()
-    ensures { (change : Called) → IsCalling change → Refines (machine_of (called.new_of change)) (machine_of change.old) }
-{}
-
 /// A step from a state with more objects in memory, which the state doesn't name, is a step from the state without them, and
 /// leaves them as they were, unless the program can go wrong without them.
 pub fn spared_steps()
@@ -141,48 +128,4 @@ pub fn spared_steps()
 /// Whatever a state names at the beginning of a run has been made.
 pub fn settled_beginnings()
     ensures { (program : Program) (input : List ℕ) (state : State) → Begins program input state → IsSettled state }
-{}
-
-/// A program in which calls of an added function with one parameter, whose body is one `return` of an expression, stand in
-/// place of the expression with the argument in place of the parameter, at any places in any functions, refines the program
-/// with the expression. The expression gives a value, reads the parameter once, and first, below its outermost operator, and
-/// names no other objects but those of static storage duration, which the program may define or not. The argument gives a value
-/// of another type than void; it may have effects, and calls of the added function in it. The values of `case` labels stay the
-/// same.
-pub fn called_with_refines()
-    ensures { (change : Called) (parameter : ℕ) → IsCallingWith change parameter → Refines (machine_of (called.new_of change)) (machine_of change.old) }
-{}
-
-/// A translation unit in which calls of an added function without parameters stand in place of its expression refines the unit
-/// with the expression.
-pub fn called_units_refine()
-    ensures { (table : Table) (new old : TypedUnit) (rename : ℕ → ℕ) (added : Definition) (body : Tree)
-        → IsUnitCalling table new old rename added body
-        → Refines (machine_of (program_of table new)) (machine_of (program_of table old)) }
-{}
-
-/// A translation unit in which calls of an added function with one parameter stand in place of its expression, with the
-/// argument in it, refines the unit with the expression.
-pub fn called_with_units_refine()
-    ensures { (table : Table) (new old : TypedUnit) (rename : ℕ → ℕ) (added : Definition) (body : Tree) (parameter : ℕ)
-        → IsUnitCallingWith table new old rename added body parameter
-        → Refines (machine_of (program_of table new)) (machine_of (program_of table old)) }
-{}
-
-/// A program in which calls of an added function, whose body is one `return` of an expression, stand in place of the expression
-/// with the arguments in place of the parameters, at any places in any functions, refines the program with the expression. The
-/// function has any number of parameters, none among them. The expression gives a value, reads each parameter once, and first,
-/// and names no other objects but those of static storage duration, which the program may define or not; it may be a parameter
-/// and nothing else. The arguments give values of other types than void; they may have effects, and calls of the added function
-/// in them, and are evaluated in any order. The values of `case` labels stay the same.
-pub fn called_with_all_refines()
-    ensures { (change : Called) → IsCallingWithAll change → Refines (machine_of (called.new_of change)) (machine_of change.old) }
-{}
-
-/// A translation unit in which calls of an added function with any parameters stand in place of its expression, with the
-/// arguments in it, refines the unit with the expression.
-pub fn called_with_all_units_refine()
-    ensures { (table : Table) (new old : TypedUnit) (rename : ℕ → ℕ) (added : Definition) (body : Tree)
-        → IsUnitCallingWithAll table new old rename added body
-        → Refines (machine_of (program_of table new)) (machine_of (program_of table old)) }
 {}

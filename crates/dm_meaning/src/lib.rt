@@ -8,20 +8,14 @@ mod laws;
 
 pub use cause::Cause;
 pub use examples::{
-    and_stops_at_0, calls_come_in_any_order, calls_of_an_added_function_refine,
-    calls_that_return_their_argument_refine, calls_with_a_member_and_an_undefined_object_refine,
-    calls_with_a_parameter_refine, calls_with_two_parameters_refine, const_makes_no_other_type,
-    enumerators_refine, functions_have_frames_of_their_own, inputs_are_bytes,
-    nested_calls_with_a_parameter_refine, objects_have_first_values,
+    and_stops_at_0, calls_come_in_any_order, const_makes_no_other_type, enumerators_refine,
+    functions_have_frames_of_their_own, inputs_are_bytes, objects_have_first_values,
     other_causes_are_met_at_their_nodes, pointers_keep_to_their_objects, statements_jump,
-    the_least_program_ends_after_four_steps, units_with_calls_refine,
-    units_with_calls_without_arguments_refine, unsequenced_stores_conflict,
+    the_least_program_ends_after_four_steps, unsequenced_stores_conflict,
     unset_and_dead_are_carried_and_not_used, values_fit_their_types,
 };
 pub use laws::{
-    Simulation, called_refines, called_units_refine, called_with_all_refines,
-    called_with_all_units_refine, called_with_refines, called_with_units_refine, chosen_runs,
-    enumerated_refines, extended_answers, extended_steps, inner_locks, inner_steps, own_lifetimes,
-    refines_itself, refines_through, settled_beginnings, simulated, spared_steps, unended_steps,
-    units_refine,
+    Simulation, chosen_runs, enumerated_refines, extended_answers, extended_steps, inner_locks,
+    inner_steps, own_lifetimes, refines_itself, refines_through, settled_beginnings, simulated,
+    spared_steps, unended_steps, units_refine,
 };

@@ -218,22 +218,6 @@ module _ (one other : List Shape) (number : ℕ → ℕ) (re : Renumbers one oth
     beginning-other None = refl
     beginning-other (Some n) = refl
 
-    tag-declared-one : (tag : Option ℕ) (type : CType) → tag_declared setting (by_one known) tag type ≡ at_one one (tag_declared setting known tag type)
-    tag-declared-one None type = refl
-    tag-declared-one (Some at) type = refl
-
-    tag-declared-other : (tag : Option ℕ) (type : CType) → tag_declared setting (by_other known) tag type ≡ at_other other number (tag_declared setting known tag type)
-    tag-declared-other None type = refl
-    tag-declared-other (Some at) type = refl
-
-    tag-inside-one : (tag : Option ℕ) → tag_inside setting (by_one known) tag ≡ tag_inside setting known tag
-    tag-inside-one None = refl
-    tag-inside-one (Some at) = refl
-
-    tag-inside-other : (tag : Option ℕ) → tag_inside setting (by_other known) tag ≡ tag_inside setting known tag
-    tag-inside-other None = refl
-    tag-inside-other (Some at) = refl
-
     enumerator-declared-both : (at : ℕ) (value : ℤ) → Both one other number (enumerator_declared setting (by_one known) at value) (enumerator_declared setting (by_other known) at value)
     enumerator-declared-both at value =
         obeys-both one other number (not (is_declared known.scopes (spelling_at setting.source at))) _ 2 at _ _ refl

@@ -11,8 +11,8 @@ use Rattle.dm_io.specs.Files.{Files}
 use Rattle.dm_search.specs.Loaded.{Loaded}
 use Rattle.dm_reading.specs.declared.reading.Reading.{Reading}
 use Rattle.dm_reading.specs.Layered.{IsLayered}
-use Rattle.dm_project.specs.Again.{reads, NextAgain, ReadsAgain, IsCountedWith, IsReadAgain}
-use Rattle.dm_project.specs.Units.{Ending, ending, ReadsUnits, IsCounted, ReadsProject}
+use Rattle.dm_readings.specs.Again.{reads, NextAgain, ReadsAgain, IsCountedWith, IsReadAgain}
+use Rattle.dm_readings.specs.Units.{Ending, ending, ReadsUnits, IsCounted, ReadsProject}
 
 abbrev pub AllLayered : List Reading → Type 0
 AllLayered readings = AllByRecursion IsLayered readings

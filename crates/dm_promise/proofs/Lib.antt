@@ -1,3 +1,3 @@
-mod CallLemmas
 mod LayerLemmas
 mod PlanLemmas
+mod ProposalLemmas

@@ -9,30 +9,20 @@ ghost use Rattle.dm_edit.specs.declared.plan.Plan.{Plan};
 ghost use Rattle.dm_planning.specs.Judging.{Project};
 ghost use Rattle.dm_planning.specs.Plans.{IsPlan, IsPlanned, ReadsFirst};
 ghost use Rattle.dm_last.specs.Last.{with_files};
-ghost use Rattle.dm_promise.specs.Promises.{AllRefine, IsCovered, KeepsPrograms, NeedsNoCalls};
+ghost use Rattle.dm_promise.specs.Promises.{AllRefine, KeepsPrograms};
 
 use dm_defined::definitions_are_made;
 use dm_kept::{
     first_readings_are_current, readings_again_are_current, readings_stay_where_bytes_are_put_back,
 };
 use dm_last::last_readings_are_of_the_files;
-use dm_refined::{aligned_readings_refine, kept_readings_refine, unbroken_projects_keep_the_rules};
+use dm_refined::{kept_readings_refine, unbroken_projects_keep_the_rules};
 
-/// Where a folder tells its files, and each definition that the plan of a project rewrites becomes an enumerator or a const object, the program of
-/// each unit, as it is read with all edits, refines the program of the unit as it was read first.
+/// Where a folder tells its files, the program of each unit of a planned project, as it is read with all edits, refines the program of the unit as it
+/// was read first.
 pub fn planned_programs_refine()
-    ensures { (files : Files) (units : List Source) (old new : Loaded) (count now : ℕ) (plan : Plan) → IsPlanned (Some files) units old count (Ok plan) new now
-        → NeedsNoCalls plan.entries
-        → (first last : Project) × ReadsFirst (Some files) units old count first × IsPlan (Some files) units first last plan × AllRefine last.readings first.readings }
-{
-    // The law on which its proof rests.
-    aligned_readings_refine();
-}
-
-/// Where definitions become functions too, so it is as far as these meet what isn't proved yet of functions.
-pub fn planned_calls_refine()
     ensures { (files : Files) (units : List Source) (count : ℕ) (first last : Project) (plan : Plan) → ReadsFirst (Some files) units fresh count first
-        → (planned : IsPlan (Some files) units first last plan) → IsCovered files units first last plan planned → AllRefine last.readings first.readings }
+        → IsPlan (Some files) units first last plan → AllRefine last.readings first.readings }
 {
     // The laws on which its proof rests.
     kept_readings_refine();
@@ -49,6 +39,6 @@ pub fn applied_programs_refine()
         → with_files (Some before) plan.files ≡ Some after → KeepsPrograms before after units plan }
 {
     // The laws on which its proof rests.
-    planned_calls_refine();
+    planned_programs_refine();
     last_readings_are_of_the_files();
 }

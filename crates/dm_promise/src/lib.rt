@@ -3,4 +3,4 @@
 
 mod laws;
 
-pub use laws::{applied_programs_refine, planned_calls_refine, planned_programs_refine};
+pub use laws::{applied_programs_refine, planned_programs_refine};

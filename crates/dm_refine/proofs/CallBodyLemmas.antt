@@ -1,6 +1,4 @@
 -- The expression of an added function, against that of a run.
---     body_same      where no parameter is read, they are the same, and each function means the same by the names in them
---     body_holds      where each parameter is read first, they are the same but for the arguments
 --     counted      as many trees stand for a parameter as it is read times
 use Rattle.std.specs.Prelude.{◌≡◌, refl, ◌⊎◌, ℕ, zero, suc, ◌+◌, Bool, true, false, not, ◌&&◌, ◌||◌, ◌==◌, IsTrue, IfSome, IsSome, List, [], ◌∷◌, length, Option, Some, None, slice_get, if◌then◌else◌}
 use Rattle.std.proofs.Common.{arith, ap, sym, ◌∙◌, subst, inl, inr, length-append}
@@ -11,28 +9,24 @@ use Rattle.dm_type.specs.CTypes.{CType, bare}
 use Rattle.dm_tree.specs.Composites.{covers}
 use Rattle.dm_tree.specs.Initialisers.{is_object}
 use Rattle.dm_tree.specs.Scenes.{Scene}
-use Rattle.dm_tree.specs.Trees.{Label, enumerator, object, function, read, convert, sizeof_kind, block, declare, for_loop, is_statement, Spans, Tree, Trees, node, no_trees, more_trees, kind_of, listed}
+use Rattle.dm_tree.specs.Trees.{Label, enumerator, object, function, read, convert, sizeof_kind, block, declare, for_loop, is_statement, Spans, Tree, Trees, node, no_trees, more_trees, listed}
 use Rattle.dm_tree.specs.Typing.{Fits, inside, IsWellTyped, AreWellTyped}
 use Rattle.dm_tree.specs.Units.{Declaration}
 use Rattle.dm_meaning.specs.Among.{IsAmong}
-use Rattle.dm_meaning.specs.Called.{Called, IsSame, AreSame, means_the_same, is_static_number, is_nowhere_local}
-use Rattle.dm_meaning.specs.CalledWithAll.{given, AreDistinct, times_here, times_named, times_named_in, IsParameter, HoldsBelow, HoldsWhole}
+use Rattle.dm_meaning.specs.Called.{Called, means_the_same, is_static_number, is_nowhere_local}
+use Rattle.dm_meaning.specs.CalledWithAll.{AreDistinct, times_here, times_named, times_named_in}
 use Rattle.dm_meaning.specs.Objects.{agree_without_const}
 use Rattle.dm_meaning.specs.Replaced.{relabelled}
-use Rattle.dm_meaning.specs.Running.{Open, first_open, others_open, open_of}
 use Rattle.dm_meaning.specs.Statements.{kind_declared}
-use Rattle.dm_meaning.specs.Wholes.{is_expression, are_expressions}
-use Rattle.dm_meaning.proofs.AmongLemmas.{among_left, among_right}
 use Rattle.dm_meaning.proofs.GrowLemmas.{equal_is, equal_of, differ_is}
-use Rattle.dm_meaning.proofs.MatchLemmas.{open_of_relabelled}
 use Rattle.dm_meaning.proofs.OptionLemmas.{none_is_some, some_is_some, and_left, and_right}
 use Rattle.dm_effect.specs.Entities.{object_first}
 use Rattle.dm_effect.specs.Scoped.{is_in_scope, names_in_scope, scopes_of, same_scopes, is_scoped, are_scoped}
 use Rattle.dm_agree.specs.Agreement.{Rewriting, SameNode, IsReadOf, Here, here_below, BodyBy, SameBody, SameBodies, Left, left_at, standing_in, standing_below}
-use Rattle.dm_refine.specs.Calls.{HasNone, HasNoLengths, HaveNoLengths, IsNoLocal, NamesNoLocal, NameNoLocal, TypeNamesNone, AreTypesPlain, AllTypesPlain}
+use Rattle.dm_plain.specs.Plain.{IsNoLocal, NamesNoLocal, NameNoLocal, TypeNamesNone}
 use Rattle.dm_refine.proofs.ConstantTreeLemmas.{inside_declared}
 use Rattle.dm_refine.proofs.CoverLemmas.{agrees_covered}
-use Rattle.dm_refine.proofs.ReadFirstLemmas.{NamesNone, NameNone, IfFirst, OnlyFirst, OnlyFirstBelow, times_read, either}
+use Rattle.dm_refine.proofs.ReadFirstLemmas.{times_read, either}
 
 -- ---- numbers
 
@@ -143,23 +137,6 @@ scopes_inside automatic scope block parts e none h = absurd (true≢false e)
 scopes_inside automatic scope (for_loop first second third) parts e none h = absurd (true≢false e)
 scopes_inside automatic scope label parts e none h = h
 
--- where type names have none of these, they name nothing
-none_named : (automatic : ℕ → Bool) (label : Label) (parts : Trees) → HasNone label parts → TypeNamesNone automatic label parts
-none_named automatic convert (more_trees operand no_trees) h = tt
-none_named automatic convert (more_trees operand (more_trees second rest)) h = absurd h
-none_named automatic convert no_trees h = absurd h
-none_named automatic (sizeof_kind type) no_trees h = tt
-none_named automatic (sizeof_kind type) (more_trees first rest) h = absurd h
-none_named automatic label parts h = tt
-
-mutual
-  pub without_lengths : (automatic : ℕ → Bool) (tree : Tree) → HasNoLengths tree → AreTypesPlain automatic tree
-  without_lengths automatic (node label kind spans parts) h = (none_named automatic label parts h.0, all_without_lengths automatic parts h.1)
-
-  all_without_lengths : (automatic : ℕ → Bool) (trees : Trees) → HaveNoLengths trees → AllTypesPlain automatic trees
-  all_without_lengths automatic no_trees h = tt
-  all_without_lengths automatic (more_trees first rest) h = (without_lengths automatic first h.0, all_without_lengths automatic rest h.1)
-
 -- a number that isn't among others
 pub not_in_scope : (c : ℕ) (ps : List ℕ) → ((p : ℕ) → IsAmong p ps → c ≡ p → ⊥) → is_in_scope ps c ≡ false
 not_in_scope c [] other = refl
@@ -194,12 +171,6 @@ by_here rewriting ps (one ∷ others) runs label kind parts other Below h = by_f
     by_found None e reads = absurd reads
     by_found (Some d) e reads = inr (record { one = one; others = others; is = refl; parameter = d; found = e; reads = reads })
 
-node_here : (rewriting : Rewriting) (ps : List ℕ) (occurrences : List Occurrence) (label : Label) (kind : CType) (parts : Trees) (other : Tree) (Below : Type 0)
-    → NameNone ps parts → IsNodeHere rewriting occurrences label kind other Below ⊎ ReadsHere ps occurrences label kind parts other → SameNode rewriting label kind other × Below
-node_here rewriting ps occurrences label kind parts other Below none (inl h) = (h.same, h.below)
-node_here rewriting ps occurrences label kind parts other Below none (inr h) =
-    absurd (names_first parts h.parameter h.reads.2 (none h.parameter (slice_among ps h.one.parameter h.parameter h.found)))
-
 -- ---- the expression
 
 module _ (change : Called) (own : (p : ℕ) → IsAmong p change.added.parameters → (d : ℕ) → change.rename d ≡ p → ⊥) where
@@ -214,107 +185,11 @@ module _ (change : Called) (own : (p : ℕ) → IsAmong p change.added.parameter
         (or_other (not (automatic (change.rename d))) (is_in_scope ps (change.rename d)) (not_in_scope (change.rename d) ps (λ p k. own p k d)) (sym (ap (names_in_scope automatic ps) e) ∙ h))))
     same_meaning label other e h = refl
 
-    mutual
-      pub body_same : (rewriting : Rewriting) → rewriting.rename ≡ change.rename → (run : Run) (here : Here) (tree other : Tree) → is_expression tree ≡ true → is_scoped automatic ps tree ≡ true → AreTypesPlain automatic tree
-          → NamesNone ps tree → SameBody rewriting ps run here tree other → IsSame change tree other
-      body_same rewriting r run here (node label kind spans parts) (node other other_kind other_spans others) expression scoped plain none h =
-          let none_below : NameNone ps parts = λ p k. omega (arith, none p k) in
-          let same = node_here rewriting ps here.occurrences label kind parts (node other other_kind other_spans others) _ none_below
-          (by_here rewriting ps here.occurrences here.runs label kind parts (node other other_kind other_spans others) _ h) in
-          let renamed = same.0.0 ∙ ap (λ rename. relabelled rename other) r in (
-            renamed,
-            same.0.1,
-            same_meaning label other renamed (and_left (names_in_scope automatic ps label) _ scoped),
-            bodies_same rewriting r run other other_spans parts others (and_right (not (is_statement label)) _ expression)
-                (scopes_inside automatic ps label parts (not_true (is_statement label) (and_left (not (is_statement label)) _ expression)) plain.0 (and_right (names_in_scope automatic ps label) _ scoped))
-                plain.1 none_below same.1,
-          )
-
-      bodies_same : (rewriting : Rewriting) → rewriting.rename ≡ change.rename → (run : Run) (label : Label) (spans : Spans) (trees others : Trees) → are_expressions trees ≡ true
-          → are_scoped automatic (same_scopes ps trees) trees ≡ true → AllTypesPlain automatic trees → NameNone ps trees → SameBodies rewriting ps run label spans trees others → AreSame change trees others
-      bodies_same rewriting r run label spans no_trees no_trees expression scoped plain none h = tt
-      bodies_same rewriting r run label spans no_trees (more_trees other others) expression scoped plain none h = absurd h
-      bodies_same rewriting r run label spans (more_trees first rest) no_trees expression scoped plain none h = absurd h
-      bodies_same rewriting r run label spans (more_trees first rest) (more_trees other others) expression scoped plain none h = (
-        body_same rewriting r run (here_below rewriting run label spans other) first other (and_left (is_expression first) _ expression) (and_left (is_scoped automatic ps first) _ scoped) plain.0
-            (λ p k. omega (arith, none p k)) h.0,
-        bodies_same rewriting r run label spans rest others (and_right (is_expression first) _ expression) (and_right (is_scoped automatic ps first) _ scoped) plain.1
-            (λ p k. omega (arith, none p k)) h.1,
-      )
-
-    -- a part that may be evaluated, and another
-    pub by_open : (b : Bool) (first other Open_part Other : Type 0) → IfFirst b first other → (first → Open_part) → (other → Other) → Other ⊎ (IsTrue b × Open_part)
-    by_open true first other Open_part Other h f g = inr (refl, f h)
-    by_open false first other Open_part Other h f g = inl (g h)
-
-    -- the trees that stand for a parameter are the argument
-    abbrev pub AreGiven : Trees → (ℕ → List Left) → Type 0
-    AreGiven arguments lefts =
-        (n : ℕ) (left : Left) → IsAmong left (lefts n) → (p : ℕ) → slice_get ps n ≡ Some p → given ps (listed arguments) p ≡ Some left.tree
-
     -- where an occurrence is, the tree itself
     pub left_here : (n : ℕ) (one : Occurrence) (others : List Occurrence) (runs : List Run) (tree : Tree) (below : List Left) → one.parameter ≡ n
         → IsAmong {X = Left} (record { runs = runs; tree = tree }) (left_at n (one ∷ others) runs tree below)
     left_here n one others runs tree below e =
         subst (λ b. IsAmong {X = Left} (record { runs = runs; tree = tree }) (if b then record { runs = runs; tree = tree } ∷ [] else [])) (sym (equal_is one.parameter n e)) (inl refl)
-
-    module _ (arguments : Trees) where
-      read_holds : (scene : Scene) → scene.declared ≡ change.declared → (label : Label) (kind : CType) (spans : Spans) (parts : Trees) (other : Tree) → Fits scene label kind (listed parts)
-          → AreWellTyped (inside scene label (listed parts)) parts → (occurrences : List Occurrence) (runs : List Run) (below : ℕ → List Left)
-          → AreGiven arguments (λ n. left_at n occurrences runs other (below n)) → ReadsHere ps occurrences label kind parts other → IsParameter change arguments (node label kind spans parts) other
-      read_holds scene e label kind spans parts other fits typed occurrences runs below gives h =
-          let there = read_object change.declared scene e kind parts h.parameter (subst (λ (l : Label). Fits scene l kind (listed parts)) h.reads.0 fits)
-          (subst (λ (l : Label). AreWellTyped (inside scene l (listed parts)) parts) h.reads.0 typed) h.reads.2 in
-          record {
-            parameter = h.parameter;
-            spans = spans;
-            named_kind = there.named_kind;
-            named_spans = there.named_spans;
-            is = ap (λ (l : Label). node l kind spans parts) h.reads.0 ∙ (ap (λ (k : CType). node read k spans parts) h.reads.1 ∙ ap (λ (ps : Trees). node read (kind_of other) spans ps) there.alone);
-            own = ap not (subst (λ (k : CType). agree_without_const (bare (kind_declared (slice_get change.declared h.parameter))) k ≡ true) h.reads.1 there.own);
-            stands = gives h.one.parameter (record { runs = runs; tree = other })
-                (subst (λ (found : List Occurrence). IsAmong {X = Left} (record { runs = runs; tree = other }) (left_at h.one.parameter found runs other (below h.one.parameter))) (sym h.is)
-                (left_here h.one.parameter h.one h.others runs other (below h.one.parameter) refl)) h.parameter h.found;
-          }
-
-      mutual
-        pub body_holds : (rewriting : Rewriting) → rewriting.rename ≡ change.rename → (run : Run) (scene : Scene) → scene.declared ≡ change.declared → (here : Here) (tree other : Tree) → IsWellTyped scene tree
-            → is_expression tree ≡ true → is_scoped automatic ps tree ≡ true → AreTypesPlain automatic tree → OnlyFirst ps tree → SameBody rewriting ps run here tree other
-            → AreGiven arguments (λ n. standing_in rewriting run n here other) → HoldsWhole change arguments tree other
-        body_holds rewriting r run scene e here (node label kind spans parts) (node other other_kind other_spans others) typed expression scoped plain first h gives =
-            let was = node other other_kind other_spans others in
-            either (IsNodeHere rewriting here.occurrences label kind was (SameBodies rewriting ps run other other_spans parts others)) (ReadsHere ps here.occurrences label kind parts was)
-            (HoldsWhole change arguments (node label kind spans parts) was)
-            (λ same.
-            let renamed = same.same.0 ∙ ap (λ rename. relabelled rename other) r in
-            inr (
-              renamed,
-              same.same.1,
-              same_meaning label other renamed (and_left (names_in_scope automatic ps label) _ scoped),
-              bodies_hold rewriting r run (inside scene label (listed parts)) (inside_declared scene label (listed parts) ∙ e) other other_spans (open_of other) parts others typed.1
-                  (and_right (not (is_statement label)) _ expression)
-                  (scopes_inside automatic ps label parts (not_true (is_statement label) (and_left (not (is_statement label)) _ expression)) plain.0 (and_right (names_in_scope automatic ps label) _ scoped))
-                  plain.1 (subst (λ (opens : Open). OnlyFirstBelow ps opens parts) (ap open_of renamed ∙ open_of_relabelled change.rename other) first) same.below
-                  (subst (λ (occurrences : List Occurrence). AreGiven arguments (λ n. left_at n occurrences here.runs was (standing_below rewriting run n other other_spans others))) same.none gives),
-            ))
-            (λ reads. inl (read_holds scene e label kind spans parts was typed.0 typed.1 here.occurrences here.runs (λ n. standing_below rewriting run n other other_spans others) gives reads))
-            (by_here rewriting ps here.occurrences here.runs label kind parts was _ h)
-
-        bodies_hold : (rewriting : Rewriting) → rewriting.rename ≡ change.rename → (run : Run) (scene : Scene) → scene.declared ≡ change.declared → (label : Label) (spans : Spans) (opens : Open) (trees others : Trees)
-            → AreWellTyped scene trees → are_expressions trees ≡ true → are_scoped automatic (same_scopes ps trees) trees ≡ true → AllTypesPlain automatic trees → OnlyFirstBelow ps opens trees
-            → SameBodies rewriting ps run label spans trees others → AreGiven arguments (λ n. standing_below rewriting run n label spans others) → HoldsBelow change arguments opens trees others
-        bodies_hold rewriting r run scene e label spans opens no_trees no_trees typed expression scoped plain first h gives = tt
-        bodies_hold rewriting r run scene e label spans opens no_trees (more_trees other others) typed expression scoped plain first h gives = absurd h
-        bodies_hold rewriting r run scene e label spans opens (more_trees one rest) no_trees typed expression scoped plain first h gives = absurd h
-        bodies_hold rewriting r run scene e label spans opens (more_trees one rest) (more_trees other others) typed expression scoped plain first h gives =
-            let here = here_below rewriting run label spans other in (
-              by_open (first_open opens) (OnlyFirst ps one) (NamesNone ps one) (HoldsWhole change arguments one other) (IsSame change one other) first.0
-                  (λ only. body_holds rewriting r run scene e here one other typed.0 (and_left (is_expression one) _ expression) (and_left (is_scoped automatic ps one) _ scoped) plain.0 only h.0
-                  (λ n left k p f. gives n left (among_left left (standing_in rewriting run n here other) (standing_below rewriting run n label spans others) k) p f))
-                  (λ none. body_same rewriting r run here one other (and_left (is_expression one) _ expression) (and_left (is_scoped automatic ps one) _ scoped) plain.0 none h.0),
-              bodies_hold rewriting r run scene e label spans (others_open opens) rest others typed.1 (and_right (is_expression one) _ expression) (and_right (is_scoped automatic ps one) _ scoped) plain.1 first.1 h.1
-                  (λ n left k p f. gives n left (among_right left (standing_in rewriting run n here other) (standing_below rewriting run n label spans others) k) p f),
-            )
 
   -- ---- how many trees stand for a parameter
 

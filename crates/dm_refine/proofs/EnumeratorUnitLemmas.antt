@@ -20,7 +20,7 @@ use Rattle.dm_meaning.proofs.UnitLemmas.{units_refine}
 use Rattle.dm_same.proofs.MachineLemmas.{refines_same}
 use Rattle.dm_agree.specs.Agreement.{Added, nothing, added_function, added_enumerator, added_constant}
 use Rattle.dm_align.specs.Units as aligned
-use Rattle.dm_align.specs.Units.{Insertion, moved, added_by, other_externals, FormAdds, IsPutIn, rewriting_of, AreAligned}
+use Rattle.dm_align.specs.Units.{Insertion, moved, added_by, other_externals, FormAdds, rewriting_of, AreAligned}
 use Rattle.dm_refine.proofs.EnumeratorTreeLemmas.{AddsValue, trees_whole_enumerated, whole_enumerated}
 use Rattle.dm_refine.proofs.NumberLemmas.{moved_injective, entry_told}
 use Rattle.dm_refine.proofs.PutLemmas.{parts_of_list, all_without, zipped_typed}

@@ -24,5 +24,3 @@ pub mod CallPutLemmas
 pub mod CallStaticLemmas
 pub mod CallLocalLemmas
 pub mod CallUnitLemmas
-mod CallExample
-mod PassExample

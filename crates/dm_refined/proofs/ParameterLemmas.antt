@@ -1,7 +1,7 @@
 -- What rule 8 says of a macro's parameters.
 --     named_by      a parameter whose name is a word of the replacement list is named there
 --     read_as      each time that a unit reads a directive it gives one definition
-use Rattle.std.specs.Prelude.{◌≡◌, refl, ℕ, zero, suc, ◌+◌, ◌<◌, ◌≤◌, Bool, true, false, not, ◌&&◌, ◌||◌, ◌==◌, List, [], ◌∷◌, ◌++◌, length, map, Option, Some, None, bytes_eq, slice_get, if◌then◌else◌}
+use Rattle.std.specs.Prelude.{◌≡◌, refl, ℕ, zero, suc, ◌+◌, ◌<◌, Bool, true, false, not, ◌&&◌, ◌||◌, ◌==◌, List, [], ◌∷◌, ◌++◌, length, Some, None, bytes_eq, slice_get, if◌then◌else◌}
 use Rattle.std.specs.List.{AllByRecursion, IsDistinct, list_any, position_from}
 use Rattle.std.proofs.Common.{ap, sym, ◌∙◌, subst, arith}
 use Rattle.std.proofs.lemmas.Bool.{false≢true, true≢false, and_parts, eqb-true}
@@ -11,7 +11,7 @@ use Rattle.dm_token.specs.declared.expansion.Definition.{Definition}
 use Rattle.dm_token.specs.declared.token.PpToken.{PpToken}
 use Rattle.dm_token.specs.declared.unit.Read.{Read}
 use Rattle.dm_macro.specs.Bodies as bodies
-use Rattle.dm_macro.specs.Bodies.{named_parameters, names_with, parameter_of, parameters_of}
+use Rattle.dm_macro.specs.Bodies.{named_parameters, parameter_of, parameters_of}
 use Rattle.dm_macro.specs.Signs.{is_identifier, is_word, variable_arguments}
 use Rattle.dm_spell.specs.Tables.{keyword_rows}
 use Rattle.dm_runs.specs.Runs.{is_at, is_file}

@@ -21,8 +21,8 @@ use Rattle.dm_beside.specs.Evaluation.{evaluates_alike}
 use Rattle.dm_beside.specs.Places.{is_subtree, is_value, may_be_constant}
 use Rattle.dm_meanings.specs.Types.{unit_in}
 use Rattle.dm_judge.specs.Rules.{Rules, broken_first, rules_from_5, rules_of}
-use Rattle.dm_verdict.specs.Verdicts.{rules_in, rules_on_use}
 use Rattle.dm_told.proofs.FindLemmas.{all_weaker, all_both, none_passes}
+use Rattle.dm_refined.specs.Allowed.{rules_in, rules_on_use}
 use Rattle.dm_refined.specs.Programs.{AreOfExpansions, KeepsCallRules, KeepsRunRules}
 
 some_is_none : {A : Type 0} (x : A) → Some x ≡ None → ⊥

@@ -5,8 +5,7 @@
 mod laws;
 
 pub use laws::{
-    aligned_calls_refine, aligned_functions_refine, aligned_readings_refine,
-    allowed_changes_refine, allowed_edits_refine, kept_readings_refine, kept_rules_give_arguments,
-    readings_without_the_definition_refine, runs_are_of_expansions, runs_keep_the_rules,
-    unbroken_calls_refine, unbroken_projects_keep_the_rules, unbroken_units_keep_the_rules,
+    allowed_changes_refine, kept_readings_refine, kept_rules_give_arguments,
+    readings_without_the_definition_refine, runs_are_of_expansions,
+    unbroken_projects_keep_the_rules, unbroken_units_keep_the_rules,
 };

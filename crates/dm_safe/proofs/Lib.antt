@@ -4,5 +4,7 @@ pub mod ConstantLemmas
 pub mod SparedTaskLemmas
 pub mod SparedStateLemmas
 pub mod ScopeLemmas
+pub mod TypedLemmas
 pub mod SafeStateLemmas
 pub mod AnywhereLemmas
+pub mod ExampleLemmas

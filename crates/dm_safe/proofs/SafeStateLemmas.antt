@@ -25,6 +25,7 @@ use Rattle.dm_meaning.proofs.OptionLemmas.{none_is_some, some_is_some}
 use Rattle.dm_rewrite.specs.Computed.{IsPure}
 use Rattle.dm_sound.specs.TypedValues.{IsSet}
 use Rattle.dm_sound.specs.TypedRuns.{IsTypedProgram, result_of}
+use Rattle.dm_sound.specs.TypedTrees.{IsTyped}
 use Rattle.dm_sound.specs.TypedStates.{IsOfKind, TasksFit, IsTypedState}
 use Rattle.dm_sound.proofs.PlaceLemmas.{named_there}
 use Rattle.dm_sound.proofs.RunningLemmas.{program_runs_typed}
@@ -43,12 +44,13 @@ use Rattle.dm_central.specs.Standing.{StandsIn}
 use Rattle.dm_central.proofs.ShapeLemmas.{same_statics}
 use Rattle.dm_central.proofs.StandingLemmas.{stands_within}
 use Rattle.dm_safe.specs.Numbers.{HoldsInteger, Names, ComesToNumber}
-use Rattle.dm_safe.specs.SafePrograms.{IsSetDeclaration, IsSafeTree, AreSafeTrees}
+use Rattle.dm_safe.specs.SafePrograms.{IsSetDeclaration, AreSafeTrees}
 use Rattle.dm_safe.specs.Spared.{RunSpares, TasksSpare}
 use Rattle.dm_safe.proofs.ConstantLemmas.{constant_comes}
 use Rattle.dm_safe.proofs.SafeLemmas.{built_comes}
 use Rattle.dm_safe.proofs.ScopeLemmas.{WholeRun, comes_whole, name_in_scope}
 use Rattle.dm_safe.proofs.SparedStateLemmas.{run_spares}
+use Rattle.dm_safe.proofs.TypedLemmas.{stands_typed}
 use Rattle.dm_safe.proofs.SparedTaskLemmas.{unfolded_spare}
 
 -- ---- objects
@@ -139,7 +141,7 @@ module _ (program : Program) where
 integer_scalar : (type : CType) → is_integer type ≡ true → is_scalar type ≡ true
 integer_scalar type e = ap (λ b. b || is_pointer type) e
 
-module _ (program : Program) (needs : ℕ → Bool) (safe : Tree → Bool) (sound : IsTypedProgram program) (settled : IsSettledProgram needs program) (safes : AreSafeTrees program needs safe)
+module _ (program : Program) (needs : ℕ → Bool) (sets : Tree → ℕ → Bool) (safe : Tree → Bool) (sound : IsTypedProgram program) (settled : IsSettledProgram needs program) (safes : AreSafeTrees program needs sets safe)
     (input : List ℕ) (count : ℕ) (state : State) (run_here : RunsTo (machine_of program) input count state) where
   abbrev memory : Memory
   memory = state.world.memory
@@ -180,45 +182,50 @@ module _ (program : Program) (needs : ℕ → Bool) (safe : Tree → Bool) (soun
     setting : IsSetEvaluation program needs memory state.frame.objects run use_of
     setting = run_names_set program needs settled sound input count state run_here place run use_of rest evaluating
 
-    spared : RunSpares safe state.frame.objects run use_of
-    spared = (subst (TasksSpare safe state.frame.objects) evaluating (unfolded_spare safe state.frame.objects state.frame.tasks (run_spares program safe safes.initialisers input count state run_here).0)).0
+    spared : RunSpares needs sets state.frame.objects run use_of
+    spared = (subst (TasksSpare needs sets state.frame.objects) evaluating (unfolded_spare needs sets state.frame.objects state.frame.tasks (run_spares program needs sets safes.initialisers input count state run_here).0)).0
 
     whole_run : WholeRun run
     whole_run =
         let fits = subst (TasksFit program memory (bare (result_of program state.frame.function))) evaluating (unfolded_fit program (bare (result_of program state.frame.function)) memory state.frame.tasks typed.frame.tasks) in
         comes_whole (layout program) fits.0.0 run fits.0.2 fits.0.4
 
-    -- no object that the expression names is under way
-    under_way : (u : Use) → RunSpares safe state.frame.objects run u → (d n : ℕ) → Names d (begun tree) → object_named state.frame.objects d ≡ Some n → IsUnderWay u n → ⊥
-    under_way (initialises at kind) h d n named e f =
+    typed_here : IsTyped program (bare (result_of program state.frame.function)) tree
+    typed_here =
+        let fits = subst (TasksFit program memory (bare (result_of program state.frame.function))) evaluating (unfolded_fit program (bare (result_of program state.frame.function)) memory state.frame.tasks typed.frame.tasks) in
+        stands_typed program (layout program) (bare (result_of program state.frame.function)) tree fits.0.0 run fits.0.2 fits.0.1 fits.0.4 stands
+
+    -- no object that the expression takes for set is under way
+    under_way : (u : Use) → RunSpares needs sets state.frame.objects run u → (d n : ℕ) → needs d ≡ true → sets tree d ≡ true → object_named state.frame.objects d ≡ Some n → IsUnderWay u n → ⊥
+    under_way (initialises at kind) h d n needed taken e f =
         let same_object : n ≡ h.1 = same_number n h.1 (sym f ∙ h.3) in
         let same_name : h.0 ≡ d = one_name state.frame.objects (callers_then state.callers (numbers_of state.statics)) living.apart h.0 d n (h.2 ∙ ap Some (sym same_object)) e in
-        h.4 tree picked stands (subst (λ c. Names c (begun tree)) (sym same_name) named)
+        h.4 (subst (λ c. needs c ≡ true) (sym same_name) needed) tree (subst (λ c. sets tree c ≡ true) (sym same_name) taken) stands
       where
         same_number : (a b : ℕ) → numbered a ≡ numbered b → a ≡ b
         same_number a b g = cc
-    under_way drops h d n named e f = f
-    under_way (chooses first second) h d n named e f = f
-    under_way (selects items) h d n named e f = f
-    under_way (repeats loop) h d n named e f = f
-    under_way (continues loop) h d n named e f = f
-    under_way returns h d n named e f = f
+    under_way drops h d n needed taken e f = f
+    under_way (chooses first second) h d n needed taken e f = f
+    under_way (selects items) h d n needed taken e f = f
+    under_way (repeats loop) h d n needed taken e f = f
+    under_way (continues loop) h d n needed taken e f = f
+    under_way returns h d n needed taken e f = f
 
-    automatic_holds : (d : ℕ) (here : IsSetDeclaration program needs d) → needs d ≡ true → is_static_number program.statics d ≡ false → Names d (begun tree) → HoldsInteger (scene_of program state) memory d
-    automatic_holds d here needed other named =
+    automatic_holds : (d : ℕ) (here : IsSetDeclaration program needs d) → needs d ≡ true → sets tree d ≡ true → is_static_number program.statics d ≡ false → Names d (begun tree) → HoldsInteger (scene_of program state) memory d
+    automatic_holds d here needed taken other named =
         by_set (setting.set d needed (name_in_scope (layout program) needs setting.scope d needed named.0 named.1 setting.tree run setting.comes whole_run setting.settled (stands_within _ (begun tree) run named.2 stands)))
       where
         by_set : ((n : ℕ) × (object_named state.frame.objects d ≡ Some n) × IsSet memory n) ⊎ ((n : ℕ) × (object_named state.frame.objects d ≡ Some n) × IsUnderWay use_of n) → HoldsInteger (scene_of program state) memory d
         by_set (inl s) =
             holds_integer d s.0 here (found_behind state.statics state.frame.objects d s.0 ((statics_are program input count state run_here).0 d other) s.1) (named_there program memory state.frame.objects typed.frame.named d s.0 s.1) s.2
-        by_set (inr u) = absurd (under_way use_of spared d u.0 named u.1 u.2)
+        by_set (inr u) = absurd (under_way use_of spared d u.0 needed taken u.1 u.2)
 
-    tree_holds : (here : IsSafeTree program needs tree) → (d : ℕ) → here.test d ≡ true → Names d (begun tree) → HoldsInteger (scene_of program state) memory d
-    tree_holds here d e named = let there = here.sets d e in by_set there there.set
+    tree_holds : (d : ℕ) → sets tree d ≡ true → Names d (begun tree) → HoldsInteger (scene_of program state) memory d
+    tree_holds d taken named = let there = safes.objects tree d taken in by_set there there.set
       where
         by_set : (there : IsSetDeclaration program needs d) → (is_static_number program.statics d ≡ true) ⊎ ((needs d ≡ true) × (is_static_number program.statics d ≡ false)) → HoldsInteger (scene_of program state) memory d
         by_set there (inl is) = static_holds d there is
-        by_set there (inr (needed, other)) = automatic_holds d there needed other named
+        by_set there (inr (needed, other)) = automatic_holds d there needed taken other named
 
     number_comes_safely : (scene_of program state).program ≡ program → ComesToNumber (scene_of program state) state.world tree → ComesSafely (scene_of program state) state.world (begun tree)
     number_comes_safely same h =
@@ -228,13 +235,15 @@ module _ (program : Program) (needs : ℕ → Bool) (safe : Tree → Bool) (soun
     pub tree_comes : IsPure (begun tree) × ComesSafely (scene_of program state) state.world (begun tree)
     tree_comes =
         let here = safes.trees tree picked in
-        (here.pure, number_comes_safely refl (by_form here here.form))
+        (here.pure, number_comes_safely refl (by_form here.form))
       where
-        by_form : (here : IsSafeTree program needs tree) → ((z : ℤ) × (constant_of program tree ≡ Some z)) ⊎ (is_built (safe_rule here.test) tree ≡ true) → ComesToNumber (scene_of program state) state.world tree
-        by_form here (inl (z, e)) = record { value = z; comes = constant_comes (scene_of program state) state.world sound.scope typed.world.memory here.result tree here.typed z e }
-        by_form here (inr e) = built_comes (scene_of program state) state.world sound.scope typed.world.memory here.result here.test tree here.typed e (λ d f named. tree_holds here d f named)
+        by_form : ((z : ℤ) × (constant_of program tree ≡ Some z)) ⊎ (is_built (safe_rule (sets tree)) tree ≡ true) → ComesToNumber (scene_of program state) state.world tree
+        by_form (inl (z, e)) = record { value = z; comes = constant_comes (scene_of program state) state.world sound.scope typed.world.memory (bare (result_of program state.frame.function)) tree typed_here z e }
+        by_form (inr e) =
+            built_comes (scene_of program state) state.world sound.scope typed.world.memory (bare (result_of program state.frame.function)) (sets tree) tree typed_here e (λ d f named. tree_holds d f named)
 
 -- So the safe expressions of a typed program always come to a value.
-pub always_safe : (program : Program) (needs : ℕ → Bool) (safe : Tree → Bool) → IsTypedProgram program → IsSettledProgram needs program → AreSafeTrees program needs safe → AreAlwaysSafe program safe
-always_safe program needs safe sound settled safes input count state run_here place run use_of rest evaluating tree picked stands =
-    tree_comes program needs safe sound settled safes input count state run_here place run use_of rest evaluating tree picked stands
+pub always_safe : (program : Program) (needs : ℕ → Bool) (sets : Tree → ℕ → Bool) (safe : Tree → Bool) → IsTypedProgram program → IsSettledProgram needs program → AreSafeTrees program needs sets safe
+    → AreAlwaysSafe program safe
+always_safe program needs sets safe sound settled safes input count state run_here place run use_of rest evaluating tree picked stands =
+    tree_comes program needs sets safe sound settled safes input count state run_here place run use_of rest evaluating tree picked stands

@@ -44,7 +44,7 @@ mutual
   all_begun_whole no_trees e = tt
   all_begun_whole (more_trees first rest) e = (begun_whole first (and_left (is_expression first) (are_expressions rest) e), all_begun_whole rest (and_right (is_expression first) (are_expressions rest) e))
 
-only_whole : (n : ℕ) (trees : Trees) → are_expressions trees ≡ true → are_expressions (only n trees) ≡ true
+pub only_whole : (n : ℕ) (trees : Trees) → are_expressions trees ≡ true → are_expressions (only n trees) ≡ true
 only_whole n no_trees e = refl
 only_whole zero (more_trees first rest) e = alone (is_expression first) (and_left (is_expression first) (are_expressions rest) e)
   where
@@ -53,14 +53,14 @@ only_whole zero (more_trees first rest) e = alone (is_expression first) (and_lef
     alone false f = f
 only_whole (suc n) (more_trees first rest) e = only_whole n rest (and_right (is_expression first) (are_expressions rest) e)
 
-below_whole : (tree : Tree) → is_expression tree ≡ true → are_expressions (trees_of tree) ≡ true
+pub below_whole : (tree : Tree) → is_expression tree ≡ true → are_expressions (trees_of tree) ≡ true
 below_whole (node label kind spans parts) e = and_right (not (is_statement label)) (are_expressions parts) e
 
 label_whole : (tree : Tree) → is_expression tree ≡ true → is_statement (label_of tree) ≡ false
 label_whole (node label kind spans parts) e = not_statement (is_statement label) (and_left (not (is_statement label)) (are_expressions parts) e)
 
 module _ (laid : Layout) where
-  part_comes : (b : Bool) (tree : Tree) (run : Run) → MatchBool b (ComesFrom laid tree run) (run ≡ begun tree) → ComesFrom laid tree run
+  pub part_comes : (b : Bool) (tree : Tree) (run : Run) → MatchBool b (ComesFrom laid tree run) (run ≡ begun tree) → ComesFrom laid tree run
   part_comes true tree run h = h
   part_comes false tree run h = subst (ComesFrom laid tree) (sym h) (begun_comes laid tree)
 

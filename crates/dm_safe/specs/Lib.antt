@@ -1,3 +1,4 @@
 pub mod Numbers
 pub mod Spared
 pub mod SafePrograms
+pub mod Examples

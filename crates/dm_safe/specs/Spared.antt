@@ -1,7 +1,8 @@
--- Initialisers in which no safe expression names the object whose first value they give, while it has none (6.2.1p7, 6.7.9).
---     Spares safe d run      no safe expression that names the declaration stands in a tree under evaluation
---     TreeSpares safe tree      so in the initialisers of each declaration in a tree
---     IsSparedState safe state      so where a first value is under evaluation, or is left to do
+-- Initialisers in which no expression takes the object whose first value they give for set, while it has none (6.2.1p7, 6.7.9). A test tells
+-- which objects an expression takes for set, and another one which of these objects are to be set by their declarators.
+--     Spares needs sets d run      no expression in a tree under evaluation takes the object of the declaration for set
+--     TreeSpares needs sets tree      so in the initialisers of each declaration in a tree
+--     IsSparedState needs sets state      so where a first value is under evaluation, or is left to do
 use Rattle.std.specs.Prelude.{◌≡◌, ℕ, Bool, true, List, [], ◌∷◌, drop, Option, Some, None}
 use Rattle.dm_tree.specs.Trees.{Label, declare, Tree, Trees, node, no_trees, more_trees, listed}
 use Rattle.dm_meaning.specs.Values.{numbered, At, Value}
@@ -10,13 +11,12 @@ use Rattle.dm_meaning.specs.Running.{Run, done, begun, filled_in}
 use Rattle.dm_meaning.specs.States.{Loop, Use, drops, chooses, selects, repeats, continues, returns, initialises, Task, begins, declares, initials, evaluates, again, tests, ends, ends_switch, leaves, skips, hands_back, Caller, State}
 use Rattle.dm_meaning.specs.Statements.{Local, with_expressions}
 use Rattle.dm_central.specs.Standing.{StandsIn}
-use Rattle.dm_safe.specs.Numbers.{Names}
 
-module _ (safe : Tree → Bool) where
+module _ (needs : ℕ → Bool) (sets : Tree → ℕ → Bool) where
   -- ---- trees
 
   abbrev pub Spares : ℕ → Run → Type 0
-  Spares d run = (tree : Tree) → safe tree ≡ true → StandsIn (begun tree) run → Names d (begun tree) → ⊥
+  Spares d run = needs d ≡ true → (tree : Tree) → sets tree d ≡ true → StandsIn (begun tree) run → ⊥
 
   abbrev pub AllSpare : ℕ → List Tree → Type 0
   AllSpare d [] = Unit {0}

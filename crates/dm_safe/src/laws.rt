@@ -35,19 +35,20 @@ pub fn safe_trees_come_to_numbers()
         → ((d : ℕ) → test d ≡ true → Names d (begun tree) → HoldsInteger scene world.memory d) → ComesToNumber scene world tree }
 {}
 
-/// Where no safe expression that names an object stands in an initialiser of that object, none stands in a full expression whose value the
-/// object, or a part of it, is to have first.
+/// Where no expression in an initialiser of an object takes that for set, none does in a full expression whose value the object, or a part of it, is
+/// to have first.
 pub fn own_first_values_are_spared()
-    ensures { (program : Program) (safe : Tree → Bool) → ((definition : Definition) → IsAmong definition program.functions → TreeSpares safe definition.body)
-        → (input : List ℕ) (n : ℕ) (state : State) → RunsTo (machine_of program) input n state → IsSparedState safe state }
+    ensures { (program : Program) (needs : ℕ → Bool) (sets : Tree → ℕ → Bool) → ((definition : Definition) → IsAmong definition program.functions
+        → TreeSpares needs sets definition.body)
+        → (input : List ℕ) (n : ℕ) (state : State) → RunsTo (machine_of program) input n state → IsSparedState needs sets state }
 {}
 
 /// So the safe expressions of a typed program come to a value in each state of each run, wherever they stand in the full expression that is
 /// under evaluation, whether the program evaluates them or not. They read objects that are set where they are named, or of static storage
 /// duration.
 pub fn safe_expressions_always_come()
-    ensures { (program : Program) (needs : ℕ → Bool) (safe : Tree → Bool) → IsTypedProgram program → IsSettledProgram needs program
-        → AreSafeTrees program needs safe → AreAlwaysSafe program safe }
+    ensures { (program : Program) (needs : ℕ → Bool) (sets : Tree → ℕ → Bool) (safe : Tree → Bool) → IsTypedProgram program
+        → IsSettledProgram needs program → AreSafeTrees program needs sets safe → AreAlwaysSafe program safe }
 {}
 
 /// Objects that are set where they are named are so where the trees of the program stand elsewhere.

@@ -129,7 +129,7 @@ or-false true h = refl
 or-false false h = h
 
 -- `void` alone has no number
-void-alone : (list : List TypedParameter) → numbers_of (without_void list) ≡ numbers_of list
+pub void-alone : (list : List TypedParameter) → numbers_of (without_void list) ≡ numbers_of list
 void-alone [] = refl
 void-alone (first ∷ []) = by-declared first.declared (is_same first.kind void)
   where
@@ -284,7 +284,7 @@ module _ (setting : Setting) (known : Known) (sees : Sees known.declared none-pa
           by-type (broken rule at) g = tt
       by-steps (broken rule at) e h = tt
 
-  own-kept : (these : Parameters) (inside : Known) (typed : List TypedParameter) → own_parameters None declarator ≡ Some these
+  pub own-kept : (these : Parameters) (inside : Known) (typed : List TypedParameter) → own_parameters None declarator ≡ Some these
       → parameters_of setting true (entered known) these ≡ given inside typed
       → (behind : Known) (steps : List Made) → steps_of setting true known declarator ≡ given behind steps → Grown inside.declared behind.declared
   unfolding OwnIn

@@ -34,16 +34,16 @@ use Rattle.dm_scoped.proofs.HeadingLemmas.{IsScopedHeading, heading-gives}
 
 -- ---- file scope, in which nothing passes
 
-abbrev no-more : (ℕ → Bool) → ℕ → ℕ → Bool
+abbrev pub no-more : (ℕ → Bool) → ℕ → ℕ → Bool
 no-more seen n = seen
 
-in-file : (setting : Setting) → Extends setting 1 no-more
+pub in-file : (setting : Setting) → Extends setting 1 no-more
 in-file setting = record {
   wider = λ seen n d h. h;
   takes = λ seen n known storage at kind deep auto. absurd (let no : true ≡ false = sym auto ∙ entry-in-file setting known storage at kind deep in cc);
 }
 
-none-more : (locals : List Local) → behind_all no-more none-pass locals ≡ none-pass
+pub none-more : (locals : List Local) → behind_all no-more none-pass locals ≡ none-pass
 none-more [] = refl
 none-more (first ∷ others) = none-more others
 
@@ -176,12 +176,12 @@ module _ (setting : Setting) where
 
 -- ---- units
 
-beginning-holds : (shapes : List Shape) → Holds none-pass (beginning shapes)
+pub beginning-holds : (shapes : List Shape) → Holds none-pass (beginning shapes)
 unfolding Sees AreStatic
 beginning-holds shapes = record { sees = (empty-sees [] none-pass, tt); linked = tt }
 
 -- the entries of the unit are those at its end, with other types
-whole-fits : (linked : List Linked) (n : ℕ) (declared : List Declaration) (d : ℕ) (entry : Declaration) → slice_get declared d ≡ Some entry
+pub whole-fits : (linked : List Linked) (n : ℕ) (declared : List Declaration) (d : ℕ) (entry : Declaration) → slice_get declared d ≡ Some entry
     → is_automatic_declaration (slice_get (with_whole_kinds linked n declared) d) ≡ is_automatic_sort entry.sort
 whole-fits linked n [] d entry e = absurd (cc)
 whole-fits linked n (first ∷ others) zero entry e = ap (λ (it : Declaration). is_automatic_sort it.sort) (injected first entry e)

@@ -1,4 +1,4 @@
--- In the initialisers of a settled body no safe expression names the object, where none does that has the place of the full expression.
+-- In the initialisers of a settled body no expression takes the object for set, where none does that has the place of the full expression.
 use Rattle.std.specs.Prelude.{◌≡◌, refl, ℕ, zero, suc, Bool, true, false, not, IsTrue, MatchBool, List, [], ◌∷◌, map, take, drop, if◌then◌else◌}
 use Rattle.std.proofs.Common.{ap, sym, ◌∙◌, subst, true≢false}
 use Rattle.dm_type.specs.CTypes.{CType}
@@ -38,12 +38,12 @@ expression_stands (node label kind spans parts) e =
     subst (λ b. StandAt (spot spans) (if b then node label kind nowhere (all_settled parts) else node label kind (spot spans) (all_erased (spot spans) parts)))
     (sym (not_statement (is_statement label) e)) (refl, all_erased_stand (spot spans) parts)
 
-module _ (safe : Tree → Bool) where
-  plain_spares : (label : Label) (parts : List Tree) → is_statement label ≡ false → LabelSpares safe label parts
+module _ (needs : ℕ → Bool) (sets : Tree → ℕ → Bool) where
+  plain_spares : (label : Label) (parts : List Tree) → is_statement label ≡ false → LabelSpares needs sets label parts
   plain_spares (declare lengths declarators) parts e = absurd (true≢false e)
   plain_spares label parts e = tt
 
-  below_spare : (at : Spans) (trees : Trees) → are_expressions trees ≡ true → TreesSpare safe (all_erased at trees)
+  below_spare : (at : Spans) (trees : Trees) → are_expressions trees ≡ true → TreesSpare needs sets (all_erased at trees)
   below_spare at no_trees e = tt
   below_spare at (more_trees (node label kind spans parts) rest) e =
       let first = and_left (is_expression (node label kind spans parts)) (are_expressions rest) e in (
@@ -56,38 +56,38 @@ module _ (safe : Tree → Bool) where
 
   -- ---- declarators
 
-  apart_spares : (d : ℕ) (full : Tree) → IsApart safe d full → Spares safe d (begun (settled full))
-  apart_spares d full a tree is stands names = a.1 tree is (part_stands (spot (spans_of full)) tree (settled full) (expression_stands full a.0) stands) names
+  apart_spares : (d : ℕ) (full : Tree) → IsApart needs sets d full → Spares needs sets d (begun (settled full))
+  apart_spares d full a needed tree taken stands = a.1 needed tree taken (part_stands (spot (spans_of full)) tree (settled full) (expression_stands full a.0) stands)
 
-  all_apart_spare : (d : ℕ) (trees : List Tree) → AllApart safe d trees → AllSpare safe d (map settled trees)
+  all_apart_spare : (d : ℕ) (trees : List Tree) → AllApart needs sets d trees → AllSpare needs sets d (map settled trees)
   all_apart_spare d [] a = tt
   all_apart_spare d (tree ∷ trees) a = (apart_spares d tree a.0, all_apart_spare d trees a.1)
 
-  locals_spare : (declarators : List Declarator) (trees : List Tree) → LocalsApart safe (with_expressions declarators trees) → LocalsSpare safe (with_expressions declarators (map settled trees))
+  locals_spare : (declarators : List Declarator) (trees : List Tree) → LocalsApart needs sets (with_expressions declarators trees) → LocalsSpare needs sets (with_expressions declarators (map settled trees))
   locals_spare [] trees a = tt
   locals_spare (one ∷ more) trees a = (
-    subst (AllSpare safe one.declared) (sym (take_map (expressions_of one.initialiser) trees)) (all_apart_spare one.declared (take (expressions_of one.initialiser) trees) a.0),
-    subst (λ rest. LocalsSpare safe (with_expressions more rest)) (sym (drop_map (expressions_of one.initialiser) trees)) (locals_spare more (drop (expressions_of one.initialiser) trees) a.1),
+    subst (AllSpare needs sets one.declared) (sym (take_map (expressions_of one.initialiser) trees)) (all_apart_spare one.declared (take (expressions_of one.initialiser) trees) a.0),
+    subst (λ rest. LocalsSpare needs sets (with_expressions more rest)) (sym (drop_map (expressions_of one.initialiser) trees)) (locals_spare more (drop (expressions_of one.initialiser) trees) a.1),
   )
 
-  label_spares : (label : Label) (parts : Trees) → LabelApart safe label (listed parts) → LabelSpares safe label (listed (all_settled parts))
+  label_spares : (label : Label) (parts : Trees) → LabelApart needs sets label (listed parts) → LabelSpares needs sets label (listed (all_settled parts))
   label_spares (declare lengths declarators) parts a =
-      subst (λ trees. LocalsSpare safe (with_expressions declarators trees)) (sym (ap (drop lengths) (listed_settled parts) ∙ drop_map lengths (listed parts)))
+      subst (λ trees. LocalsSpare needs sets (with_expressions declarators trees)) (sym (ap (drop lengths) (listed_settled parts) ∙ drop_map lengths (listed parts)))
       (locals_spare declarators (drop lengths (listed parts)) a)
   label_spares label parts a = tt
 
   -- ---- trees
 
   node_spares : (label : Label) (kind : CType) (spans : Spans) (parts : Trees) → (b : Bool) → is_statement label ≡ b
-      → MatchBool b (LabelApart safe label (listed parts) × AreApartTrees safe parts) (IsTrue (are_expressions parts)) → (AreApartTrees safe parts → TreesSpare safe (all_settled parts))
-      → TreeSpares safe (if b then node label kind nowhere (all_settled parts) else node label kind (spot spans) (all_erased (spot spans) parts))
+      → MatchBool b (LabelApart needs sets label (listed parts) × AreApartTrees needs sets parts) (IsTrue (are_expressions parts)) → (AreApartTrees needs sets parts → TreesSpare needs sets (all_settled parts))
+      → TreeSpares needs sets (if b then node label kind nowhere (all_settled parts) else node label kind (spot spans) (all_erased (spot spans) parts))
   node_spares label kind spans parts true e a below = (label_spares label parts a.0, below a.1)
   node_spares label kind spans parts false e a below = (plain_spares label (listed (all_erased (spot spans) parts)) e, below_spare (spot spans) parts a)
 
   mutual
-    pub body_spares : (tree : Tree) → IsApartTree safe tree → TreeSpares safe (settled tree)
+    pub body_spares : (tree : Tree) → IsApartTree needs sets tree → TreeSpares needs sets (settled tree)
     body_spares (node label kind spans parts) a = node_spares label kind spans parts (is_statement label) refl a (λ below. bodies_spare parts below)
 
-    bodies_spare : (trees : Trees) → AreApartTrees safe trees → TreesSpare safe (all_settled trees)
+    bodies_spare : (trees : Trees) → AreApartTrees needs sets trees → TreesSpare needs sets (all_settled trees)
     bodies_spare no_trees a = tt
     bodies_spare (more_trees first rest) a = (body_spares first a.0, bodies_spare rest a.1)

@@ -1,20 +1,18 @@
--- Initialisers in which no safe expression names the object whose first value they give, where a safe expression is told by the place of its full
--- expression.
---     IsApart safe d full      no safe expression that stands at the place of this full expression names the declaration
---     IsApartTree safe tree      so it is of each declarator in a tree and each expression of its initialiser
+-- Initialisers in which no expression takes the object for set whose first value they give, where the place of its full expression tells what an
+-- expression takes for set.
+--     IsApart needs sets d full      no expression that stands at the place of this full expression takes the object of the declaration for set
+--     IsApartTree needs sets tree      so it is of each declarator in a tree and each expression of its initialiser
 use Rattle.std.specs.Prelude.{◌≡◌, ℕ, Bool, true, not, IsTrue, MatchBool, List, [], ◌∷◌, drop}
 use Rattle.dm_tree.specs.Trees.{Label, declare, is_statement, Tree, Trees, node, no_trees, more_trees, label_of, listed, spans_of}
-use Rattle.dm_meaning.specs.Running.{begun}
 use Rattle.dm_meaning.specs.Statements.{Local, with_expressions}
 use Rattle.dm_meaning.specs.Wholes.{are_expressions}
 use Rattle.dm_late.specs.Settled.{spot}
-use Rattle.dm_safe.specs.Numbers.{Names}
 
-module _ (safe : Tree → Bool) where
+module _ (needs : ℕ → Bool) (sets : Tree → ℕ → Bool) where
   abbrev pub IsApart : ℕ → Tree → Type 0
   IsApart d full =
       IsTrue (not (is_statement (label_of full)))
-      × ((tree : Tree) → safe tree ≡ true → (spans_of tree).place ≡ (spot (spans_of full)).place → Names d (begun tree) → ⊥)
+      × (needs d ≡ true → (tree : Tree) → sets tree d ≡ true → (spans_of tree).place ≡ (spot (spans_of full)).place → ⊥)
 
   abbrev pub AllApart : ℕ → List Tree → Type 0
   AllApart d [] = Unit {0}

@@ -20,8 +20,8 @@ pub fn settled_programs_are_moved()
 /// So, where a program is typed, and certain objects are set where it names them, the safe expressions of that program come to a value in each
 /// state of each run.
 pub fn settled_safe_expressions_always_come()
-    ensures { (program : Program) (needs : ℕ → Bool) (safe : Tree → Bool) → IsTypedProgram program → IsSettledProgram needs program
-        → AreSafeTrees (erased_program program) needs safe → AreAlwaysSafe (erased_program program) safe }
+    ensures { (program : Program) (needs : ℕ → Bool) (sets : Tree → ℕ → Bool) (safe : Tree → Bool) → IsTypedProgram program
+        → IsSettledProgram needs program → AreSafeTrees (erased_program program) needs sets safe → AreAlwaysSafe (erased_program program) safe }
 {}
 
 /// Where all nodes of an expression stand at one place, so does each tree that stands in it.
@@ -29,8 +29,8 @@ pub fn parts_stand_where_expressions_do()
     ensures { (at : Spans) (tree other : Tree) → StandAt at other → StandsIn (begun tree) (begun other) → (spans_of tree).place ≡ at.place }
 {}
 
-/// No safe expression stands in an initialiser of an object that it names, in a settled body, if none that names it has the place of an
-/// expression of that initialiser.
+/// In a settled body no expression in an initialiser of an object takes that for set, if none does that has the place of an expression of that
+/// initialiser.
 pub fn settled_bodies_spare()
-    ensures { (safe : Tree → Bool) (tree : Tree) → IsApartTree safe tree → TreeSpares safe (settled tree) }
+    ensures { (needs : ℕ → Bool) (sets : Tree → ℕ → Bool) (tree : Tree) → IsApartTree needs sets tree → TreeSpares needs sets (settled tree) }
 {}

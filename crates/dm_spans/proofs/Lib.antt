@@ -3,3 +3,4 @@ pub mod ExpressionLemmas
 pub mod ValueLemmas
 pub mod StatementLemmas
 pub mod ProgramLemmas
+pub mod ExampleLemmas

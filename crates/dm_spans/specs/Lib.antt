@@ -1,2 +1,3 @@
 pub mod SameTrees
 pub mod MovedPrograms
+pub mod Examples

@@ -69,9 +69,6 @@ notes-both deed xs ys old mid new h k =
     (λ d token. sym (list_any-append (does deed d token) xs ys))
     (follows-both (λ d token. list_any (does deed d token) xs) (λ d token. list_any (does deed d token) ys) old mid new h k)
 
-pub notes-first : (deed : Deed) (tree : Tree) (ys : List Tree) (old mid new : List Mark) → Follows (λ d token. does deed d token tree) old mid → Notes deed ys mid new → Notes deed (tree ∷ ys) old new
-notes-first deed tree ys old mid new h k = follows-both (λ d token. does deed d token tree) (λ d token. list_any (does deed d token) ys) old mid new h k
-
 -- ---- trees
 
 abbrev pub NotesIn : Deed → List Tree → List Mark → List Mark → Type 0

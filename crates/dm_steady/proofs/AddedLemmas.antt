@@ -25,7 +25,7 @@ use Rattle.dm_rewrite.specs.Closed.{May, only_closed, may_name, unseen, names_fi
 use Rattle.dm_rewrite.specs.ClosedStates.{IsOther, NamesOnly, AllNameOnly, ListNamesOnly}
 use Rattle.dm_agree.specs.Agreement.{added_function}
 use Rattle.dm_align.specs.Units.{Insertion, IsPut, IsBodyOf, FormAdds}
-use Rattle.dm_refine.specs.Calls.{IsNoLocal, NamesNoLocal, NameNoLocal, AreTypesPlain, AllTypesPlain, HasPlainTypes}
+use Rattle.dm_plain.specs.Plain.{IsNoLocal, NamesNoLocal, NameNoLocal, AreTypesPlain, AllTypesPlain, HasPlainTypes}
 use Rattle.dm_standing.proofs.TypedLemmas.{typed_body}
 
 -- ---- expressions

@@ -17,6 +17,7 @@ use Rattle.dm_meaning.specs.CalledWithAll.{times_named}
 use Rattle.dm_meaning.specs.Running.{Open, others_open, open_of}
 use Rattle.dm_meaning.specs.Wholes.{is_expression, are_expressions}
 use Rattle.dm_effect.specs.Safe.{is_safe}
+use Rattle.dm_effect.specs.Stable.{is_pure}
 use Rattle.dm_effect.specs.Quiet.{before, is_one_of, quiet_functions}
 use Rattle.dm_effect.specs.Sequencing.{is_unsequenced}
 use Rattle.dm_sites.specs.Sites.{Site, site_of, operand_site, operand_sites, sites_in, sites_below}
@@ -31,7 +32,7 @@ use Rattle.dm_told.specs.Told.{IsTold}
 use Rattle.dm_standing.proofs.CallLemmas.{AllTold, own_and_parts}
 use Rattle.dm_standing.proofs.RunLemmas.{all_append, all_front, all_back, all_weaker, StandsAt, runs_stand_below}
 use Rattle.dm_steady.proofs.InsideLemmas.{all_beside_first, all_before, all_trees_left, all_left, pure_ones, outside_ones, still_stable}
-use Rattle.dm_steady.proofs.MetLemmas.{Keeps, IsMet, Seat, Early, once, some_first, Verdict, alone, steady, steady_and_safe, seats, verdict_of, first_seat, stable_seat, safe_seat, once_named, first_read}
+use Rattle.dm_steady.proofs.MetLemmas.{Keeps, IsMet, Seat, Early, once, some_first, Verdict, alone, steady, steady_and_safe, seats, verdict_of, first_seat, stable_seat, safe_seat, pure_seat, once_named, first_read}
 use Rattle.dm_steady.proofs.NodeLemmas.{IsLone, lone_or_unsequenced, node_sort, IsBeside, pure, beside_further, beside_way, beside_operand, two_first}
 use Rattle.dm_steady.proofs.PartLemmas.{at_behind, IsPartOf, itself, part_below, IsTyped, typed_part, AreFrom, all_from, parts_from}
 use Rattle.dm_steady.proofs.SeatLemmas.{all_among}
@@ -103,7 +104,7 @@ module _ (types : Table) (one : TypedUnit) (it : Rewriting) (f : ℕ) (parameter
     (judged : Judged) (closed : (d : ℕ) → closed_in one d ≡ true → judged.closed d ≡ true)
     (quiet : (g : ℕ) (tree : Tree) → is_one_of (quiet_functions (before tree one.externals)) g ≡ true → judged.quiet g ≡ true)
     (late : (p : ℕ) → judged.late p ≡ true → times_named p body ≡ 1 → ReadsFirst p body → ⊥) (unless : (p : ℕ) → judged.first p ≡ false → ReadsFirst p body → ⊥)
-    (safely : (p : ℕ) → judged.first p ≡ false → (span : Span) (argument : Site) → site_of one span ≡ Some argument → is_safe types one argument.tree ≡ true → judged.safe (erased (stood argument) argument.tree) ≡ true)
+    (safely : (p : ℕ) → judged.first p ≡ false → (span : Span) (argument : Site) → site_of one span ≡ Some argument → is_pure argument.tree ≡ true → is_safe types one argument.tree ≡ true → judged.safe (erased (stood argument) argument.tree) ≡ true)
     (different : are_different parameters ≡ true) (own : (n p : ℕ) → slice_get parameters n ≡ Some p → (d : ℕ) → it.rename d ≡ p → ⊥) (body_typed : IsTyped body)
     (keep : AllByRecursion (Keeps types one it (length parameters)) it.runs) where
   abbrev pub Standing : Site → List Run → Type 0
@@ -162,7 +163,8 @@ module _ (types : Table) (one : TypedUnit) (it : Rewriting) (f : ℕ) (parameter
     safe_by p n there left seat (steady_and_safe all safe) late_one =
         subst (λ (t : Tree). judged.safe (erased (stood site) t) ≡ true) seat.same
         (subst (λ (t : Tree). judged.safe (erased (spot (spans_of t)) seat.place.tree) ≡ true) seat.full
-        (safely p late_one seat.occurrence.span seat.place seat.found (safe_seat types one it parameters body keep run inner other site met n left seat safe)))
+        (safely p late_one seat.occurrence.span seat.place seat.found (pure_seat types one it parameters body keep run inner other site met n left seat all)
+        (safe_seat types one it parameters body keep run inner other site met n left seat safe)))
 
     arguments_stable : (n : ℕ) (qs : List ℕ) → ((m : ℕ) → slice_get qs m ≡ slice_get parameters (n + m)) → AreStable judged it (stood site) outside n qs run inner other
     arguments_stable n [] suffix = tt

@@ -29,12 +29,12 @@ use Rattle.dm_agree.specs.Standing.{widened, narrowing, extents, stands}
 use Rattle.dm_agree.specs.Agreement.{Rewriting, here_below, IsReadOf, SameBody, SameBodies}
 use Rattle.dm_central.specs.Arguments.{IsParameterNode, ReadsSomewhere, ReadsBelow, ReadsFirst, ReadsFirstBelow}
 use Rattle.dm_central.specs.Standing.{standing_of}
-use Rattle.dm_refine.specs.Calls.{NamesNoLocal, NameNoLocal, TypeNamesNone, AreTypesPlain, AllTypesPlain}
+use Rattle.dm_plain.specs.Plain.{NamesNoLocal, NameNoLocal, TypeNamesNone, AreTypesPlain, AllTypesPlain}
 use Rattle.dm_told.specs.Told.{IsTold}
 use Rattle.dm_told.proofs.FindLemmas.{found_has}
 use Rattle.dm_told.proofs.OnlyLemmas.{IsExtent, site_is}
 use Rattle.dm_standing.proofs.CallLemmas.{AllTold, own_and_parts}
-use Rattle.dm_once.proofs.OnceLemmas.{OpenAt, comes_open, same_open, read_parts}
+use Rattle.dm_steady.proofs.OnceLemmas.{OpenAt, comes_open, same_open, read_parts}
 use Rattle.dm_steady.proofs.SeatLemmas.{IsSeat}
 use Rattle.dm_steady.proofs.StableLemmas.{not_false}
 

@@ -1,5 +1,9 @@
+mod OccurrenceLemmas
+mod VisitLemmas
+mod OnceLemmas
+mod PutLemmas
 mod PartLemmas
-mod StableLemmas
+pub mod StableLemmas
 mod WayLemmas
 mod SeatLemmas
 mod NodeLemmas

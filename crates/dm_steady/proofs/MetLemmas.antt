@@ -1,4 +1,4 @@
--- Runs to which alignment comes, whose arguments come early.
+-- Runs to which alignment comes.
 --     Verdict types one run n      the parameter occurs once, and first, or each occurrence is stable, and one is first or each safe
 --     Early one run n      one is first
 --     IsMet run inner other site      a run stands at a tree, whose place this is
@@ -7,7 +7,7 @@
 --     first_seat      a seat whose occurrence is evaluated first is so in the run's tree
 --     stable_seat      an argument all of whose parameter's occurrences are stable is so, beside the run's tree and others beside its place
 --     once_named      where a parameter occurs once, and first, the added function's expression names it once
---     read_first      it reads each parameter first
+--     read_somewhere      it reads each parameter somewhere
 use Rattle.std.specs.Prelude.{◌≡◌, refl, ◌⊎◌, ℕ, zero, suc, ◌<◌, Bool, true, false, ◌||◌, ◌==◌, IsTrue, List, [], ◌∷◌, drop, filter, length, Some, slice_get, if◌then◌else◌}
 use Rattle.std.specs.List.{list_any, list_all, AllByRecursion}
 use Rattle.std.proofs.Common.{ap, sym, ◌∙◌, subst, arith, inl, inr}
@@ -25,10 +25,10 @@ use Rattle.dm_meaning.specs.Wholes.{is_expression}
 use Rattle.dm_meaning.proofs.AmongLemmas.{among-map, among-map_from}
 use Rattle.dm_meaning.proofs.GrowLemmas.{equal_is}
 use Rattle.dm_meaning.proofs.OptionLemmas.{none_is_some, and_left, and_right}
-use Rattle.dm_effect.specs.Quiet.{before, is_one_of, quiet_functions}
+use Rattle.dm_effect.specs.Quiet.{before, is_quiet, is_one_of, quiet_functions}
 use Rattle.dm_effect.specs.Safe.{is_safe}
 use Rattle.dm_effect.specs.Sequencing.{is_first, around, beside}
-use Rattle.dm_effect.specs.Stable.{is_stable}
+use Rattle.dm_effect.specs.Stable.{is_pure, is_steady, is_stable}
 use Rattle.dm_sites.specs.Links.{passes}
 use Rattle.dm_sites.specs.Sites.{Site, sites_in, site_of}
 use Rattle.dm_agree.specs.Standing.{stands, occurrences_at}
@@ -36,16 +36,15 @@ use Rattle.dm_agree.specs.Agreement.{Rewriting, here_at, Left, SameBody, standin
 use Rattle.dm_align.specs.Units.{are_different}
 use Rattle.dm_beside.specs.Evaluation.{is_first_in, is_stable_in, is_first_at, is_stable_at, is_safe_at, is_once_first, may_come_early, is_evaluated_alike, evaluates_alike, occurrences_of}
 use Rattle.dm_central.specs.Arguments.{ReadsSomewhere, ReadsFirst}
-use Rattle.dm_refine.specs.Calls.{AreTypesPlain}
+use Rattle.dm_plain.specs.Plain.{AreTypesPlain}
 use Rattle.dm_late.specs.Late.{Judged, IsStable}
 use Rattle.dm_told.specs.Told.{IsTold}
 use Rattle.dm_standing.specs.Calls.{IsThere, HasArguments, HasOccurrences, MayCall}
 use Rattle.dm_standing.proofs.CallLemmas.{AllTold}
 use Rattle.dm_standing.proofs.RunLemmas.{all_weaker, StandsAt}
-use Rattle.dm_once.proofs.OccurrenceLemmas.{IsOnly, OccursAt, only_span, occurrences_stand}
-use Rattle.dm_once.proofs.OnceLemmas.{body_once, concluded, behind_front}
-use Rattle.dm_once.proofs.UnitLemmas.{numbered, one_number, only_first, argument_of}
-use Rattle.dm_steady.specs.Steady.{comes_early, ComesEarly, is_first_and_stable}
+use Rattle.dm_steady.proofs.OccurrenceLemmas.{IsOnly, OccursAt, only_span, occurrences_stand}
+use Rattle.dm_steady.proofs.OnceLemmas.{body_once, concluded, behind_front}
+use Rattle.dm_steady.proofs.PutLemmas.{numbered, one_number, only_first, argument_of}
 use Rattle.dm_steady.proofs.FirstLemmas.{same_place, body_first, body_somewhere}
 use Rattle.dm_steady.proofs.NodeLemmas.{IsBeside, beside_covered}
 use Rattle.dm_steady.proofs.PartLemmas.{itself, IsTyped, typed_part}
@@ -155,21 +154,6 @@ verdict types one run rule n each among is =
         by_first (list_any first spans) refl (and_left (list_all (is_stable_at one run) spans) (list_any first spans || list_all (is_safe_at types one) spans) k)
         (and_right (list_all (is_stable_at one run) spans) (list_any first spans || list_all (is_safe_at types one) spans) k)
 
--- where none is allowed only because it is safe
-early : (one : TypedUnit) (run : Run) → ComesEarly one run → (n : ℕ) (each : Occurrence) → IsAmong each run.occurrences → each.parameter ≡ n → Early one run n
-early one run rule n each among is =
-    by_test (is_once_first first spans) refl (sym (ap (comes_early one run) is) ∙ all_so (λ (other : Occurrence). comes_early one run other.parameter) run.occurrences rule each among)
-  where
-    first : Span → Bool
-    first = is_first_at one run
-
-    spans : List Span
-    spans = occurrences_of run n
-
-    by_test : (b : Bool) → is_once_first first spans ≡ b → (b || is_first_and_stable first (is_stable_at one run) spans) ≡ true → Early one run n
-    by_test true e k = let it = only_first first spans e in once it.only it.alone it.is
-    by_test false e k = some_first (and_right (list_all (is_stable_at one run) spans) (list_any first spans) k)
-
 -- ---- runs
 
 abbrev pub Keeps : Table → TypedUnit → Rewriting → ℕ → Run → Type 0
@@ -258,6 +242,14 @@ module _ (types : Table) (one : TypedUnit) (it : Rewriting) (parameters : List �
         sym (ap (passes (λ (argument : Site). is_safe types one argument.tree)) seat.found)
         ∙ all_so (is_safe_at types one) (occurrences_of run n) all seat.occurrence.span (span_of_one run n seat.occurrence seat.among seat.number)
 
+    pub pure_seat : (n : ℕ) (left : Left) (seat : Seat n left) → list_all (is_stable_at one run) (occurrences_of run n) ≡ true → is_pure seat.place.tree ≡ true
+    pure_seat n left seat all =
+        let e = all_so (is_stable_at one run) (occurrences_of run n) all seat.occurrence.span (span_of_one run n seat.occurrence seat.among seat.number) in
+        let run_is : passes (λ (run_site : Site). passes (is_stable_in one run_site) (site_of one seat.occurrence.span)) (Some site) ≡ true =
+        sym (ap (passes (λ (run_site : Site). passes (is_stable_in one run_site) (site_of one seat.occurrence.span))) place_is) ∙ e in
+        let argument_is : is_stable one site.full site.path seat.place.tree ≡ true = sym (ap (passes (is_stable_in one site)) seat.found) ∙ run_is in
+        and_left (is_pure seat.place.tree) (list_all (is_quiet one) (around site.path site.full) || is_steady one (around site.path site.full) seat.place.tree) argument_is
+
     -- ---- the added function's expression
 
     pub there_for : (n : ℕ) → n < length parameters → IsThere (standing_for it run inner n other)
@@ -302,15 +294,6 @@ module _ (types : Table) (one : TypedUnit) (it : Rewriting) (parameters : List �
       pub first_read : (n p : ℕ) → slice_get parameters n ≡ Some p → (left : Left) → Seat n left → Early one run n → ReadsFirst p body
       first_read n p there left seat (once only alone_is first) = reads n p there left seat (first_seat n left seat only alone_is first)
       first_read n p there left seat (some_first any) = reads_some n p there any
-
-      by_some : ComesEarly one run → (n p : ℕ) → slice_get parameters n ≡ Some p → (lefts : List Left) → IsThere lefts → AllByRecursion (Seat n) lefts → ReadsFirst p body
-      by_some rule n p there [] some h = absurd some
-      by_some rule n p there (left ∷ lefts) some h = first_read n p there left h.0 (early one run rule n h.0.occurrence h.0.among h.0.number)
-
-      pub read_first : ComesEarly one run → (p : ℕ) → IsAmong p parameters → ReadsFirst p body
-      read_first rule p among =
-          let number = numbered p parameters among in
-          by_some rule number.number p number.there (standing_for it run inner number.number other) (there_for number.number number.few) (seats number.number)
 
       -- wherever its arguments stand
       module _ (automatic : ℕ → Bool) (plain : AreTypesPlain automatic body) (local : (p : ℕ) → IsAmong p parameters → automatic p ≡ true) where

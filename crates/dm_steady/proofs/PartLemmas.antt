@@ -4,7 +4,7 @@
 --     IsTyped tree      a tree is well typed in some scene
 use Rattle.std.specs.Prelude.{◌≡◌, refl, ℕ, zero, suc, [], ◌∷◌, ◌++◌, Option, Some, None, option_and_then}
 use Rattle.std.specs.List.{AllByRecursion}
-use Rattle.std.proofs.Common.{ap, ◌∙◌, subst}
+use Rattle.std.proofs.Common.{ap, subst}
 use Rattle.dm_tree.specs.Paths.{Path, tree_in, tree_at}
 use Rattle.dm_tree.specs.Scenes.{Scene}
 use Rattle.dm_tree.specs.Trees.{Tree, Trees, node, no_trees, more_trees, trees_of, listed}
@@ -33,9 +33,6 @@ itself tree = record { way = []; leads = refl }
 pub part_below : (n : ℕ) (part whole : Tree) → tree_in (trees_of whole) n ≡ Some part → IsPartOf part whole
 part_below n part whole e = record { way = n ∷ []; leads = ap (option_and_then (tree_at [])) e }
 
-pub part_of_part : (part tree whole : Tree) → IsPartOf part tree → IsPartOf tree whole → IsPartOf part whole
-part_of_part part tree whole h k = record { way = k.way ++ h.way; leads = at_behind k.way h.way whole tree k.leads ∙ h.leads }
-
 -- ---- the parts of a node, by their numbers
 
 -- these are the parts from a number on
@@ -54,9 +51,6 @@ all_from (more_trees first rest) = (refl, one_later first rest 0 rest (all_from 
 pub parts_from : (whole : Tree) (from : ℕ) (trees : Trees) → AreFrom (trees_of whole) from trees → AllByRecursion (λ (part : Tree). IsPartOf part whole) (listed trees)
 parts_from whole from no_trees h = tt
 parts_from whole from (more_trees first rest) h = (part_below from first whole h.0, parts_from whole (suc from) rest h.1)
-
-pub parts_in : (whole : Tree) → AllByRecursion (λ (part : Tree). IsPartOf part whole) (listed (trees_of whole))
-parts_in whole = parts_from whole 0 (trees_of whole) (all_from (trees_of whole))
 
 -- ---- what trees hand down
 

@@ -2,7 +2,6 @@
 --     IsSeat run n here way tree      a way leads to a tree at which an occurrence of the parameter stands, past trees at which none stands
 --     Seated n here above tree left      an argument is found by the tokens of an occurrence, at a place to which such a way leads
 --     seated_in      so is each argument of a run
---     parts_standing      each argument is a part of the run's tree
 use Rattle.std.specs.Prelude.{◌≡◌, refl, ℕ, suc, ◌+◌, Bool, true, false, not, ◌==◌, List, [], ◌∷◌, ◌++◌, Some, option_and_then, if◌then◌else◌}
 use Rattle.std.specs.List.{AllByRecursion}
 use Rattle.std.proofs.Common.{ap, sym, ◌∙◌, subst, arith, append_assoc, append-nil, inl, inr}
@@ -17,12 +16,11 @@ use Rattle.dm_meaning.specs.Among.{IsAmong}
 use Rattle.dm_meaning.specs.Wholes.{is_expression, are_expressions}
 use Rattle.dm_sites.specs.Sites.{Site, operand_site, operand_sites, sites_in, sites_below, site_of}
 use Rattle.dm_agree.specs.Standing.{occurrences_below}
-use Rattle.dm_agree.specs.Agreement.{Rewriting, Here, here_below, Left, left_at, standing_in, standing_below}
+use Rattle.dm_agree.specs.Agreement.{Rewriting, here_below, Left, standing_in, standing_below}
 use Rattle.dm_told.specs.Told.{IsTold}
 use Rattle.dm_standing.proofs.CallLemmas.{AllTold, own_and_parts}
 use Rattle.dm_standing.proofs.RunLemmas.{all_append, all_front, all_back, all_weaker, StandsAt, runs_stand_below}
-use Rattle.dm_once.proofs.OccurrenceLemmas.{OccursAt, occurrences_stand_below}
-use Rattle.dm_steady.proofs.PartLemmas.{IsPartOf, itself, part_below, part_of_part}
+use Rattle.dm_steady.proofs.OccurrenceLemmas.{OccursAt, occurrences_stand_below}
 use Rattle.dm_steady.proofs.StableLemmas.{not_false}
 
 equal_nat : (a b : ℕ) → (a == b) ≡ true → a ≡ b
@@ -34,39 +32,6 @@ all_among_in all (x ∷ items) h = (h x (inl refl), all_among_in all items (λ y
 
 pub all_among : {A : Type 0} (items : List A) → AllByRecursion (λ (x : A). IsAmong x items) items
 all_among items = all_among_in items items (λ x l. l)
-
--- ---- arguments are parts of the run's tree
-
-record StandsBelow (trees : Trees) (left : Left) : Type 0 where
-  number : ℕ
-  part : Tree
-  there : tree_in trees number ≡ Some part
-  stands : IsPartOf left.tree part
-
-mutual
-  pub parts_standing : (it : Rewriting) (run : Run) (n : ℕ) (here : Here) (tree : Tree) → AllByRecursion (λ (left : Left). IsPartOf left.tree tree) (standing_in it run n here tree)
-  parts_standing it run n here (node label kind spans parts) =
-      at_tree here.occurrences here.runs (all_weaker (StandsBelow parts) (λ (left : Left). IsPartOf left.tree (node label kind spans parts))
-      (λ left k. part_of_part left.tree k.part (node label kind spans parts) k.stands (part_below k.number k.part (node label kind spans parts) k.there))
-      (standing_below it run n label spans parts) (parts_standing_below it run n label spans parts))
-    where
-      by_test : (b : Bool) (runs : List Run) → AllByRecursion (λ (left : Left). IsPartOf left.tree (node label kind spans parts)) (if b then record { runs = runs; tree = node label kind spans parts } ∷ [] else [])
-      by_test true runs = (itself (node label kind spans parts), tt)
-      by_test false runs = tt
-
-      at_tree : (occurrences : List Occurrence) (runs : List Run) → AllByRecursion (λ (left : Left). IsPartOf left.tree (node label kind spans parts)) (standing_below it run n label spans parts)
-          → AllByRecursion (λ (left : Left). IsPartOf left.tree (node label kind spans parts)) (left_at n occurrences runs (node label kind spans parts) (standing_below it run n label spans parts))
-      at_tree [] runs rest = rest
-      at_tree (first ∷ others) runs rest = by_test (first.parameter == n) runs
-
-  parts_standing_below : (it : Rewriting) (run : Run) (n : ℕ) (label : Label) (spans : Spans) (trees : Trees) → AllByRecursion (StandsBelow trees) (standing_below it run n label spans trees)
-  parts_standing_below it run n label spans no_trees = tt
-  parts_standing_below it run n label spans (more_trees first rest) =
-      all_append (StandsBelow (more_trees first rest)) (standing_in it run n (here_below it run label spans first) first) (standing_below it run n label spans rest)
-      (all_weaker (λ (left : Left). IsPartOf left.tree first) (StandsBelow (more_trees first rest)) (λ left k. record { number = 0; part = first; there = refl; stands = k })
-      (standing_in it run n (here_below it run label spans first) first) (parts_standing it run n (here_below it run label spans first) first))
-      (all_weaker (StandsBelow rest) (StandsBelow (more_trees first rest)) (λ left k. record { number = suc k.number; part = k.part; there = k.there; stands = k.stands })
-      (standing_below it run n label spans rest) (parts_standing_below it run n label spans rest))
 
 -- ---- the ways to them
 

@@ -1,7 +1,7 @@
 -- Aligned units, where the arguments of each run come early.
 --     judged_by old body      scalar automatic objects whose address is taken nowhere are closed, and parameters that aren't read once are read late
 --     late_arguments      the premises of the law on late arguments, for the runs, or for none where alignment comes to none
-use Rattle.std.specs.Prelude.{◌≡◌, refl, ◌⊎◌, ℕ, zero, suc, ◌+◌, Bool, true, false, ◌&&◌, ◌||◌, not, ◌==◌, All, IsTrue, List, [], ◌∷◌, ◌++◌, flat_map, length, take, drop, Option, Some, None, option_map, slice_get}
+use Rattle.std.specs.Prelude.{◌≡◌, refl, ◌⊎◌, ℕ, zero, suc, ◌+◌, Bool, true, false, ◌&&◌, not, ◌==◌, All, List, [], ◌∷◌, ◌++◌, flat_map, length, take, drop, Option, Some, None, option_map, slice_get}
 use Rattle.std.specs.List.{list_any, list_all, AllByRecursion}
 use Rattle.std.specs.Option.{IsSomeAnd}
 use Rattle.std.proofs.Common.{ap, sym, ◌∙◌, subst, arith, inl, inr, ⊎_elim}
@@ -9,7 +9,6 @@ use Rattle.std.proofs.lemmas.Bool.{true≢false, false≢true}
 use Rattle.std.proofs.lemmas.List.Elements.{All-head, All-tail}
 use Rattle.std.proofs.lemmas.List.Folds.{list_any-append}
 use Rattle.dm_token.specs.declared.place.Span.{Span}
-use Rattle.dm_runs.specs.declared.run.Occurrence.{Occurrence}
 use Rattle.dm_runs.specs.declared.run.Run.{Run}
 use Rattle.dm_type.specs.CTypes.{CType}
 use Rattle.dm_type.specs.Tables.{Table}
@@ -35,34 +34,33 @@ use Rattle.dm_effect.specs.Quiet.{is_one_of, quiet_functions}
 use Rattle.dm_effect.specs.Safe.{is_safe}
 use Rattle.dm_effect.specs.Scoped.{is_automatic, is_scoped_external, IsScopedUnit}
 use Rattle.dm_effect.specs.Stable as stable
-use Rattle.dm_effect.specs.Stable.{is_scalar_local}
+use Rattle.dm_effect.specs.Stable.{is_pure, is_scalar_local}
 use Rattle.dm_rewrite.specs.ClosedStates.{ListNamesOnly}
 use Rattle.dm_sites.specs.Sites.{Site, site_of}
 use Rattle.dm_agree.specs.Agreement.{Added, added_function, Rewriting, AtRun, Passes}
 use Rattle.dm_align.specs.Units as aligned
 use Rattle.dm_align.specs.Units.{Insertion, IsPut, are_different, FormAdds, moved, other_externals, without, rewriting_of, AreAligned}
-use Rattle.dm_beside.specs.Evaluation.{is_first_at, is_stable_at, is_safe_at, is_once_first, is_evaluated_alike, evaluates_alike, occurrences_of}
 use Rattle.dm_central.specs.Arguments.{ReadsSomewhere, ReadsFirst}
-use Rattle.dm_refine.specs.Calls.{HasPlainTypes}
+use Rattle.dm_plain.specs.Plain.{HasPlainTypes}
 use Rattle.dm_refine.proofs.CallUnitLemmas.{automatic_is, automatic_fact}
 use Rattle.dm_refine.proofs.NumberLemmas.{entry_told, moved_injective, moved_apart}
 use Rattle.dm_late.specs.Settled.{erased, spot}
 use Rattle.dm_late.specs.Late.{Judged, IsRead, AreReadFirst, before_others, EvaluatesAlike, AllAlike, FormAlike, EvaluateAlike, AreClosed}
 use Rattle.dm_told.specs.Told.{ArePlacesTold}
-use Rattle.dm_standing.specs.Calls.{HasArguments, HasOccurrences, MayCall}
+use Rattle.dm_standing.specs.Calls.{HasArguments, MayCall}
 use Rattle.dm_standing.proofs.ArityLemmas.{IsDefinedAs}
-use Rattle.dm_standing.proofs.RunLemmas.{all_weaker, StandsAt}
+use Rattle.dm_standing.proofs.RunLemmas.{all_weaker}
 use Rattle.dm_standing.proofs.TypedLemmas.{typed_body, all_without, all_there}
 use Rattle.dm_standing.proofs.UnitLemmas.{defined_by}
-use Rattle.dm_once.proofs.UnitLemmas.{HasTyped, form_puts, number_has}
-use Rattle.dm_once.proofs.VisitLemmas as visit
-use Rattle.dm_once.proofs.VisitLemmas.{unit_met}
+use Rattle.dm_steady.proofs.PutLemmas.{HasTyped, form_puts, number_has}
+use Rattle.dm_steady.proofs.VisitLemmas as visit
+use Rattle.dm_steady.proofs.VisitLemmas.{unit_met}
 use Rattle.dm_steady.proofs.AddedLemmas.{body_block, added_items, automatic_parameters}
 use Rattle.dm_steady.proofs.AddressLemmas.{NotAddressed, NoneAddressed, unaddressed_tree, expression_unaddressed, statement_unaddressed}
-use Rattle.dm_steady.specs.Steady.{comes_early, ComesEarly, IsSafeInPlace}
+use Rattle.dm_steady.specs.Steady.{IsSafeInPlace}
 use Rattle.dm_steady.proofs.AlikeLemmas.{stood, besides, expression_alike}
 use Rattle.dm_steady.proofs.ClosedLemmas.{IsScalarEntry, items_named}
-use Rattle.dm_steady.proofs.MetLemmas.{Keeps, IsMet, read_first, read_somewhere}
+use Rattle.dm_steady.proofs.MetLemmas.{Keeps, IsMet, read_somewhere}
 use Rattle.dm_steady.proofs.DecideLemmas.{reads_first, first_read, read_test}
 use Rattle.dm_steady.proofs.PartLemmas.{IsTyped}
 use Rattle.dm_steady.proofs.QuietLemmas.{quiet_before}
@@ -72,13 +70,6 @@ use Rattle.dm_steady.proofs.WalkLemmas.{AllPart, BodyPart, AllBodies, bodies_wal
 -- by which parameters are read late, which first, and which arguments are safe
 abbrev pub judged_with : TypedUnit → (ℕ → Bool) → (ℕ → Bool) → (Tree → Bool) → Judged
 judged_with old late first safe = record { closed = closed_in old; quiet = is_one_of (quiet_functions old.externals); late = late; first = first; safe = safe }
-
--- where each is read first
-abbrev pub named_twice : Tree → ℕ → Bool
-named_twice body p = not (times_named p body == 1)
-
-abbrev pub judged_by : TypedUnit → Tree → Judged
-judged_by old body = judged_with old (named_twice body) (λ p. true) (λ tree. false)
 
 -- ---- lists
 
@@ -104,17 +95,6 @@ passing_there : (test : External → Bool) (items : List External) → list_all 
 passing_there test [] h n one e = absurd (none_is_some one e)
 passing_there test (first ∷ items) h zero one e = sym (ap test (some_is_some first one e)) ∙ and_left (test first) (list_all test items) h
 passing_there test (first ∷ items) h (suc n) one e = passing_there test items (and_right (test first) (list_all test items) h) n one e
-
--- ---- what is read late
-
-not_late : (times : ℕ) → not (times == 1) ≡ false → times ≡ 1
-not_late times e = grind (arith, e)
-
-late_twice : (times : ℕ) → not (times == 1) ≡ true → times ≡ 1 → ⊥
-late_twice times e same = true≢false (sym (equal_is times 1 same) ∙ not_false (times == 1) e)
-
-once_unless_late : (p : ℕ) (body : Tree) → not (times_named p body == 1) ≡ false → times_named p body ≡ 1
-once_unless_late p body e = not_late (times_named p body) e
 
 -- ---- closed objects
 
@@ -190,16 +170,16 @@ module _ (old_types new_types : Table) (old new : TypedUnit) (put : Insertion) (
       }
 
   -- what is known of each run to which alignment comes
-  abbrev AtMet : (Run → Type 0) → (ℕ → Type 0) → Type 0
-  AtMet Extra Reads =
+  abbrev AtMet : (ℕ → Type 0) → Type 0
+  AtMet Reads =
       (runs : List Run) (keep : AllByRecursion (Keeps old_types old (rewriting_of old_types old runs (Some put)) (length parameters)) runs) → (run : Run) (inner : List Run) (other : Tree) (site : Site)
-      → IsMet old_types old (rewriting_of old_types old runs (Some put)) parameters body keep run inner other site → Extra run → are_different parameters ≡ true
+      → IsMet old_types old (rewriting_of old_types old runs (Some put)) parameters body keep run inner other site → are_different parameters ≡ true
       → ((n p : ℕ) → slice_get parameters n ≡ Some p → (d : ℕ) → moved (Some put) d ≡ p → ⊥) → IsTyped body
       → ((p : ℕ) → IsAmong p parameters → is_automatic new.declared p ≡ true) → (p : ℕ) → IsAmong p parameters → Reads p
 
   module _ (late first : ℕ → Bool) (safe : Tree → Bool) (once_first : (p : ℕ) → late p ≡ true → times_named p body ≡ 1 → ReadsFirst p body → ⊥) (unless : (p : ℕ) → first p ≡ false → ReadsFirst p body → ⊥)
-      (safely : (p : ℕ) → first p ≡ false → (span : Span) (argument : Site) → site_of old span ≡ Some argument → is_safe old_types old argument.tree ≡ true → safe (erased (stood argument) argument.tree) ≡ true)
-      (Extra : Run → Type 0) (Reads : ℕ → Type 0) (is_read : (p : ℕ) → Reads p → IsRead (judged_with old late first safe) p body) (at_met : AtMet Extra Reads) where
+      (safely : (p : ℕ) → first p ≡ false → (span : Span) (argument : Site) → site_of old span ≡ Some argument → is_pure argument.tree ≡ true → is_safe old_types old argument.tree ≡ true → safe (erased (stood argument) argument.tree) ≡ true)
+      (Reads : ℕ → Type 0) (is_read : (p : ℕ) → Reads p → IsRead (judged_with old late first safe) p body) (at_met : AtMet Reads) where
     module _ (runs : List Run) (h : AreAligned old_types new_types old new runs (Some put)) (keep : AllByRecursion (Keeps old_types old (rewriting_of old_types old runs (Some put)) (length parameters)) runs) where
       abbrev it : Rewriting
       it = rewriting_of old_types old runs (Some put)
@@ -218,34 +198,21 @@ module _ (old_types new_types : Table) (old new : TypedUnit) (put : Insertion) (
 
       -- ---- read first
 
-      module _ (extra : AllByRecursion Extra runs) where
-        abbrev Both : Run → Type 0
-        Both run = Keeps old_types old it (length parameters) run × Extra run
+      abbrev KeepsIt : Run → Type 0
+      KeepsIt run = Keeps old_types old it (length parameters) run
 
-        all_both : (ones : List Run) → AllByRecursion (Keeps old_types old it (length parameters)) ones → AllByRecursion Extra ones → AllByRecursion Both ones
-        all_both [] k e = tt
-        all_both (one ∷ ones) k e = ((k.0, e.0), all_both ones k.1 e.1)
+      at_run : (run : Run) (inner : List Run) (label : Label) (kind : CType) (parts : Trees) (other : Tree)
+          → visit.IsMet old it KeepsIt ((p : ℕ) → IsAmong p parameters → Reads p) keep run inner label kind parts other → (p : ℕ) → IsAmong p parameters → Reads p
+      at_run run inner label kind parts other met =
+          let at = subst (λ (added_it : Added). AtRun it added_it run inner label kind parts other (Passes it parts run inner other)) adds met.at in
+          let is : IsMet old_types old it parameters body keep run inner other met.site =
+          record { same = met.same; expression = met.expression; told = met.told; own = met.own; keeps = met.keeps; inner_stand = met.inner_stand; body_same = at.0.3 } in
+          at_met runs keep run inner other met.site is added.different own added.body_typed added.local
 
-        at_run : (run : Run) (inner : List Run) (label : Label) (kind : CType) (parts : Trees) (other : Tree)
-            → visit.IsMet old it Both ((p : ℕ) → IsAmong p parameters → Reads p) (all_both runs keep extra) run inner label kind parts other → (p : ℕ) → IsAmong p parameters → Reads p
-        at_run run inner label kind parts other met =
-            let at = subst (λ (added_it : Added). AtRun it added_it run inner label kind parts other (Passes it parts run inner other)) adds met.at in
-            let is : IsMet old_types old it parameters body keep run inner other met.site =
-            record {
-              same = met.same;
-              expression = met.expression;
-              told = met.told;
-              own = met.own;
-              keeps = (met.keeps.0.0, met.keeps.1, met.keeps.2);
-              inner_stand = all_weaker (StandsAt Both met.site.apart met.site.tree) (StandsAt (Keeps old_types old it (length parameters)) met.site.apart met.site.tree) (λ each k. (k.0.0, k.1, k.2)) inner met.inner_stand;
-              body_same = at.0.3;
-            } in
-            at_met runs keep run inner other met.site is met.keeps.0.1 added.different own added.body_typed added.local
-
-        all_read : ((p : ℕ) → IsAmong p parameters → Reads p) ⊎ AreAligned old_types new_types old new [] (Some put)
-        all_read =
-            ⊎_elim (λ reads. inl reads) (λ rest. inr (record { structs = h.structs; added = h.added; declared = h.declared; externals = rest; placed = tt }))
-            (unit_met old it Both ((p : ℕ) → IsAmong p parameters → Reads p) (all_both runs keep extra) at_run old_types externals old_typed told h.externals)
+      all_read : ((p : ℕ) → IsAmong p parameters → Reads p) ⊎ AreAligned old_types new_types old new [] (Some put)
+      all_read =
+          ⊎_elim (λ reads. inl reads) (λ rest. inr (record { structs = h.structs; added = h.added; declared = h.declared; externals = rest; placed = tt }))
+          (unit_met old it KeepsIt ((p : ℕ) → IsAmong p parameters → Reads p) keep at_run old_types externals old_typed told h.externals)
 
       -- ---- evaluated alike
 
@@ -254,9 +221,6 @@ module _ (old_types new_types : Table) (old new : TypedUnit) (put : Insertion) (
 
       abbrev Alike : List Run → Tree → Tree → Type 0
       Alike standing tree other = EvaluatesAlike judged it parameters (spot (spans_of other)) [] standing tree other
-
-      abbrev KeepsIt : Run → Type 0
-      KeepsIt run = Keeps old_types old it (length parameters) run
 
       parts_alike : (opens : Open) (at : Spans) (before : List Tree) (label : Label) (spans : Spans) (trees others : Trees) → AllPart old it KeepsIt keep new.declared Alike label spans trees others
           → AllAlike judged it parameters true opens at before [] label spans trees others
@@ -383,9 +347,9 @@ module _ (old_types new_types : Table) (old new : TypedUnit) (put : Insertion) (
       are_closed d closed = (old_automatic d closed, all_only d closed)
 
     pub late_arguments : (runs : List Run) → AreAligned old_types new_types old new runs (Some put)
-        → AllByRecursion (Keeps old_types old (rewriting_of old_types old runs (Some put)) (length parameters)) runs → AllByRecursion Extra runs
+        → AllByRecursion (Keeps old_types old (rewriting_of old_types old runs (Some put)) (length parameters)) runs
         → HasLateArguments old_types new_types old new put parameters body (judged_with old late first safe)
-    late_arguments runs h keep extra =
+    late_arguments runs h keep =
         ⊎_elim
         (λ reads.
         record {
@@ -406,55 +370,7 @@ module _ (old_types new_types : Table) (old new : TypedUnit) (put : Insertion) (
           alike = evaluate_alike [] without_runs tt;
           closed = are_closed [] without_runs tt;
         })
-        (all_read runs h keep extra)
-
-  -- ---- where each parameter is read first
-
-  -- where no argument is allowed only because it is safe, the rule is kept
-  rule_kept : (run : Run) → ComesEarly old run → IsTrue (evaluates_alike old_types old run)
-  rule_kept run rule = all_kept run.occurrences rule
-    where
-      either_kept : (a b c d : Bool) → (a || (b && c)) ≡ true → (a || (b && (c || d))) ≡ true
-      either_kept true b c d e = refl
-      either_kept false true true d e = refl
-      either_kept false true false d e = absurd (false≢true e)
-      either_kept false false c d e = absurd (false≢true e)
-
-      one_kept : (n : ℕ) → comes_early old run n ≡ true → is_evaluated_alike old_types old run n ≡ true
-      one_kept n e =
-          either_kept (is_once_first (is_first_at old run) (occurrences_of run n)) (list_all (is_stable_at old run) (occurrences_of run n)) (list_any (is_first_at old run) (occurrences_of run n))
-          (list_all (is_safe_at old_types old) (occurrences_of run n)) e
-
-      both : (a b : Bool) → a ≡ true → b ≡ true → (a && b) ≡ true
-      both true b e g = g
-      both false b e g = absurd (false≢true e)
-
-      all_kept : (ones : List Occurrence) → list_all (λ (each : Occurrence). comes_early old run each.parameter) ones ≡ true
-          → list_all (λ (each : Occurrence). is_evaluated_alike old_types old run each.parameter) ones ≡ true
-      all_kept [] e = refl
-      all_kept (one ∷ ones) e =
-          both (is_evaluated_alike old_types old run one.parameter) (list_all (λ (each : Occurrence). is_evaluated_alike old_types old run each.parameter) ones)
-          (one_kept one.parameter (and_left (comes_early old run one.parameter) (list_all (λ (each : Occurrence). comes_early old run each.parameter) ones) e))
-          (all_kept ones (and_right (comes_early old run one.parameter) (list_all (λ (each : Occurrence). comes_early old run each.parameter) ones) e))
-
-  abbrev KeepsEarly : List Run → Run → Type 0
-  KeepsEarly runs run =
-      MayCall old_types old run × HasArguments (rewriting_of old_types old runs (Some put)) old (length parameters) run × HasOccurrences (rewriting_of old_types old runs (Some put)) old run × ComesEarly old run
-
-  all_keep : (runs ones : List Run) → AllByRecursion (KeepsEarly runs) ones → AllByRecursion (Keeps old_types old (rewriting_of old_types old runs (Some put)) (length parameters)) ones
-  all_keep runs [] h = tt
-  all_keep runs (run ∷ ones) h = ((h.0.0, h.0.1, h.0.2, rule_kept run h.0.3), all_keep runs ones h.1)
-
-  all_early : (runs ones : List Run) → AllByRecursion (KeepsEarly runs) ones → AllByRecursion (ComesEarly old) ones
-  all_early runs [] h = tt
-  all_early runs (run ∷ ones) h = (h.0.3, all_early runs ones h.1)
-
-  pub early_arguments : (runs : List Run) → AreAligned old_types new_types old new runs (Some put) → AllByRecursion (KeepsEarly runs) runs → HasLateArguments old_types new_types old new put parameters body (judged_by old body)
-  early_arguments runs h keep =
-      late_arguments (named_twice body) (λ p. true) (λ tree. false) (λ p is once read. late_twice (times_named p body) is once) (λ p e. absurd (true≢false e)) (λ p e. absurd (true≢false e)) (ComesEarly old)
-      (λ p. ReadsFirst p body) (λ p reads. (once_unless_late p body, (λ e. reads), (λ e. absurd (true≢false e))))
-      (λ runs keep run inner other site met rule different own typed local. read_first old_types old (rewriting_of old_types old runs (Some put)) parameters body keep run inner other site met different own typed rule)
-      runs h (all_keep runs runs keep) (all_early runs runs keep)
+        (all_read runs h keep)
 
   -- ---- the rule in whole
 
@@ -493,15 +409,11 @@ module _ (old_types new_types : Table) (old new : TypedUnit) (put : Insertion) (
         none true b f = ap not f
         none false b f = refl
 
-    all_unit : (ones : List Run) → AllByRecursion (λ (run : Run). Unit {0}) ones
-    all_unit [] = tt
-    all_unit (run ∷ ones) = (tt, all_unit ones)
-
     pub whole_arguments : (runs : List Run) → AreAligned old_types new_types old new runs (Some put)
         → AllByRecursion (Keeps old_types old (rewriting_of old_types old runs (Some put)) (length parameters)) runs → HasLateArguments old_types new_types old new put parameters body judged_whole
     whole_arguments runs h keep =
-        late_arguments (λ p. not (once_and_first p)) (λ p. reads_first p body) safe first_known unless_first (λ p e span argument found is. in_place span argument found is) (λ run. Unit {0})
+        late_arguments (λ p. not (once_and_first p)) (λ p. reads_first p body) safe first_known unless_first (λ p e span argument found pure_is is. in_place span argument found pure_is is)
         (λ p. ReadsSomewhere p body) (λ p reads. (once_there p, (λ e. first_read p body e), (λ e. (late_there p e, reads))))
-        (λ runs keep run inner other site met rule different own typed local.
+        (λ runs keep run inner other site met different own typed local.
         read_somewhere old_types old (rewriting_of old_types old runs (Some put)) parameters body keep run inner other site met different own typed (is_automatic new.declared) lengths local)
-        runs h keep (all_unit runs)
+        runs h keep

@@ -6,4 +6,4 @@ mod examples;
 mod laws;
 
 pub use examples::a_maximum_comes_early;
-pub use laws::{evaluated_typed_units_refine, steady_typed_units_refine, steady_units_refine};
+pub use laws::evaluated_typed_units_refine;

@@ -7,7 +7,7 @@ use Rattle.dm_reading.specs.declared.reading.Reading.{Reading}
 use Rattle.dm_rules.specs.Rules.{broken_directive}
 use Rattle.dm_rules.specs.Uses.{reads}
 use Rattle.dm_judge.specs.Rules.{broken_first, rules_from_5}
-use Rattle.dm_verdict.specs.Verdicts.{rules_in, rules_on_use}
+use Rattle.dm_refined.specs.Allowed.{rules_in, rules_on_use}
 
 module _ (definition : Definition) (reading : Reading) where
   behind : (found : Option Place) → found ≡ broken_directive definition (reading ∷ []) → broken_first ((3, found) ∷ rules_on_use definition reading) ≡ broken_first (rules_in definition reading)

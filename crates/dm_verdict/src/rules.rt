@@ -4,7 +4,7 @@ ghost use Rattle.std.specs.Prelude.{◌≡◌, [], ◌∷◌, IfOk};
 ghost use Rattle.dm_tree.specs.TypeNumbers.{IsTypedUnit};
 ghost use Rattle.dm_judge.specs.Rules.{broken_first};
 ghost use Rattle.dm_judge.specs.Units.{AreWhole, readings_of};
-ghost use Rattle.dm_verdict.specs.Verdicts.{rules_in};
+ghost use Rattle.dm_refined.specs.Allowed.{rules_in};
 
 use dm_judge::{Units, broken_from_5};
 use dm_rules::{Index, broken_directive};

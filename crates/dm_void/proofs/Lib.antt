@@ -6,3 +6,4 @@ mod StateLemmas
 pub mod RefineLemmas
 mod UncalledLemmas
 pub mod UncalledStateLemmas
+mod ExampleLemmas

@@ -7,6 +7,9 @@ returns-clause-old_typed c = example.old_typed
 pub returns-clause-new_typed : goal.returns-clause-new_typed
 returns-clause-new_typed c = example.new_typed
 
+pub returns-clause-sound : goal.returns-clause-sound
+returns-clause-sound c = example.new_sound
+
 pub returns-clause-first : goal.returns-clause-first
 returns-clause-first c = example.first
 
@@ -18,3 +21,6 @@ returns-clause-closed c = example.closed
 
 pub returns-clause-quiet : goal.returns-clause-quiet
 returns-clause-quiet c = example.quiet
+
+pub returns-clause-safe : goal.returns-clause-safe
+returns-clause-safe c = example.safe

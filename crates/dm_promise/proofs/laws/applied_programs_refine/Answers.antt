@@ -10,5 +10,5 @@ returns c before after units new now plan planned written =
       read = planned.2.1 before refl;
       planned = planned.3;
       left = c.last_readings_are_of_the_files.ensures before after units 0 first last plan planned.2 planned.3 planned.4 written;
-      refine = λ covered. c.planned_calls_refine.ensures before units 0 first last plan planned.2 planned.3 covered;
+      refine = c.planned_programs_refine.ensures before units 0 first last plan planned.2 planned.3;
     })

@@ -6,6 +6,6 @@ use Rattle.dm_settled.proofs.MovedLemmas.{program_moved}
 use Rattle.dm_settled.proofs.laws.settled_safe_expressions_always_come.Goals as goal
 
 pub returns : goal.returns
-returns c program needs safe typed settled trees =
+returns c program needs sets safe typed settled trees =
     let moved = program_moved program in
-    always_safe (erased_program program) needs safe (program_typed program (erased_program program) moved typed) (program_settled needs program (erased_program program) moved settled) trees
+    always_safe (erased_program program) needs sets safe (program_typed program (erased_program program) moved typed) (program_settled needs program (erased_program program) moved settled) trees

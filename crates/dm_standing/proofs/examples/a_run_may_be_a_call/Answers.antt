@@ -2,7 +2,8 @@
 use Rattle.std.specs.Prelude.{refl}
 use Rattle.std.proofs.Common.{arith, inl, inr}
 use Rattle.dm_scoped.specs.Spans.{IsLaidOut}
-use Rattle.dm_refine.specs.Examples as calls
+use Rattle.dm_standing.specs.Examples as calls
+use Rattle.dm_standing.proofs.RunExample.{old_typed}
 use Rattle.dm_standing.proofs.examples.a_run_may_be_a_call.Goals as goal
 
 value_laid : IsLaidOut (calls.value_at 10)
@@ -14,6 +15,9 @@ value_laid = (
   ((omega arith, omega arith, refl, (omega arith, tt), tt, tt), tt),
   tt,
 )
+
+pub returns-clause-typed : goal.returns-clause-typed
+returns-clause-typed c = old_typed
 
 pub returns-clause-layout : goal.returns-clause-layout
 returns-clause-layout c = (

@@ -1,0 +1,9 @@
+pub mod NumberLemmas
+pub mod TreeLemmas
+pub mod LabelLemmas
+pub mod NewLemmas
+pub mod DeclarationLemmas
+pub mod StatementLemmas
+pub mod HeadingLemmas
+pub mod UnitLemmas
+pub mod ReadingLemmas

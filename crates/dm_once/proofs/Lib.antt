@@ -1,4 +1,0 @@
-pub mod OccurrenceLemmas
-pub mod OnceLemmas
-pub mod UnitLemmas
-pub mod VisitLemmas
