@@ -1,5 +1,6 @@
 -- The definitions that a unit reads from files are made by directives of these.
 --     unit_made      so it is
+--     unit_among      and these files have numbers
 use Rattle.std.specs.Prelude.{◌≡◌, refl, ℕ, zero, suc, ◌+◌, ◌<◌, ◌≤◌, Bool, true, false, not, nat_lt, nat_le, List, [], ◌∷◌, ◌++◌, length, drop, Option, Some, None, Result, Ok, Err, MatchBool, unwrap_or, slice_index_or, bytes_eq, if◌then◌else◌}
 use Rattle.std.specs.List.{AllByRecursion, list_any, position_from}
 use Rattle.std.proofs.Common.{◌⊎◌, inl, inr, ap, sym, ◌∙◌, subst, arith, append_assoc}
@@ -91,8 +92,15 @@ module _ (setting : Setting) where
   abbrev Knows : ℕ → Catalogue → Type 0
   Knows file files = (nat_lt file header_count ≡ true) ⊎ ((file < length files.names) × (called files file ≡ setting.named file))
 
+  -- the file of a definition that is read from one has a number among so many
+  abbrev IsAmong : ℕ → Definition → Type 0
+  IsAmong count definition = is_file definition.origin ≡ true → definition.place.file < count
+
+  abbrev IsMadeAmong : ℕ → Definition → Type 0
+  IsMadeAmong count definition = IsMade setting definition × IsAmong count definition
+
   abbrev AreMade : State → Type 0
-  AreMade state = AllByRecursion (IsMade setting) state.table.read
+  AreMade state = AllByRecursion (IsMadeAmong (length state.files.names)) state.table.read
 
   -- names come behind
   abbrev Grows : Catalogue → Catalogue → Type 0
@@ -280,7 +288,7 @@ module _ (setting : Setting) where
 
   -- ---- definitions
 
-  line_steps : (main : ℕ) (s t : State) (line : List PpToken) (origin : Origin) (plain : Bool) → ((definition : Definition) → Gives line origin plain definition → IsMade setting definition)
+  line_steps : (main : ℕ) (s t : State) (line : List PpToken) (origin : Origin) (plain : Bool) → ((definition : Definition) → Gives line origin plain definition → IsMadeAmong (length s.files.names) definition)
       → DefinesLine main line origin plain s (Ok t) → Steps s t
   line_steps main s t line origin plain made is = by (nat_lt s.spent most_work) is
     where
@@ -290,8 +298,8 @@ module _ (setting : Setting) where
       defined_by (inl x) =
           ends s t (with_definition x.0 s) (
             grows_itself s.files,
-            λ before. subst (λ (table : Table). AllByRecursion (IsMade setting) table.read) (sym x.1.4)
-                (all_append (IsMade setting) s.table.read (x.1.0 ∷ []) before (made x.1.0 x.1.1, tt)),
+            λ before. subst (λ (table : Table). AllByRecursion (IsMadeAmong (length s.files.names)) table.read) (sym x.1.4)
+                (all_append (IsMadeAmong (length s.files.names)) s.table.read (x.1.0 ∷ []) before (made x.1.0 x.1.1, tt)),
           ) x.2
 
       by : (b : Bool) → MatchBool b
@@ -320,18 +328,26 @@ module _ (setting : Setting) where
   header_origin file first = ap (λ (b : Bool). is_file (if b then Header else File)) first
 
   made_here : (file : ℕ) (files : Catalogue) (start : PpToken) (behind : List PpToken) → Knows file files → IsHere file start behind → (definition : Definition)
-      → Gives (start ∷ behind) (origin_of file) (is_plain_head (bytes_in setting files file) start (start ∷ behind)) definition → IsMade setting definition
-  made_here file files start behind knows here definition gives in_file =
-      let its_file = file_is file (start ∷ behind) (origin_of file) _ definition here.0 gives in
-      subst (λ n. IsMadeIn n (bytes_for setting n) definition) (sym its_file) (by knows here.1)
+      → Gives (start ∷ behind) (origin_of file) (is_plain_head (bytes_in setting files file) start (start ∷ behind)) definition → IsMadeAmong (length files.names) definition
+  made_here file files start behind knows here definition gives = (
+    λ in_file. subst (λ n. IsMadeIn n (bytes_for setting n) definition) (sym its_file) (by in_file knows here.1),
+    λ in_file. subst (λ n. n < length files.names) (sym its_file) (among in_file knows),
+  )
     where
-      no_header : nat_lt file header_count ≡ true → ⊥
-      no_header first = true≢false (sym in_file ∙ ap is_file (origin_is (start ∷ behind) (origin_of file) _ definition gives) ∙ header_origin file first)
+      its_file : definition.place.file ≡ file
+      its_file = file_is file (start ∷ behind) (origin_of file) _ definition here.0 gives
 
-      by : Knows file files → (nat_lt file header_count ≡ true) ⊎ IsDirectiveIn file (bytes_for setting file) start behind → IsMadeIn file (bytes_for setting file) definition
-      by (inl first) there = absurd (no_header first)
-      by (inr own) (inl first) = absurd (no_header first)
-      by (inr own) (inr there) =
+      no_header : is_file definition.origin ≡ true → nat_lt file header_count ≡ true → ⊥
+      no_header in_file first = true≢false (sym in_file ∙ ap is_file (origin_is (start ∷ behind) (origin_of file) _ definition gives) ∙ header_origin file first)
+
+      among : is_file definition.origin ≡ true → Knows file files → file < length files.names
+      among in_file (inl first) = absurd (no_header in_file first)
+      among in_file (inr own) = own.0
+
+      by : is_file definition.origin ≡ true → Knows file files → (nat_lt file header_count ≡ true) ⊎ IsDirectiveIn file (bytes_for setting file) start behind → IsMadeIn file (bytes_for setting file) definition
+      by in_file (inl first) there = absurd (no_header in_file first)
+      by in_file (inr own) (inl first) = absurd (no_header in_file first)
+      by in_file (inr own) (inr there) =
           let same : bytes_in setting files file ≡ bytes_for setting file = ap (λ name. unwrap_or (setting.source name) []) own.1 in
           (start, behind, there, subst (λ (bytes : List ℕ). Gives (start ∷ behind) (origin_of file) (is_plain_head bytes start (start ∷ behind)) definition) same gives)
 
@@ -366,7 +382,17 @@ module _ (setting : Setting) where
   Entering E = (number : ℕ) (s t : State) → Knows number s.files → E number s (Ok t) → Steps s t
 
   over_files : (s t : State) (files : Catalogue) → Grows s.files files → Steps (record s { files = files }) t → Steps s t
-  over_files s t files more steps = (grows_through s.files files t.files more steps.0, steps.1)
+  over_files s t files more steps = (grows_through s.files files t.files more steps.0, λ made. steps.1 (later s.table.read made))
+    where
+      longer : length s.files.names ≤ length files.names
+      longer = let all = ap length more.1 ∙ length-append s.files.names more.0 in omega (arith, all)
+
+      later : (definitions : List Definition) → AllByRecursion (IsMadeAmong (length s.files.names)) definitions → AllByRecursion (IsMadeAmong (length files.names)) definitions
+      later [] h = tt
+      later (definition ∷ definitions) h = (
+        (h.0.0, λ in_file. let few = h.0.1 in_file in let more = longer in omega (arith, few, more)),
+        later definitions h.1,
+      )
 
   includes_steps : (E : ℕ → State → Outcome → Type 0) → Entering E → (start : PpToken) (s t : State) (found : Sought) → Finds s.files found → (o : Option ℕ) → found.number ≡ o
       → Includes setting E start o found.files s (Ok t) → Steps s t
@@ -476,12 +502,15 @@ module _ (setting : Setting) where
 
   -- ---- the unit
 
-  manifest_made : (main : ℕ) (line : List PpToken) (definition : Definition) → Gives line Manifest true definition → IsMade setting definition
-  manifest_made main line definition gives in_file = absurd (true≢false (sym in_file ∙ ap is_file (origin_is line Manifest true definition gives)))
+  manifest_made : (count : ℕ) (line : List PpToken) (definition : Definition) → Gives line Manifest true definition → IsMadeAmong count definition
+  manifest_made count line definition gives = (λ in_file. absurd (no_file in_file), λ in_file. absurd (no_file in_file))
+    where
+      no_file : is_file definition.origin ≡ true → ⊥
+      no_file in_file = true≢false (sym in_file ∙ ap is_file (origin_is line Manifest true definition gives))
 
   manifest_steps : (define : List ℕ) (s t : State) (r : Result (List PpToken) Refusal) → DefinesText setting.main define r s (Ok t) → Steps s t
   manifest_steps define s t (Ok tokens) is =
-      line_steps setting.main s t (define_line setting.main define tokens) Manifest true (manifest_made setting.main (define_line setting.main define tokens)) is
+      line_steps setting.main s t (define_line setting.main define tokens) Manifest true (manifest_made (length s.files.names) (define_line setting.main define tokens)) is
   manifest_steps define s t (Err refused) is = never s t _ is
 
   manifests_steps : (defines : List (List ℕ)) (s t : State) → DoesManifests setting defines s (Ok t) → Steps s t
@@ -513,9 +542,24 @@ reads_made P [] before h = tt
 reads_made P (definition ∷ definitions) [] h = tt
 reads_made P (definition ∷ definitions) (count ∷ before) h = (h.0, reads_made P definitions before h.1)
 
+-- what holds of all definitions of a unit
+unit_both : (files : Files) (unit : Source) (old new : Loaded) (pp : UnitTokens) → IsReadAs (setting_of old new files unit) unit old (Ok pp) new
+    → AllByRecursion (λ (read : Read). IsMadeAmong (setting_of old new files unit) (length new.names) read.definition) pp.read
+unit_both files unit old new pp is =
+    let setting = setting_of old new files unit in
+    let count : length is.0.files.names ≡ length new.names = ap (λ (files : Catalogue). length files.names) is.3 in
+    subst (λ (tokens : UnitTokens). AllByRecursion (λ (read : Read). IsMadeAmong setting (length new.names) read.definition) tokens.read) (sym is.2)
+    (reads_made (IsMadeAmong setting (length new.names)) is.0.table.read is.0.before
+    (subst (λ n. AllByRecursion (IsMadeAmong setting n) is.0.table.read) count ((unit_steps setting unit.file unit.define (state_with (first_files old unit)) is.0 is.1.1).1 tt)))
+
+all_map : (P Q : Read → Type 0) → ((read : Read) → P read → Q read) → (reads : List Read) → AllByRecursion P reads → AllByRecursion Q reads
+all_map P Q f [] h = tt
+all_map P Q f (read ∷ reads) h = (f read h.0, all_map P Q f reads h.1)
+
 pub unit_made : (files : Files) (unit : Source) (old new : Loaded) (pp : UnitTokens) → IsReadAs (setting_of old new files unit) unit old (Ok pp) new
     → AllByRecursion (λ (read : Read). IsMade (setting_of old new files unit) read.definition) pp.read
-unit_made files unit old new pp is =
-    let setting = setting_of old new files unit in
-    subst (λ (tokens : UnitTokens). AllByRecursion (λ (read : Read). IsMade setting read.definition) tokens.read) (sym is.2)
-    (reads_made (IsMade setting) is.0.table.read is.0.before ((unit_steps setting unit.file unit.define (state_with (first_files old unit)) is.0 is.1.1).1 tt))
+unit_made files unit old new pp is = all_map _ (λ read. IsMade (setting_of old new files unit) read.definition) (λ read both. both.0) pp.read (unit_both files unit old new pp is)
+
+pub unit_among : (files : Files) (unit : Source) (old new : Loaded) (pp : UnitTokens) → IsReadAs (setting_of old new files unit) unit old (Ok pp) new
+    → AllByRecursion (λ (read : Read). is_file read.definition.origin ≡ true → read.definition.place.file < length new.names) pp.read
+unit_among files unit old new pp is = all_map _ (λ read. is_file read.definition.origin ≡ true → read.definition.place.file < length new.names) (λ read both. both.1) pp.read (unit_both files unit old new pp is)

@@ -1,6 +1,6 @@
 //! What follows from the definition of phase 4.
 
-ghost use Rattle.std.specs.Prelude.{◌≡◌, ℕ, List, Ok, bytes_eq};
+ghost use Rattle.std.specs.Prelude.{◌≡◌, ◌<◌, ℕ, true, List, Ok, bytes_eq, length};
 ghost use Rattle.std.specs.List.{AllByRecursion, IsDistinct};
 ghost use Rattle.dm_token.specs.declared.expansion.Definition.{Definition};
 ghost use Rattle.dm_token.specs.declared.unit.Read.{Read};
@@ -9,6 +9,7 @@ ghost use Rattle.dm_token.specs.declared.unit.UnitTokens.{UnitTokens};
 ghost use Rattle.dm_io.specs.Files.{Files};
 ghost use Rattle.dm_search.specs.Loaded.{Loaded};
 ghost use Rattle.dm_macro.specs.Bodies.{named_parameters};
+ghost use Rattle.dm_runs.specs.Runs.{is_file};
 ghost use Rattle.dm_unit.specs.Units.{IsReadAs, setting_of};
 ghost use Rattle.dm_defined.specs.Made.{IsMade, IsMadeIn};
 
@@ -16,6 +17,12 @@ ghost use Rattle.dm_defined.specs.Made.{IsMade, IsMadeIn};
 pub fn definitions_are_made()
     ensures { (files : Files) (unit : Source) (old new : Loaded) (pp : UnitTokens) → IsReadAs (setting_of old new files unit) unit old (Ok pp) new
         → AllByRecursion (λ (read : Read). IsMade (setting_of old new files unit) read.definition) pp.read }
+{}
+
+/// The file of such a definition has a number below the count of the names that the loader has behind the reading.
+pub fn definitions_stand_in_known_files()
+    ensures { (files : Files) (unit : Source) (old new : Loaded) (pp : UnitTokens) → IsReadAs (setting_of old new files unit) unit old (Ok pp) new
+        → AllByRecursion (λ (read : Read). is_file read.definition.origin ≡ true → read.definition.place.file < length new.names) pp.read }
 {}
 
 /// The directives of a file with the same bytes make one definition at each `#`: whichever unit reads it, and however often, it is the same.

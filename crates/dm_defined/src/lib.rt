@@ -3,4 +3,6 @@
 
 mod laws;
 
-pub use laws::{definitions_are_made, one_definition, parameters_differ};
+pub use laws::{
+    definitions_are_made, definitions_stand_in_known_files, one_definition, parameters_differ,
+};

@@ -14,12 +14,12 @@ use Rattle.dm_unit.specs.Units.{setting_of}
 use Rattle.dm_unit.proofs.GrowLemmas.{some-of, known-held, known-absent, held-now, held-other}
 use Rattle.dm_unit.proofs.NameLemmas.{name-kept, held-among}
 use Rattle.dm_reading.specs.declared.reading.Reading.{Reading}
-use Rattle.dm_read.specs.Reading.{IsReading, AreOneReading}
+use Rattle.dm_readings.specs.Reading.{IsReading, AreOneReading}
 use Rattle.dm_local.specs.Kept.{IsOfLoader, IsReadBy, Keeps}
 use Rattle.dm_local.proofs.KeptLemmas.{read-again, slots-behind, same-shown}
-use Rattle.dm_project.specs.Again.{reads, put_in, NextAgain, ReadsAgain, IsCountedWith, IsReadAgain}
-use Rattle.dm_project.specs.Leaves.{StaysKnown, Follows}
-use Rattle.dm_project.specs.Units.{Ending, ending, ReadsNext, ReadsUnits, ReadsProject, IsCounted}
+use Rattle.dm_readings.specs.Again.{reads, put_in, NextAgain, ReadsAgain, IsCountedWith, IsReadAgain}
+use Rattle.dm_readings.specs.Leaves.{StaysKnown, Follows}
+use Rattle.dm_readings.specs.Units.{Ending, ending, ReadsNext, ReadsUnits, ReadsProject, IsCounted}
 use Rattle.dm_kept.specs.Current.{AreCurrent, AreSame}
 
 -- ---- what a loader keeps

@@ -10,7 +10,7 @@ use Rattle.dm_search.specs.Loaded.{Loaded, number_of, held_at, is_held, is_absen
 use Rattle.dm_unit.proofs.GrowLemmas.{some-of, held-now, held-other}
 use Rattle.dm_unit.proofs.NameLemmas.{same-name, name-at, name-kept, held-among}
 use Rattle.dm_local.specs.Kept.{IsOfLoader}
-use Rattle.dm_project.specs.Leaves.{Follows}
+use Rattle.dm_readings.specs.Leaves.{Follows}
 use Rattle.dm_kept.proofs.CurrentLemmas.{held-place}
 
 module _ (files : Files) (known : Loaded) (file : ℕ) (bytes : List ℕ) (held : is_held known file ≡ true) (of : IsOfLoader known) (new : Loaded) (follows : Follows files (with_bytes known file bytes) new) (after : IsOfLoader new) where

@@ -8,7 +8,7 @@ use Rattle.dm_token.specs.declared.unit.Unit.{Unit as Source}
 use Rattle.dm_io.specs.Files.{Files}
 use Rattle.dm_search.specs.Loaded.{Loaded, held_at, with_bytes}
 use Rattle.dm_reading.specs.declared.reading.Reading.{Reading}
-use Rattle.dm_read.specs.Reading.{AreOneReading}
+use Rattle.dm_readings.specs.Reading.{AreOneReading}
 use Rattle.dm_local.specs.Kept.{IsReadBy}
 
 abbrev pub AreCurrent : Loaded → Files → List Source → List Reading → Type 0

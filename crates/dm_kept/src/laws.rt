@@ -7,9 +7,9 @@ ghost use Rattle.dm_search.specs.Loaded.{Loaded, is_held, with_bytes};
 ghost use Rattle.dm_unit.specs.Loaders.{shown};
 ghost use Rattle.dm_reading.specs.declared.reading.Reading.{Reading};
 ghost use Rattle.dm_local.specs.Kept.{IsOfLoader};
-ghost use Rattle.dm_project.specs.Again.{IsReadAgain, put_in};
-ghost use Rattle.dm_project.specs.Leaves.{Follows};
-ghost use Rattle.dm_project.specs.Units.{ReadsProject, ending};
+ghost use Rattle.dm_readings.specs.Again.{IsReadAgain, put_in};
+ghost use Rattle.dm_readings.specs.Leaves.{Follows};
+ghost use Rattle.dm_readings.specs.Units.{ReadsProject, ending};
 ghost use Rattle.dm_kept.specs.Current.{AreCurrent, AreSame, put_back};
 
 use dm_local::{readings_learn_nothing, readings_stay_where_not_edited};

@@ -1,7 +1,7 @@
 -- A project behind its edits: each unit has the reading that the loader gives, and a name that isn't that of an edited file has the file
 -- that it had at first.
 --     judged-to      so it is behind all edits
-use Rattle.std.proofs.Common.{◌≡◌, ◌≢◌, ◌⊎◌, inl, inr, ℕ, ◌<◌, Bool, true, false, ◌||◌, List, [], ◌∷◌, ◌++◌, length, get_or, Option, Some, Result, Ok, Err, eqb, refl, sym, ap, ◌∙◌, subst, arith, length-append}
+use Rattle.std.proofs.Common.{◌≡◌, ◌≢◌, ◌⊎◌, inl, inr, ℕ, ◌<◌, Bool, true, false, ◌||◌, List, [], ◌∷◌, ◌++◌, length, get_or, Option, Some, None, Result, Ok, Err, eqb, refl, sym, ap, ◌∙◌, subst, arith, length-append}
 use Rattle.std.proofs.lemmas.Bool.{cases_eq}
 use Rattle.std.proofs.lemmas.Bool.Decides.{eqb_tells}
 use Rattle.std.proofs.lemmas.List.{append-nil, get_or_append_left}
@@ -20,14 +20,14 @@ use Rattle.dm_edit.specs.declared.change.Change.{Change}
 use Rattle.dm_edit.specs.declared.plan.Entry.{Entry}
 use Rattle.dm_edit.specs.declared.plan.Fate.TheVariants.{Rewritten}
 use Rattle.dm_local.specs.Kept.{IsOfLoader}
-use Rattle.dm_project.specs.Again.{IsReadAgain, put_in}
-use Rattle.dm_project.specs.Leaves.{Follows}
+use Rattle.dm_readings.specs.Again.{IsReadAgain, put_in}
+use Rattle.dm_readings.specs.Leaves.{Follows}
 use Rattle.dm_kept.specs.Current.{AreCurrent, put_back}
 use Rattle.dm_judge.specs.declared.proposal.Proposal.{Proposal}
 use Rattle.dm_judge.specs.declared.proposal.Proposal.TheVariants as proposal
 use Rattle.dm_subjects.specs.Files.{is_edited}
 use Rattle.dm_subjects.specs.declared.subject.Subject.{Subject}
-use Rattle.dm_planning.specs.Judging.{Project, Rereads, EndsBy, Edits, JudgesBy, JudgesAll, definition_in, entry_with, file_of, restored, rewritten}
+use Rattle.dm_planning.specs.Judging.{Project, Rereads, EndsBy, Edits, JudgesBy, JudgesFound, JudgesAll, entry_with, file_of, found_in, restored, rewritten}
 use Rattle.dm_planning.proofs.EditLemmas.{held-where-lies}
 use Rattle.dm_planning.proofs.LeaveLemmas.{inside}
 
@@ -159,9 +159,14 @@ module _ (files : Files) (units : List Source) where
     judges-to entry entries before after definition (proposal.Broken rule place) to h = same entry entries before after h.1 to
     judges-to entry entries before after definition (proposal.Change change) to h = edits-to entry entries before after change to h
 
+    found-to : (entry : Entry) (entries : List Entry) (before after : Project) (subject : Subject) (found : Option Definition) → IsEditedTo entries before
+        → JudgesFound (Some files) units before subject found entry after → IsEditedTo (entry ∷ entries) after
+    found-to entry entries before after subject None to h = same entry entries before after h.1 to
+    found-to entry entries before after subject (Some definition) to h = judges-to entry entries before after definition h.0 to h.2
+
     pub judged-to : (first last : Project) (subjects : List Subject) (entries : List Entry) → IsEditedTo [] first → JudgesAll (Some files) units first subjects entries last → IsEditedTo entries last
     judged-to first last [] entries to h =
         subst (λ (these : List Entry). IsEditedTo these last) (sym h.0) (subst (λ (it : Project). IsEditedTo [] it) (sym h.1) to)
     judged-to first last (subject ∷ subjects) entries to h =
         subst (λ (these : List Entry). IsEditedTo these last) (sym h.5)
-        (judges-to h.3 h.0 h.1 last (definition_in h.1 subject) h.4.0 (judged-to first h.1 subjects h.0 to h.2) h.4.2)
+        (found-to h.3 h.0 h.1 last subject (found_in h.1 subject) (judged-to first h.1 subjects h.0 to h.2) h.4)

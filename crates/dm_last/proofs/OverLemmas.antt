@@ -24,8 +24,8 @@ use Rattle.dm_reading.specs.declared.reading.Reading.{Reading}
 use Rattle.dm_edit.specs.declared.plan.Changed.{Changed}
 use Rattle.dm_edit.specs.declared.plan.Entry.{Entry}
 use Rattle.dm_local.specs.Kept.{IsOfLoader, IsReadBy}
-use Rattle.dm_project.specs.Leaves.{Follows, IsNumbered}
-use Rattle.dm_project.specs.Units.{KeepsLimits, ReadsProject, ReadsUnits, ending, most_project_tokens, token_count}
+use Rattle.dm_readings.specs.Leaves.{Follows, IsNumbered}
+use Rattle.dm_readings.specs.Units.{KeepsLimits, ReadsProject, ReadsUnits, ending, most_project_tokens, token_count}
 use Rattle.dm_kept.specs.Current.{AreCurrent}
 use Rattle.dm_subjects.specs.Files.{changed_file, edited_files, is_edited, is_rewritten}
 use Rattle.dm_subjects.specs.Subjects.{bytes_at}

@@ -10,7 +10,7 @@ use Rattle.dm_search.specs.Fresh.{fresh}
 use Rattle.dm_search.specs.Loaded.{Loaded}
 use Rattle.dm_edit.specs.declared.plan.Changed.{Changed}
 use Rattle.dm_local.specs.Kept.{IsOfLoader}
-use Rattle.dm_project.specs.Units.{ReadsProject, ending}
+use Rattle.dm_readings.specs.Units.{ReadsProject, ending}
 use Rattle.dm_planning.specs.Judging.{Project}
 
 -- the files after these were given their new bytes

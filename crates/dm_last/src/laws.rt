@@ -5,7 +5,7 @@ ghost use Rattle.dm_token.specs.declared.unit.Unit.{Unit as Source};
 ghost use Rattle.dm_io.specs.Files.{Files};
 ghost use Rattle.dm_search.specs.Fresh.{fresh};
 ghost use Rattle.dm_edit.specs.declared.plan.Plan.{Plan};
-ghost use Rattle.dm_project.specs.Units.{KeepsLimits};
+ghost use Rattle.dm_readings.specs.Units.{KeepsLimits};
 ghost use Rattle.dm_planning.specs.Judging.{Project};
 ghost use Rattle.dm_planning.specs.Plans.{IsPlan, ReadsFirst};
 ghost use Rattle.dm_last.specs.Last.{IsReadOver, with_files};

@@ -38,7 +38,7 @@ use Rattle.dm_unit.specs.Units.{setting_of, first_files, state_with, HasOutcome,
 use Rattle.dm_unit.proofs.FileLemmas.{header-held}
 use Rattle.dm_unit.proofs.GrowLemmas.{refused-file}
 use Rattle.dm_reading.specs.declared.reading.Reading.{Reading}
-use Rattle.dm_read.specs.Reading.{IsReading}
+use Rattle.dm_readings.specs.Reading.{IsReading}
 use Rattle.dm_local.specs.Searched.{LooksAlike}
 use Rattle.dm_local.proofs.CatalogueLemmas.{called, IsThere, Grown, called-kept, own-numbered, called-numbered, slots-numbered, grown-numbered, among-last}
 use Rattle.dm_local.proofs.KeptLemmas.{first-fits}

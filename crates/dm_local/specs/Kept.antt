@@ -12,7 +12,7 @@ use Rattle.dm_unit.specs.Loaders.{is_known}
 use Rattle.dm_unit.specs.Readings.{is_among}
 use Rattle.dm_unit.specs.Units.{setting_of}
 use Rattle.dm_reading.specs.declared.reading.Reading.{Reading}
-use Rattle.dm_read.specs.Reading.{IsReading}
+use Rattle.dm_readings.specs.Reading.{IsReading}
 
 -- What holds of each loader: it begins with the built-in headers, and has a slot for the bytes of each name.
 abbrev pub IsOfLoader : Loaded → Type 0

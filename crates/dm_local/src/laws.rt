@@ -13,13 +13,13 @@ ghost use Rattle.dm_unit.specs.Readings.{is_among};
 ghost use Rattle.dm_unit.specs.Units.{setting_of};
 ghost use Rattle.dm_unit.specs.Views.{IsFaultless, StaysServed};
 ghost use Rattle.dm_reading.specs.declared.reading.Reading.{Reading};
-ghost use Rattle.dm_read.specs.Reading.{IsReading, AreOneReading};
+ghost use Rattle.dm_readings.specs.Reading.{IsReading, AreOneReading};
 ghost use Rattle.dm_local.specs.Kept.{IsOfLoader, IsReadBy, Keeps};
 ghost use Rattle.dm_local.specs.Marks.{AreListed};
 ghost use Rattle.dm_local.specs.Order.{AreAscending};
 ghost use Rattle.dm_local.specs.Searched.{LooksAlike};
 
-use dm_read::one_reading_of_unit;
+use dm_readings::one_reading_of_unit;
 
 /// A reading of a unit stays when other files change and when more files are known: a loader that keeps what was known, and the bytes of
 /// the files that the reading reads, comes to the same reading, and learns nothing from it.

@@ -34,7 +34,7 @@ use Rattle.dm_edecl.proofs.UnitPlacingLemmas.{unit-within}
 use Rattle.dm_reading.specs.Elaborated.{Elaborates}
 use Rattle.dm_reading.specs.Layered.{HasLayers}
 use Rattle.dm_reading.specs.Syntax.{names_behind, Stand, IsSyntax, Refuses}
-use Rattle.dm_read.proofs.SourceLemmas.{syntax-externals}
+use Rattle.dm_formed.proofs.SourceLemmas.{syntax-externals}
 
 -- external declarations that stand one behind the other end where the last does
 stand-ends : (tokens : List CToken) (externals : List External) (names : NameMap) (at to : ℕ) (known : NameMap) → Stand tokens names at externals to known → externals_after at externals ≡ to

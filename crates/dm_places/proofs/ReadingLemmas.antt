@@ -19,9 +19,9 @@ use Rattle.dm_unit.specs.Loaders.{shown}
 use Rattle.dm_unit.specs.States.{Catalogue}
 use Rattle.dm_unit.specs.Units.{setting_of, first_files, state_with, IsReadAs}
 use Rattle.dm_reading.specs.declared.reading.Reading.{Reading}
-use Rattle.dm_read.specs.Reading.{IsReading}
-use Rattle.dm_project.specs.Leaves.{Follows, StaysKnown}
-use Rattle.dm_project.specs.Units.{Ending, ending, ReadsNext, ReadsUnits, IsCounted, ReadsProject}
+use Rattle.dm_readings.specs.Reading.{IsReading}
+use Rattle.dm_readings.specs.Leaves.{Follows, StaysKnown}
+use Rattle.dm_readings.specs.Units.{Ending, ending, ReadsNext, ReadsUnits, IsCounted, ReadsProject}
 use Rattle.dm_defines.specs.Readable.{IsText, HasReadableDefines}
 use Rattle.dm_places.specs.Places.{IsPlaceOf, LiesIn, CanBeRead, LiesInFile}
 use Rattle.dm_places.proofs.LayerLemmas.{TokensLie, layers-lie}

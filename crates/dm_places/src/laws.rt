@@ -19,9 +19,9 @@ ghost use Rattle.dm_search.specs.Fresh.{StartsWithHeaders};
 ghost use Rattle.dm_search.specs.Loaded.{Loaded};
 ghost use Rattle.dm_unit.specs.States.{Setting};
 ghost use Rattle.dm_unit.specs.Units.{setting_of, IsReadAs};
-ghost use Rattle.dm_read.specs.Reading.{IsReading};
+ghost use Rattle.dm_readings.specs.Reading.{IsReading};
 ghost use Rattle.dm_defines.specs.Readable.{HasReadableDefines};
-ghost use Rattle.dm_project.specs.Units.{ReadsProject, ending};
+ghost use Rattle.dm_readings.specs.Units.{ReadsProject, ending};
 ghost use Rattle.dm_places.specs.Places.{LiesIn, LiesInFile, CanBeRead};
 
 use dm_search::searched_names_are_normal;

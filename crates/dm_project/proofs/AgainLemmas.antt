@@ -9,8 +9,8 @@ use Rattle.dm_token.specs.declared.unit.Unit.{Unit as Source}
 use Rattle.dm_io.specs.Files.{Files}
 use Rattle.dm_search.specs.Loaded.{Loaded}
 use Rattle.dm_reading.specs.declared.reading.Reading.{Reading}
-use Rattle.dm_project.specs.Again.{reads, reader_count, put_in, NextAgain, MayRead, ReadsOthers, ReadsAgain}
-use Rattle.dm_project.specs.Units.{token_count, ReadsNext}
+use Rattle.dm_readings.specs.Again.{reads, reader_count, put_in, NextAgain, MayRead, ReadsOthers, ReadsAgain}
+use Rattle.dm_readings.specs.Units.{token_count, ReadsNext}
 
 abbrev pub News : Type 0
 News = List (Option Reading)

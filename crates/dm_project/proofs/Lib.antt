@@ -1,4 +1,2 @@
 mod AgainLemmas
-mod LeaveLemmas
-mod SiteLemmas
 mod UnitLemmas

@@ -13,8 +13,8 @@ use Rattle.dm_unit.specs.States.{limit}
 use Rattle.dm_unit.specs.Units.{setting_of}
 use Rattle.dm_unit.specs.Views.{stop_of}
 use Rattle.dm_reading.specs.declared.reading.Reading.{Reading}
-use Rattle.dm_read.specs.Reading.{IsReading}
-use Rattle.dm_project.specs.Units.{Ending, ending, stopped, behind, most_project_tokens, token_count, ReadsNext, ReadsUnits}
+use Rattle.dm_readings.specs.Reading.{IsReading}
+use Rattle.dm_readings.specs.Units.{Ending, ending, stopped, behind, most_project_tokens, token_count, ReadsNext, ReadsUnits}
 
 -- readings before others
 abbrev pub all_behind : List Reading → Ending → Ending

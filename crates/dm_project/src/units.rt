@@ -9,13 +9,13 @@ ghost use Rattle.dm_unit.specs.Loaders.{Grows, WasUnknown, stopped_at, most_name
 ghost use Rattle.dm_unit.specs.States.{limit};
 ghost use Rattle.dm_unit.specs.Views.{StaysServed, stop_of};
 ghost use Rattle.dm_reading.specs.Layered.{IsLayered};
-ghost use Rattle.dm_project.specs.Leaves.{AreThere, IsNumbered, Leaves};
-ghost use Rattle.dm_project.specs.Units.{HasShortDefines, ReadsNext, ReadsUnits, ReadsProject, KeepsLimits, IsTyped, ending, most_project_tokens, token_count};
+ghost use Rattle.dm_readings.specs.Leaves.{AreThere, IsNumbered, Leaves};
+ghost use Rattle.dm_readings.specs.Units.{HasShortDefines, ReadsNext, ReadsUnits, ReadsProject, KeepsLimits, IsTyped, ending, most_project_tokens, token_count};
 
-use crate::distinct::definitions;
 use dm_io::Folder;
 use dm_read::{Steps, read_unit};
 use dm_reading::Reading;
+use dm_readings::definitions;
 use dm_search::Loader;
 use dm_token::{Limit, List, MOST_DEFINITIONS, Stop, Text, Unit, limit_numbers};
 use std::alloc::Global;

@@ -23,10 +23,10 @@ use Rattle.dm_reading.specs.Elaborated.{Elaborates}
 use Rattle.dm_reading.specs.declared.reading.Layers.{Layers}
 use Rattle.dm_reading.specs.declared.reading.Reading.{Reading}
 use Rattle.dm_reading.specs.Layered.{AreTokens, HasLayers, layers_of, IsLayered}
-use Rattle.dm_read.specs.Reading.{IsReading}
+use Rattle.dm_readings.specs.Reading.{IsReading}
 use Rattle.dm_reading.specs.Syntax.{IsSyntax, Refuses}
-use Rattle.dm_read.proofs.SourceLemmas.{syntax-externals}
-use Rattle.dm_read.proofs.TokenLemmas.{ctokens-sound}
+use Rattle.dm_formed.proofs.SourceLemmas.{syntax-externals}
+use Rattle.dm_formed.proofs.TokenLemmas.{ctokens-sound}
 
 -- ---- behind the preprocessor
 

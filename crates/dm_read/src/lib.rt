@@ -3,11 +3,9 @@
 
 mod behind;
 mod count;
-mod laws;
 mod syntax;
 mod unit;
 
 pub use count::Steps;
-pub use laws::one_reading_of_unit;
 pub use syntax::unit_syntax;
 pub use unit::read_unit;

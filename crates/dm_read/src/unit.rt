@@ -10,7 +10,7 @@ ghost use Rattle.dm_unit.specs.Units.{setting_of};
 ghost use Rattle.dm_unit.specs.Views.{StaysServed};
 ghost use Rattle.dm_tree.specs.TypeNumbers.{IsTypedUnit};
 ghost use Rattle.dm_reading.specs.Layered.{IsLayered};
-ghost use Rattle.dm_read.specs.Reading.{IsReading};
+ghost use Rattle.dm_readings.specs.Reading.{IsReading, IsReadingByKnown};
 
 use crate::behind::typed_tokens;
 use crate::count::Steps;
@@ -39,6 +39,7 @@ pub fn read_unit<F: Folder, L: Ledger>(
     ensures counted { readings.new ≡ readings.old + 1 }
     ensures reading { (files : Files) → F.files folder.old ≡ Some files → IsReading (setting_of loader.old loader.new files unit.now) unit.now loader.old result loader.new }
     // Whether or not the folder tells its files.
+    ensures known { IfOk result (IsReadingByKnown unit.now loader.old loader.new) }
     ensures layers { IfOk result IsLayered }
     ensures well_typed { IfOk result (λ given. IsTypedUnit given.types given.core) }
     // What the loader knows stays known, and each new name's file is held, apart from that of a stop.

@@ -29,7 +29,7 @@ use Rattle.dm_apply.specs.Endings as applying
 use Rattle.dm_apply.specs.Generation as generating
 use Rattle.dm_apply.specs.Plans.{StopsPlanning}
 use Rattle.dm_apply.specs.Summaries.{files_of, units as generated}
-use Rattle.dm_project.specs.Units.{ReadsProject, ending}
+use Rattle.dm_readings.specs.Units.{ReadsProject, ending}
 use Rattle.dm_expanding.specs.Endings as expanding
 use Rattle.dm_running.specs.declared.input.NoInput.{NoInput}
 use Rattle.dm_running.specs.declared.input.NoInput.TheVariants as input

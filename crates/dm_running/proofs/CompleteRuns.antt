@@ -25,7 +25,7 @@ use Rattle.dm_lines.specs.Statuses as statuses
 use Rattle.dm_reading.specs.declared.reading.Layers.{Layers}
 use Rattle.dm_reading.specs.declared.reading.Reading.{Reading}
 use Rattle.dm_reading.specs.Layered.{HasLayers, layers_of}
-use Rattle.dm_read.specs.Reading.{IsReading}
+use Rattle.dm_readings.specs.Reading.{IsReading}
 use Rattle.dm_outcome.specs.Outcomes.{IsSameUnit, AreOneLayers}
 use Rattle.dm_words.specs.Requests.{RunRequest}
 use Rattle.dm_running.specs.declared.input.NoInput.{NoInput}

@@ -13,7 +13,7 @@ use Rattle.dm_tree.specs.declared.unit.CoreUnit.{CoreUnit}
 use Rattle.dm_reading.specs.declared.reading.Layers.{Layers}
 use Rattle.dm_reading.specs.declared.reading.Reading.{Reading}
 use Rattle.dm_reading.specs.Layered.{HasLayers}
-use Rattle.dm_read.specs.Reading.{IsReading}
+use Rattle.dm_readings.specs.Reading.{IsReading}
 use Rattle.dm_meaning.specs.Programs.{Program}
 use Rattle.dm_meaning.specs.Units.{main_of}
 use Rattle.dm_program.specs.Sources.{meant}

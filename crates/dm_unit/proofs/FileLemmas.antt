@@ -34,7 +34,7 @@ name-past name (x ∷ xs) more h = by (bytes_eq name x) h (name-past name xs mor
     by false h next = let rest = next h in omega (arith, rest)
 
 -- what is held for a name stays when another has a number
-call-held : (old : Loaded) (name other : List ℕ) → HasSlots old → held_at (with_name old name) (number_of (with_name old name) other) ≡ held_at old (number_of old other)
+pub call-held : (old : Loaded) (name other : List ℕ) → HasSlots old → held_at (with_name old name) (number_of (with_name old name) other) ≡ held_at old (number_of old other)
 call-held old name other slots = held-with_name old name (number_of (with_name old name) other) ∙ by (list_any (bytes_eq other) old.names) refl
   where
     more : List (List ℕ)
@@ -53,7 +53,7 @@ named-same files old name other slots =
     ∙ ap (λ held. known_or held (is_absent old other) (file_at files other)) (call-held old name other slots)
 
 -- a name with the number of another is that other
-same-number : (l : Loaded) (other name : List ℕ) → name_of l (number_of l name) ≡ name → number_of l name < length l.names → number_of l other ≡ number_of l name → other ≡ name
+pub same-number : (l : Loaded) (other name : List ℕ) → name_of l (number_of l name) ≡ name → number_of l name < length l.names → number_of l other ≡ number_of l name → other ≡ name
 same-number l other name is inside same = by (list_any (bytes_eq other) l.names) refl
   where
     by : (b : Bool) → list_any (bytes_eq other) l.names ≡ b → other ≡ name

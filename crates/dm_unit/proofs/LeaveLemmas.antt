@@ -14,12 +14,13 @@ use Rattle.dm_search.specs.CallFiles.{file_for}
 use Rattle.dm_search.specs.Loading.{StopsLoading, Loads}
 use Rattle.dm_search.specs.Searching.{IsUnknown, PassesOver, EndsAt, Finds}
 use Rattle.dm_unit.specs.States.{Setting}
-use Rattle.dm_unit.specs.Loaders.{Grows, WasUnknown, stopped_at, shown}
-use Rattle.dm_unit.specs.Views.{IsFaultless, Leaves, Serves, SearchLeads, FindsHeld, stop_of, named_by, loaded_as}
+use Rattle.dm_unit.specs.Loaders.{Grows, WasUnknown, held_for, is_known, stopped_at, shown}
+use Rattle.dm_unit.specs.Views.{IsFaultless, Leaves, AreRead, Serves, SearchLeads, FindsHeld, stop_of, named_by, loaded_as}
 use Rattle.dm_unit.proofs.NameLemmas.{HasSlots, name-at, name-behind, names-with_name, with_name-known}
 use Rattle.dm_unit.proofs.GrowLemmas.{some-of, grows-refl, grows-trans, known-grows}
 use Rattle.dm_unit.proofs.SearchLemmas.{finds-leads, finds-grows}
 use Rattle.dm_unit.proofs.FileLemmas.{finds-same, finds-held, finds-fault, header-held}
+use Rattle.dm_unit.proofs.KnownLemmas.{keeps-trans, finds-keeps, finds-read}
 
 -- no stop is a fault
 pub NoFault : Option Stop → Type 0
@@ -39,7 +40,7 @@ leaves-refl told room faults l stop none = record {
   failed = λ file e. absurd (none file e);
   unknown = λ file e. absurd (none file e);
   grows = λ not. grows-refl (named_by stop) l;
-  knows = λ not name known. known;
+  knows = λ not name known. (known, refl);
   served = λ files told name. refl;
 }
 
@@ -76,7 +77,7 @@ leaves-trans t0 t1 t2 r0 r1 r2 f0 f1 f2 l0 l1 l2 stop first second =
       failed = λ file e. let rose = second.failed file e in omega (arith, early, rose);
       unknown = λ file e. let was = second.unknown file e in (not-held l0 l1 file grows was.0, not-absent l0 l1 (name_of l2 file) grows was.1);
       grows = λ not. grows-trans (named_by stop) l0 l1 l2 grows (second.grows not);
-      knows = λ not name known. second.knows not name (first.knows none-memory name known);
+      knows = λ not. keeps-trans l0 l1 l2 (first.knows none-memory) (second.knows not);
       served = λ files told name. second.served files (first.files_stay ∙ told) name ∙ first.served files told name;
     }
 
@@ -90,7 +91,7 @@ leaves-stop t0 t1 r0 r1 f0 f1 l0 l1 stop none first = record {
   failed = λ file e. absurd (none file e);
   unknown = λ file e. absurd (none file e);
   grows = λ not. grows-weaken (named_by stop) l0 l1 (first.grows none-memory);
-  knows = λ not name known. first.knows none-memory name known;
+  knows = λ not. first.knows none-memory;
   served = first.served;
 }
 
@@ -121,7 +122,7 @@ search-leaves told told_now room room_now faults faults_now header names old res
   failed = λ file e. failed file (stop-is result (ReadFault file) e);
   unknown = λ file e. unknown file (stop-is result (ReadFault file) e) found;
   grows = λ not. subst (λ apart. Grows apart old new) (stopped-named result) (grows (λ e. not (is-memory result e)) found);
-  knows = λ not name known. known-grows (stopped_at result) old new name slots (grows (λ e. not (is-memory result e)) found) known;
+  knows = λ not name known. (known-grows (stopped_at result) old new name slots (grows (λ e. not (is-memory result e)) found) known, still name known found);
   served = λ files is name. served files is name found;
 }
   where
@@ -136,15 +137,27 @@ search-leaves told told_now room room_now faults faults_now header names old res
     grows not (inl memory) = absurd (not memory.0)
     grows not (inr finds) = finds-grows told header names old result new slots not finds
 
+    still : (name : List ℕ) → is_known old name ≡ true → Found told header names old result new → held_for new name ≡ held_for old name
+    still name known (inl memory) = ap (λ (l : Loaded). held_for l name) memory.1
+    still name known (inr finds) = finds-keeps told header names old result new name slots finds known
+
     served : (files : Files) → told ≡ Some files → (name : List ℕ) → Found told header names old result new → file_for new files name ≡ file_for old files name
     served files is name (inl memory) = ap (λ (l : Loaded). file_for l files name) memory.1
     served files is name (inr finds) = finds-same files header names old result new slots (subst (λ t. Finds t header names old result new) is finds) name
 
 pub search-leads : (told : Option Files) (unit : Source) (main : ℕ) (header : Option ℕ) (names : List (List ℕ)) (old : Loaded) (result : Result (Option ℕ) Stop) (new : Loaded) (setting : Setting)
-    → HasSlots old → Found told header names old result new → Serves told unit main old new setting → SearchLeads setting header names (shown old) result (shown new)
+    → HasSlots old → Found told header names old result new → Serves told unit main old new (stop_of result) setting → SearchLeads setting header names (shown old) result (shown new)
 search-leads told unit main header names old result new setting slots (inl memory) serves = subst (λ r. SearchLeads setting header names (shown old) r (shown new)) (sym memory.0) tt
 search-leads told unit main header names old result new setting slots (inr finds) serves =
-    finds-leads setting serves.files.0 header names old result new slots serves.files.2 serves.looked serves.named (subst (λ t. Finds t header names old result new) serves.files.1 finds)
+    finds-leads setting serves.files.0 header names old result new slots serves.files.2 serves.looked serves.named (read result serves.files.1 finds)
+  where
+    read : (result : Result (Option ℕ) Stop) → AreRead told old new (stop_of result) serves.files.0 → Finds told header names old result new → Finds (Some serves.files.0) header names old result new
+    read result (inl are) finds = subst (λ t. Finds t header names old result new) are finds
+    read (Ok found) (inr known) finds = finds-read serves.files.0 told header names old found new slots known.1 finds
+    read (Err stop) (inr known) finds = absurd (no-stop known.0)
+      where
+        no-stop : ◌≡◌ {A = Option Stop} (Some stop) None → ⊥
+        no-stop e = cc
 
 pub search-held : (told : Option Files) (name : List ℕ) (names : List (List ℕ)) (old : Loaded) (result : Result (Option ℕ) Stop) (new : Loaded)
     → HasSlots old → StartsWithHeaders old → Found told (header_number name) names old result new → FindsHeld result new

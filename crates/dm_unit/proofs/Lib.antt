@@ -2,6 +2,7 @@ mod ConditionLemmas
 mod DefinitionLemmas
 pub mod FileLemmas
 pub mod GrowLemmas
+mod KnownLemmas
 mod LeaveLemmas
 mod LineLemmas
 pub mod ListLemmas

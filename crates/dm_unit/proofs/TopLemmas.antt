@@ -11,12 +11,13 @@ use Rattle.dm_search.specs.Loaded.{Loaded, number_of, name_of, held_at, is_held,
 use Rattle.dm_search.specs.CallFiles.{file_for}
 use Rattle.dm_unit.specs.States.{Setting, Catalogue, State}
 use Rattle.dm_unit.specs.Readings.{ReadsMain, ReadsUnit, DoesManifests}
-use Rattle.dm_unit.specs.Units.{IsReadAs, AreNumbered, setting_of, first_files, state_with, finished}
-use Rattle.dm_unit.specs.Loaders.{Grows, IsOf, file_of, shown}
-use Rattle.dm_unit.specs.Views.{Stops, Does, Serves, Leaves, HoldsMain, stop_of, named_by}
+use Rattle.dm_unit.specs.Units.{IsReadAs, IsReadByKnown, AreNumbered, setting_of, first_files, state_with, finished}
+use Rattle.dm_unit.specs.Loaders.{Grows, KeepsKnown, HasKnown, IsOf, file_of, held_for, shown}
+use Rattle.dm_unit.specs.Views.{Stops, Does, AreRead, Serves, Leaves, HoldsMain, stop_of, named_by}
 use Rattle.dm_unit.proofs.NameLemmas.{HasSlots, shown-with_name, held-with_name, absent-with_name}
 use Rattle.dm_unit.proofs.GrowLemmas.{some-of, grows-name, known-grows}
-use Rattle.dm_unit.proofs.FileLemmas.{named-same}
+use Rattle.dm_unit.proofs.FileLemmas.{call-held, named-same}
+use Rattle.dm_unit.proofs.KnownLemmas.{keeps-trans, known-late}
 use Rattle.dm_unit.proofs.ReadingLemmas.{unit-reads, unit-stops, stops-map}
 use Rattle.dm_unit.proofs.UnitLemmas.{does-map, name-early}
 
@@ -50,6 +51,13 @@ grows-main apart l0 l1 l2 n first second main = record {
     by file least inside true h = early file (first.new_held file least (ltb-true file (length l1.names) h))
     by file least inside false h = second.new_held file (ltb-false file (length l1.names) h) inside
 
+-- what is known stays
+named-keeps : (l0 l1 : Loaded) (name : List ℕ) → HasSlots l0 → l1 ≡ with_name l0 name → KeepsKnown l0 l1
+named-keeps l0 l1 name slots is other known = (
+  known-grows (Some (number_of l0 name)) l0 l1 other slots (subst (Grows (Some (number_of l0 name)) l0) (sym is) (grows-name (Some (number_of l0 name)) l0 name refl)) known,
+  ap (λ (l : Loaded). held_for l other) is ∙ call-held l0 name other slots,
+)
+
 -- a step behind that
 pub unit-leaves : (t0 t1 : Option Files) (r0 r1 : List ℕ → ℕ) (f0 f1 : ℕ) (l0 l1 l2 : Loaded) (name : List ℕ) (stop : Option Stop) → HasSlots l0 → l1 ≡ with_name l0 name → Leaves t0 t1 r0 r1 f0 f1 l1 l2 stop
     → (stop ≢ Some Memory → (is_held l2 (number_of l0 name) ≡ true) ⊎ IsOf (named_by stop) (number_of l0 name)) → Leaves t0 t1 r0 r1 f0 f1 l0 l2 stop
@@ -65,7 +73,7 @@ unit-leaves t0 t1 r0 r1 f0 f1 l0 l1 l2 name stop slots is leaves main =
         sym (ap (λ (l : Loaded). is_absent l (name_of l2 file)) is ∙ still (name_of l2 file)) ∙ was.1,
       );
       grows = λ not. grows-main (named_by stop) l0 l1 l2 (number_of l0 name) first (leaves.grows not) (main not);
-      knows = λ not other known. leaves.knows not other (known-grows (Some (number_of l0 name)) l0 l1 other slots first known);
+      knows = λ not. keeps-trans l0 l1 l2 (named-keeps l0 l1 name slots is) (leaves.knows not);
       served = λ files told other. leaves.served files told other ∙ ap (λ (l : Loaded). file_for l files other) is ∙ named-same files l0 name other slots;
     }
   where
@@ -88,15 +96,19 @@ leaves-memory t0 t1 r0 r1 f0 f1 l0 l2 stop is leaves = record {
 -- WHAT THE CALL GIVES
 
 -- the setting of the call
-pub unit-serves : (told : Option Files) (files : Files) (unit : Source) (l0 l1 l2 : Loaded) (main : ℕ) → HasSlots l0 → l1 ≡ with_name l0 unit.file → main ≡ number_of l0 unit.file → told ≡ Some files
-    → Serves told unit main l1 l2 (setting_of l0 l2 files unit)
-unit-serves told files unit l0 l1 l2 main slots is number are = record {
+pub unit-serves : (told : Option Files) (files : Files) (unit : Source) (l0 l1 l2 : Loaded) (main : ℕ) (stop : Option Stop) → HasSlots l0 → l1 ≡ with_name l0 unit.file → main ≡ number_of l0 unit.file
+    → AreRead told l1 l2 stop files → Serves told unit main l1 l2 stop (setting_of l0 l2 files unit)
+unit-serves told files unit l0 l1 l2 main stop slots is number are = record {
   files = (files, are, λ name. ap (λ (l : Loaded). file_for l files name) is ∙ named-same files l0 unit.file name slots);
   looked = λ name known. known;
   named = λ number inside. refl;
   include = refl;
   main_is = sym number;
 }
+
+-- what became known behind the main file's number is what became known behind the call's beginning
+pub unit-known : (files : Files) (l0 l1 l2 : Loaded) (name : List ℕ) → HasSlots l0 → l1 ≡ with_name l0 name → HasKnown files l0 l2 → HasKnown files l1 l2
+unit-known files l0 l1 l2 name slots is has = known-late files l0 l1 l2 (named-keeps l0 l1 name slots is) has
 
 -- the numbers of the files at its beginning
 pub unit-numbered : (files : Files) (unit : Source) (apart : Option ℕ) (l0 l1 l2 : Loaded) → l1 ≡ with_name l0 unit.file → Grows apart l1 l2 → AreNumbered (setting_of l0 l2 files unit) (first_files l0 unit)
@@ -137,6 +149,13 @@ pub unit-answers : (setting : Setting) (unit : Source) (l0 new : Loaded) (start 
     → IfOk result (λ tokens. tokens ≡ finished final) → IfErr result (λ stop. stop ≡ Memory) → final.files ≡ shown new → IsReadAs setting unit l0 result new
 unit-answers setting unit l0 new start final (Ok tokens) numbered begun reads is memory files = unit-answer setting unit l0 new start final tokens numbered begun reads is files
 unit-answers setting unit l0 new start final (Err stop) numbered begun reads is memory files = subst (λ s. IsReadAs setting unit l0 (Err s) new) (sym memory) tt
+
+-- so it is over all files that have what became known
+pub unit-read : (unit : Source) (l0 new : Loaded) (start final : State) (result : Result UnitTokens Stop) → ((files : Files) → AreNumbered (setting_of l0 new files unit) (first_files l0 unit)) → start ≡ state_with (first_files l0 unit)
+    → ((files : Files) → HasKnown files l0 new → ReadsUnit (setting_of l0 new files unit) unit.file unit.define start (Ok final)) → IfOk result (λ tokens. tokens ≡ finished final) → final.files ≡ shown new
+    → IfOk result (IsReadByKnown unit l0 new)
+unit-read unit l0 new start final (Ok tokens) numbered begun reads is are = λ files has. unit-answer (setting_of l0 new files unit) unit l0 new start final tokens (numbered files) begun (reads files has) is are
+unit-read unit l0 new start final (Err stop) numbered begun reads is are = tt
 
 pub finish-leaves : {A : Type 0} (t0 t1 : Option Files) (r0 r1 : List ℕ → ℕ) (f0 f1 : ℕ) (l0 l2 : Loaded) (result : Result A Stop) → IfErr result (λ stop. stop ≡ Memory) → Leaves t0 t1 r0 r1 f0 f1 l0 l2 None
     → Leaves t0 t1 r0 r1 f0 f1 l0 l2 (stop_of result)

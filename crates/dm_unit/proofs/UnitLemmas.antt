@@ -1,5 +1,5 @@
 -- How the reading of one part of a file follows that of another.
-use Rattle.std.proofs.Common.{◌≡◌, ◌≢◌, ℕ, zero, suc, ◌+◌, ◌-◌, ◌<◌, ◌≤◌, true, List, [], ◌∷◌, ◌++◌, length, get_or, take, drop, unwrap_or, Option, None, Some, Result, Ok, Err, slice_range, refl, sym, ap, ◌∙◌, subst, arith}
+use Rattle.std.proofs.Common.{◌≡◌, ◌≢◌, ℕ, zero, suc, ◌+◌, ◌-◌, ◌<◌, ◌≤◌, inl, inr, List, [], ◌∷◌, ◌++◌, length, get_or, take, drop, unwrap_or, Option, None, Some, Result, Ok, Err, slice_range, refl, sym, ap, ◌∙◌, subst, arith}
 use Rattle.std.specs.Result.{result_unwrap_or}
 use Rattle.std.proofs.lemmas.List.{length-drop, length-append}
 use Rattle.std.proofs.Math.ListN.{drop_of_length-le}
@@ -9,14 +9,15 @@ use Rattle.dm_token.specs.declared.stop.Stop.{Stop}
 use Rattle.dm_token.specs.declared.stop.Stop.TheVariants.{Memory, Refused, Limit, ReadFault}
 use Rattle.dm_io.specs.Files.{Files, file_at}
 use Rattle.dm_search.specs.Loaded.{Loaded, name_of, held_at, is_absent}
-use Rattle.dm_search.specs.CallFiles.{known_or}
-use Rattle.dm_unit.specs.Lines.{Part, text, directive, parts_of}
+use Rattle.dm_search.specs.CallFiles.{known_or, file_for}
+use Rattle.dm_unit.specs.Lines.{Part, parts_of}
 use Rattle.dm_unit.specs.States.{Setting, State, Outcome}
 use Rattle.dm_unit.specs.Sources.{reading_of, tokens_in}
 use Rattle.dm_unit.specs.Readings.{ReadsPart, ReadsParts, ReadsFile, Enters, begun, end_in, within}
-use Rattle.dm_unit.specs.Loaders.{Grows, is_known, shown}
-use Rattle.dm_unit.specs.Views.{Stops, Does, Serves, StaysServed, IsHeld, IsBytesOf, PartLeads, part_of, held_tokens, stop_of}
+use Rattle.dm_unit.specs.Loaders.{Grows, KeepsKnown, shown}
+use Rattle.dm_unit.specs.Views.{Stops, Does, AreRead, Serves, StaysServed, IsHeld, IsBytesOf, PartLeads, part_of, held_tokens, stop_of}
 use Rattle.dm_unit.proofs.GrowLemmas.{some-of}
+use Rattle.dm_unit.proofs.KnownLemmas.{known-early, known-late, known-served}
 use Rattle.dm_unit.proofs.ReadingLemmas.{stops-map, file-stops, file-ends, parts-go, parts-stop, parts-end}
 
 -- THE SETTING
@@ -36,28 +37,57 @@ named-early names more all number is inside named =
     named (omega (arith, longer, joined, inside)) ∙ ap (λ (ns : List (List ℕ)). get_or ns number []) is ∙ name-early names more number inside
 
 -- the names that are known in between are known at the end
-pub serves-early : (told : Option Files) (unit : Source) (main : ℕ) (l0 l1 l2 : Loaded) (setting : Setting) → ((name : List ℕ) → is_known l1 name ≡ true → is_known l2 name ≡ true)
-    → ((more : List (List ℕ)) × (l2.names ≡ l1.names ++ more)) → Serves told unit main l0 l2 setting → Serves told unit main l0 l1 setting
-serves-early told unit main l0 l1 l2 setting knows begins serves = record {
-  files = serves.files;
-  looked = λ name known. serves.looked name (knows name known);
+pub serves-early : (told : Option Files) (unit : Source) (main : ℕ) (l0 l1 l2 : Loaded) (stop : Option Stop) (setting : Setting) → KeepsKnown l1 l2
+    → ((more : List (List ℕ)) × (l2.names ≡ l1.names ++ more)) → Serves told unit main l0 l2 stop setting → Serves told unit main l0 l1 None setting
+serves-early told unit main l0 l1 l2 stop setting knows begins serves = record {
+  files = (serves.files.0, read serves.files.1, serves.files.2);
+  looked = λ name known. serves.looked name (knows name known).0;
   named = λ number inside. named-early l1.names begins.0 l2.names number begins.1 inside (serves.named number);
   include = serves.include;
   main_is = serves.main_is;
 }
+  where
+    read : AreRead told l0 l2 stop serves.files.0 → AreRead told l0 l1 None serves.files.0
+    read (inl are) = inl are
+    read (inr known) = inr (refl, known-early serves.files.0 l0 l1 l2 knows known.1)
 
-pub serves-late : (t0 t1 : Option Files) (unit : Source) (main next : ℕ) (l0 l1 l2 : Loaded) (setting : Setting) → t1 ≡ t0 → StaysServed t0 l0 l1 → next ≡ main → Serves t0 unit main l0 l2 setting → Serves t1 unit next l1 l2 setting
-serves-late t0 t1 unit main next l0 l1 l2 setting stay served mains serves = record {
-  files = (serves.files.0, stay ∙ serves.files.1, λ name. served serves.files.0 serves.files.1 name ∙ serves.files.2 name);
+pub serves-late : (t0 t1 : Option Files) (unit : Source) (main next : ℕ) (l0 l1 l2 : Loaded) (stop : Option Stop) (setting : Setting) → t1 ≡ t0 → StaysServed t0 l0 l1 → KeepsKnown l0 l1 → (stop ≢ Some Memory → KeepsKnown l1 l2)
+    → next ≡ main → Serves t0 unit main l0 l2 stop setting → Serves t1 unit next l1 l2 stop setting
+serves-late t0 t1 unit main next l0 l1 l2 stop setting stay served knows keeps mains serves = record {
+  files = (serves.files.0, (read serves.files.1).0, λ name. (read serves.files.1).1 name ∙ serves.files.2 name);
   looked = serves.looked;
   named = serves.named;
   include = serves.include;
   main_is = serves.main_is ∙ sym mains;
 }
+  where
+    not-none : ◌≡◌ {A = Option Stop} None (Some Memory) → ⊥
+    not-none e = cc
+
+    read : AreRead t0 l0 l2 stop serves.files.0 → AreRead t1 l1 l2 stop serves.files.0 × ((name : List ℕ) → file_for l1 serves.files.0 name ≡ file_for l0 serves.files.0 name)
+    read (inl are) = (inl (stay ∙ are), served serves.files.0 are)
+    read (inr known) = (
+      inr (known.0, known-late serves.files.0 l0 l1 l2 knows known.1),
+      known-served serves.files.0 l0 l1 l2 knows (keeps (λ e. absurd (not-none (sym known.0 ∙ e)))) known.1,
+    )
+
+-- what serves a call that stops serves one that doesn't and leaves the same
+pub serves-still : (told : Option Files) (unit : Source) (main : ℕ) (old new : Loaded) (stop : Option Stop) (setting : Setting) → Serves told unit main old new stop setting → Serves told unit main old new None setting
+serves-still told unit main old new stop setting serves = record {
+  files = (serves.files.0, read serves.files.1, serves.files.2);
+  looked = serves.looked;
+  named = serves.named;
+  include = serves.include;
+  main_is = serves.main_is;
+}
+  where
+    read : AreRead told old new stop serves.files.0 → AreRead told old new None serves.files.0
+    read (inl are) = inl are
+    read (inr known) = inr (refl, known.1)
 
 -- the bytes of a file that is held are those of the setting
-pub held-file : (setting : Setting) (told : Option Files) (unit : Source) (main : ℕ) (old new : Loaded) (file : ℕ) → Serves told unit main old new setting → IsHeld old file → IsBytesOf setting old file
-held-file setting told unit main old new file serves is =
+pub held-file : (setting : Setting) (told : Option Files) (unit : Source) (main : ℕ) (old new : Loaded) (stop : Option Stop) (file : ℕ) → Serves told unit main old new stop setting → IsHeld old file → IsBytesOf setting old file
+held-file setting told unit main old new stop file serves is =
     let bytes = some-of (held_at old file) is.held in
     let name = name_of old file in
     let source : setting.source name ≡ Some bytes.0 =

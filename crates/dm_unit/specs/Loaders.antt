@@ -2,6 +2,7 @@
 use Rattle.std.specs.Prelude.{◌≡◌, ◌⊎◌, ℕ, ◌<◌, ◌≤◌, ◌||◌, Bool, true, false, List, ◌++◌, map, length, Option, Some, None, Result, Ok, Err, is_some}
 use Rattle.dm_token.specs.declared.stop.Stop.{Stop}
 use Rattle.dm_token.specs.declared.stop.Stop.TheVariants.{Memory, Refused, Limit, ReadFault}
+use Rattle.dm_io.specs.Files.{Files, file_at}
 use Rattle.dm_search.specs.Loaded.{Loaded, name_of, number_of, held_at, is_held, is_absent}
 use Rattle.dm_unit.specs.States.{Catalogue}
 
@@ -16,6 +17,18 @@ shown loaded = record { names = loaded.names; found = map is_some loaded.held }
 -- whether the file of a name is held, or known to be absent
 abbrev pub is_known : Loaded → List ℕ → Bool
 is_known loaded name = is_held loaded (number_of loaded name) || is_absent loaded name
+
+-- the bytes held for a name, if any
+abbrev pub held_for : Loaded → List ℕ → Option (List ℕ)
+held_for loaded name = held_at loaded (number_of loaded name)
+
+-- What is known of the file of a name stays: its bytes, or that there is none.
+abbrev pub KeepsKnown : Loaded → Loaded → Type 0
+KeepsKnown old new = (name : List ℕ) → is_known old name ≡ true → (is_known new name ≡ true) × (held_for new name ≡ held_for old name)
+
+-- These files have, for each name of which a loader comes to know, what it knows then: the bytes that it holds, or none.
+abbrev pub HasKnown : Files → Loaded → Loaded → Type 0
+HasKnown files old new = (name : List ℕ) → is_known old name ≡ false → is_known new name ≡ true → file_at files name ≡ held_for new name
 
 -- the file that a stop names
 abbrev pub file_of : Stop → Option ℕ

@@ -2,6 +2,7 @@
 --     setting_of, start_of      what a unit is read with, and the state before it is read
 --     finished state      the unit's tokens, as they are given
 --     IsReadAs      the answer is that of the reading, or its stop
+--     IsReadByKnown      so it is over all files that have what the loader came to know
 use Rattle.std.specs.Prelude.{◌≡◌, ℕ, ◌<◌, List, [], ◌∷◌, length, slice_index_or, Result, Ok, Err}
 use Rattle.std.specs.FinMap as finite
 use Rattle.dm_token.specs.declared.stop.Stop.{Stop}
@@ -17,7 +18,7 @@ use Rattle.dm_search.specs.CallFiles.{file_for}
 use Rattle.dm_unit.specs.States.{Setting, Catalogue, State, Outcome}
 use Rattle.dm_unit.specs.Includes.{numbered}
 use Rattle.dm_unit.specs.Readings.{ReadsUnit}
-use Rattle.dm_unit.specs.Loaders.{shown, is_known}
+use Rattle.dm_unit.specs.Loaders.{HasKnown, shown, is_known}
 
 -- What a unit is read with, where these are the folder's files: those that the loader knows are as it knows them. Each name
 -- that is looked for is known afterwards, and each number has the name that it has afterwards.
@@ -86,3 +87,8 @@ IsReadAs setting unit old (Err Memory) new = Unit {0}
 IsReadAs setting unit old (Err (Refused refusal)) new = HasOutcome setting old unit (Err (Refused refusal))
 IsReadAs setting unit old (Err (Limit limit)) new = HasOutcome setting old unit (Err (Limit limit))
 IsReadAs setting unit old (Err (ReadFault file)) new = HasOutcome setting old unit (Err (ReadFault file))
+
+-- The tokens are those of the unit over any files that have what the loader came to know. So a unit's reading hangs on these alone, and it is one
+-- whether or not the folder tells its files.
+abbrev pub IsReadByKnown : Source → Loaded → Loaded → UnitTokens → Type 0
+IsReadByKnown unit old new tokens = (files : Files) → HasKnown files old new → IsReadAs (setting_of old new files unit) unit old (Ok tokens) new

@@ -36,7 +36,7 @@ use Rattle.dm_unit.specs.Includes.{Sought, sought, Searches, is_header_kind, is_
 use Rattle.dm_search.specs.Headers.{header_number}
 use Rattle.dm_search.specs.Joining.{candidates, places}
 use Rattle.dm_unit.specs.Readings.{ReadsPart, Enters, after_text}
-use Rattle.dm_unit.specs.Loaders.{Grows, WasUnknown, IsOf, file_of, is_known, shown}
+use Rattle.dm_unit.specs.Loaders.{Grows, WasUnknown, IsOf, KeepsKnown, HasKnown, file_of, is_known, shown}
 use Rattle.dm_io.specs.Faults.{Rose}
 
 -- what was read, where these are the files
@@ -128,10 +128,14 @@ IsHeader start [] found = ⊥
 IsHeader start (header ∷ others) found =
     (is_header_kind header.kind ≡ true) × (found.start ≡ start.place) × (found.quoted ≡ is_quoted header.spelling) × (found.name ≡ header_name header.spelling)
 
--- The folder's files are told, and the setting has those of the call. It lets the names be looked for that are known then, and has the
--- names that numbers have then.
-pub record Serves (told : Option Files) (unit : Source) (main : ℕ) (old new : Loaded) (setting : Setting) : Type 0 where
-  pub files : (files : Files) × (told ≡ Some files) × ((name : List ℕ) → file_for old files name ≡ setting.source name)
+-- The files are those that the folder tells. Whether or not it tells them, a call that doesn't stop has read these where they have all that
+-- the loader came to know.
+abbrev pub AreRead : Option Files → Loaded → Loaded → Option Stop → Files → Type 0
+AreRead told old new stop files = (told ≡ Some files) ⊎ ((stop ≡ None) × HasKnown files old new)
+
+-- The setting has the files of the call. It lets the names be looked for that are known then, and has the names that numbers have then.
+pub record Serves (told : Option Files) (unit : Source) (main : ℕ) (old new : Loaded) (stop : Option Stop) (setting : Setting) : Type 0 where
+  pub files : (files : Files) × AreRead told old new stop files × ((name : List ℕ) → file_for old files name ≡ setting.source name)
   pub looked : (name : List ℕ) → is_known new name ≡ true → setting.looked name ≡ true
   pub named : (number : ℕ) → number < length new.names → setting.named number ≡ name_of new number
   pub include : setting.include ≡ unit.include
@@ -160,7 +164,7 @@ pub record Leaves (told told_now : Option Files) (room room_now : List ℕ → �
   pub failed : (file : ℕ) → stop ≡ Some (ReadFault file) → Rose faults faults_now
   pub unknown : (file : ℕ) → stop ≡ Some (ReadFault file) → WasUnknown old new file
   pub grows : stop ≢ Some Memory → Grows (named_by stop) old new
-  pub knows : stop ≢ Some Memory → (name : List ℕ) → is_known old name ≡ true → is_known new name ≡ true
+  pub knows : stop ≢ Some Memory → KeepsKnown old new
   pub served : StaysServed told old new
 
 -- what a loading of the main file finds

@@ -91,7 +91,7 @@ pub(crate) fn find_included<F: Folder>(
     requires room { length loader.old.names ≤ most_names + reader.old.inclusions }
     requires few { reader.old.inclusions ≤ most_inclusions }
     requires numbered { file < length loader.old.names }
-    ensures finds { (setting : Setting) → Serves (F.files folder.old) unit.now reader.old.main loader.old loader.new setting →
+    ensures finds { (setting : Setting) → Serves (F.files folder.old) unit.now reader.old.main loader.old loader.new (stop_of result) setting →
         FindsIncluded setting file header (shown loader.old) reader.old result (shown loader.new) }
     ensures included { OnOk result (IncludesOne reader.old reader.new) }
     ensures held { IfOk result (IsHeld loader.new) }
@@ -120,7 +120,7 @@ fn search<F: Folder>(
 ) -> Result<Option<u32>, Stop>
     requires room { length loader.old.names < 4294967295 }
     requires numbered { file < length loader.old.names }
-    ensures search { (setting : Setting) (main : ℕ) → Serves (F.files folder.old) unit.now main loader.old loader.new setting →
+    ensures search { (setting : Setting) (main : ℕ) → Serves (F.files folder.old) unit.now main loader.old loader.new (stop_of result) setting →
         SearchLeads setting (header_number header.now.name) (names_for header.now.name (places (name_of loader.old file) header.now.quoted setting.include)) (shown loader.old) result (shown loader.new) }
     ensures held { FindsHeld result loader.new }
     ensures names { length loader.new.names ≤ length loader.old.names + 1 }
@@ -146,7 +146,7 @@ pub(crate) fn load_main<F: Folder>(
 ) -> Result<bool, Stop>
     requires numbered { file < length loader.old.names }
     requires number { file ≡ number_of loader.old name.now }
-    ensures search { (setting : Setting) (unit : Source) (main : ℕ) → Serves (F.files folder.old) unit main loader.old loader.new setting →
+    ensures search { (setting : Setting) (unit : Source) (main : ℕ) → Serves (F.files folder.old) unit main loader.old loader.new (stop_of result) setting →
         SearchLeads setting None (name.now ∷ []) (shown loader.old) (loaded_as file result) (shown loader.new) }
     ensures held { FindsHeld (loaded_as file result) loader.new }
     ensures names { OnOk result (length loader.new.names ≡ length loader.old.names) }

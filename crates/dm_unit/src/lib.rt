@@ -2,7 +2,7 @@
 //! (6.10).
 #![tactic(auto)]
 
-ghost use Rattle.std.specs.Prelude.{◌≡◌, ◌≢◌, ◌+◌, ◌<◌, ◌≤◌, ℕ, Bool, List, Some, Err, IfErr, OnOk, All, length, slice_range};
+ghost use Rattle.std.specs.Prelude.{◌≡◌, ◌≢◌, ◌+◌, ◌<◌, ◌≤◌, ℕ, Bool, List, Some, Err, IfOk, IfErr, OnOk, All, length, slice_range};
 ghost use Rattle.dm_token.specs.Limits.{source_length_limit, most_inclusions};
 ghost use Rattle.dm_token.specs.declared.stop.Stop.TheVariants.{Memory, ReadFault};
 ghost use Rattle.dm_io.specs.Faults.{Rose};
@@ -12,7 +12,7 @@ ghost use Rattle.dm_unit.specs.States.{Setting, Catalogue, State, Outcome};
 ghost use Rattle.dm_unit.specs.Outcomes.{seeing, Agree, IsLike};
 ghost use Rattle.dm_unit.specs.Loaders.{Grows, WasUnknown, shown, stopped_at, most_names};
 ghost use Rattle.dm_unit.specs.Readings.{ReadsPart, ReadsFile, ReadsMain, ReadsUnit, DoesManifests, Enters};
-ghost use Rattle.dm_unit.specs.Units.{IsReadAs, setting_of};
+ghost use Rattle.dm_unit.specs.Units.{IsReadAs, IsReadByKnown, setting_of};
 ghost use Rattle.dm_unit.specs.Views.{IsFaultless, state_of, Does, Serves, Leaves, stop_of, IsHeld, part_of, held_tokens, HoldsMain, NamesMain, IsCounted, Follows, FollowsPart, StaysServed};
 
 mod condition;
@@ -63,6 +63,9 @@ pub fn unit_tokens<F: Folder>(
     ensures reading { (files : Files) → F.files folder.old ≡ Some files →
         IsReadAs (setting_of loader.old loader.new files unit.now) unit.now loader.old result loader.new }
 
+    // Whether or not the folder tells its files, what is given is the reading of those that the loader came to know.
+    ensures known { IfOk result (IsReadByKnown unit.now loader.old loader.new) }
+
     // What the loader knows stays known, and each new name's file is held, apart from that of a stop.
     ensures loader { result ≢ Err Memory → Grows (stopped_at result) loader.old loader.new }
 
@@ -100,6 +103,7 @@ fn read_unit<F: Folder>(
     requires short { All (λ (define : List ℕ). length define ≤ source_length_limit) unit.now.define }
     ensures reading { (files : Files) → F.files folder.old ≡ Some files →
         IsReadAs (setting_of loader.old loader.new files unit.now) unit.now loader.old result loader.new }
+    ensures known { IfOk result (IsReadByKnown unit.now loader.old loader.new) }
     ensures leaves { Leaves (F.files folder.old) (F.files folder.new) (F.room folder.old) (F.room folder.new) (F.faults folder.old) (F.faults folder.new) loader.old loader.new (stop_of result) }
 {
     // The proof needs a clause of this call: each name has a slot for its bytes.
@@ -128,7 +132,7 @@ fn read_all<F: Folder>(
     requires number { main ≡ number_of loader.old unit.now.file }
     requires main { reader.old.main ≡ main }
     requires short { All (λ (define : List ℕ). length define ≤ source_length_limit) unit.now.define }
-    ensures leads { (setting : Setting) → Serves (F.files folder.old) unit.now main loader.old loader.new setting →
+    ensures leads { (setting : Setting) → Serves (F.files folder.old) unit.now main loader.old loader.new (stop_of result) setting →
         Does (ReadsUnit setting unit.now.file unit.now.define (state_of reader.old (shown loader.old))) result (state_of reader.new (shown loader.new)) }
     ensures main { HoldsMain main result loader.new }
     ensures leaves { Leaves (F.files folder.old) (F.files folder.new) (F.room folder.old) (F.room folder.new) (F.faults folder.old) (F.faults folder.new) loader.old loader.new (stop_of result) }
@@ -174,7 +178,7 @@ fn read_main<F: Folder>(
     requires numbered { main < length loader.old.names }
     requires number { main ≡ number_of loader.old unit.now.file }
     requires main { reader.old.main ≡ main }
-    ensures leads { (setting : Setting) → Serves (F.files folder.old) unit.now main loader.old loader.new setting →
+    ensures leads { (setting : Setting) → Serves (F.files folder.old) unit.now main loader.old loader.new (stop_of result) setting →
         Does (ReadsMain setting unit.now.file (state_of reader.old (shown loader.old))) result (state_of reader.new (shown loader.new)) }
     ensures main { HoldsMain main result loader.new }
     ensures leaves { Leaves (F.files folder.old) (F.files folder.new) (F.room folder.old) (F.room folder.new) (F.faults folder.old) (F.faults folder.new) loader.old loader.new (stop_of result) }
@@ -201,7 +205,7 @@ fn read_file<F: Folder>(
     requires few { reader.old.inclusions ≤ most_inclusions }
     requires room { length loader.old.names ≤ most_names + reader.old.inclusions }
     requires held { IsHeld loader.old file }
-    ensures leads { (setting : Setting) → Serves (F.files folder.old) unit.now reader.old.main loader.old loader.new setting →
+    ensures leads { (setting : Setting) → Serves (F.files folder.old) unit.now reader.old.main loader.old loader.new (stop_of result) setting →
         Does (ReadsFile setting (Enters setting more) file (state_of reader.old (shown loader.old))) result (state_of reader.new (shown loader.new)) }
     ensures follows { OnOk result (FollowsPart reader.old reader.new) }
     ensures room { OnOk result (length loader.new.names ≤ most_names + reader.new.inclusions) }
@@ -245,7 +249,7 @@ fn read_and_enter<F: Folder>(
     requires held { IsHeld loader.old file }
     requires some { from < to }
     requires inside { to ≤ length (held_tokens loader.old file) }
-    ensures leads { (setting : Setting) → Serves (F.files folder.old) unit.now reader.old.main loader.old loader.new setting →
+    ensures leads { (setting : Setting) → Serves (F.files folder.old) unit.now reader.old.main loader.old loader.new (stop_of result) setting →
         Does (ReadsPart setting (Enters setting more) file (part_of (slice_range (held_tokens loader.old file) from to)) (state_of reader.old (shown loader.old))) result (state_of reader.new (shown loader.new)) }
     ensures follows { OnOk result (FollowsPart reader.old reader.new) }
     ensures room { OnOk result (length loader.new.names ≤ most_names + reader.new.inclusions) }
@@ -273,7 +277,7 @@ fn enter<F: Folder>(
     requires few { reader.old.inclusions ≤ most_inclusions }
     requires room { length loader.old.names ≤ most_names + reader.old.inclusions }
     requires held { IsHeld loader.old file }
-    ensures leads { (setting : Setting) → Serves (F.files folder.old) unit.now reader.old.main loader.old loader.new setting →
+    ensures leads { (setting : Setting) → Serves (F.files folder.old) unit.now reader.old.main loader.old loader.new (stop_of result) setting →
         Does (Enters setting more file (state_of reader.old (shown loader.old))) result (state_of reader.new (shown loader.new)) }
     ensures follows { OnOk result (FollowsPart reader.old reader.new) }
     ensures room { OnOk result (length loader.new.names ≤ most_names + reader.new.inclusions) }

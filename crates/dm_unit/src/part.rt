@@ -64,7 +64,7 @@ pub(crate) fn read_part<F: Folder>(
     requires held { IsHeld loader.old file }
     requires some { from < to }
     requires inside { to ≤ length (held_tokens loader.old file) }
-    ensures leads { (setting : Setting) → Serves (F.files folder.old) unit.now reader.old.main loader.old loader.new setting →
+    ensures leads { (setting : Setting) → Serves (F.files folder.old) unit.now reader.old.main loader.old loader.new (stop_of result) setting →
         PartLeads setting file (part_of (slice_range (held_tokens loader.old file) from to)) (state_of reader.old (shown loader.old)) result (state_of reader.new (shown loader.new)) }
     ensures follows { OnOk result (FollowsPart reader.old reader.new) }
     ensures held { IfOk result (λ included. IfSome included (IsHeld loader.new)) }

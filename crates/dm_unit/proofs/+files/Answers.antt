@@ -10,7 +10,7 @@ use Rattle.dm_unit.specs.Views.{state_of, Does, Stops, stop_of, part_of, held_to
 use Rattle.dm_unit.proofs.FileLemmas.{held-grows}
 use Rattle.dm_unit.proofs.LeaveLemmas.{leaves-trans, leaves-stop, faultless, none-memory}
 use Rattle.dm_unit.proofs.ReadingLemmas.{enters-none, enters-passed, enters-file}
-use Rattle.dm_unit.proofs.UnitLemmas.{serves-early, serves-late, held-file, tokens-grow, unless-memory, stops-unless, does-map, part-none, part-some, part-stop, part-inside, slice-left, loop-goes, loop-stops, loop-ends, loop-ends-stops, whole-ends, whole-stops}
+use Rattle.dm_unit.proofs.UnitLemmas.{serves-early, serves-late, serves-still, held-file, tokens-grow, unless-memory, stops-unless, does-map, part-none, part-some, part-stop, part-inside, slice-left, loop-goes, loop-stops, loop-ends, loop-ends-stops, whole-ends, whole-stops}
 use Rattle.dm_unit.proofs.+files.Goals as goal
 
 less : (n : ℕ) → (n ≡ 0 → ⊥) → suc (n - 1) ≡ n
@@ -56,10 +56,10 @@ read_and_enter-returns-in-Ok-Some-clause-leads g t c = λ setting serves.
     unless-memory (ReadsPart setting (Enters setting c.args.more) c.args.file part state) c.enter.result after (λ not.
     part-some setting c.args.file c.args.more c.in-Ok-Some.included part state middle after c.in-Ok-Some.field-0 c.enter.result c.in-Ok-Some.field-0-is
     (c.in-Ok-Some.ensures.leads setting
-    (serves-early told c.args.unit.now c.args.reader.now.main c.args.loader.now c.read_part.new.loader c.enter.new.loader setting (c.enter.ensures.leaves.knows not) (c.enter.ensures.leaves.grows not).begins serves))
+    (serves-early told c.args.unit.now c.args.reader.now.main c.args.loader.now c.read_part.new.loader c.enter.new.loader (stop_of c.enter.result) setting (c.enter.ensures.leaves.knows not) (c.enter.ensures.leaves.grows not).begins serves))
     (c.enter.ensures.leads setting
-    (serves-late told (g.F.Folder.files c.read_part.new.folder) c.args.unit.now c.args.reader.now.main c.read_part.new.reader.main c.args.loader.now c.read_part.new.loader c.enter.new.loader setting
-    c.in-Ok-Some.ensures.leaves.files_stay c.in-Ok-Some.ensures.leaves.served c.in-Ok-Some.ensures.follows.main serves)))
+    (serves-late told (g.F.Folder.files c.read_part.new.folder) c.args.unit.now c.args.reader.now.main c.read_part.new.reader.main c.args.loader.now c.read_part.new.loader c.enter.new.loader (stop_of c.enter.result) setting
+    c.in-Ok-Some.ensures.leaves.files_stay c.in-Ok-Some.ensures.leaves.served (c.in-Ok-Some.ensures.leaves.knows none-memory) c.enter.ensures.leaves.knows c.in-Ok-Some.ensures.follows.main serves)))
 
 pub read_and_enter-returns-in-Ok-Some-clause-leaves : goal.read_and_enter-returns-in-Ok-Some-clause-leaves
 read_and_enter-returns-in-Ok-Some-clause-leaves g t c =
@@ -93,9 +93,9 @@ read_file-loop-at-preserved g t c =
       same = tokens-grow None c.loop-at.loader c.read_and_enter.new.loader c.args.file (done.leaves.grows none-memory) inv.held ∙ inv.same;
       inside = part-inside t0 t1 tokens at n inv.same c.tokens_of-in-loop-at.ensures (subst (λ (ts : List PpToken). at < length ts) (c.tokens_of.ensures ∙ sym c.tokens_of-in-loop-at.ensures) c.loop-at-test.true) (subst (λ (ts : List PpToken). n ≤ length ts) (slice-left at tokens) c.part_length.ensures.inside);
       leads = λ setting outcome serves rest.
-          let early = serves-early told c.args.unit.now c.args.reader.now.main c.args.loader.now c.loop-at.loader c.read_and_enter.new.loader setting (done.leaves.knows none-memory) (done.leaves.grows none-memory).begins serves in
-          let late = serves-late told (g.F.Folder.files c.loop-at.folder) c.args.unit.now c.args.reader.now.main c.loop-at.reader.main c.args.loader.now c.loop-at.loader c.read_and_enter.new.loader setting
-          inv.leaves.files_stay inv.leaves.served inv.main serves in
+          let early = serves-early told c.args.unit.now c.args.reader.now.main c.args.loader.now c.loop-at.loader c.read_and_enter.new.loader None setting (done.leaves.knows none-memory) (done.leaves.grows none-memory).begins serves in
+          let late = serves-late told (g.F.Folder.files c.loop-at.folder) c.args.unit.now c.args.reader.now.main c.loop-at.reader.main c.args.loader.now c.loop-at.loader c.read_and_enter.new.loader None setting
+          inv.leaves.files_stay inv.leaves.served (inv.leaves.knows none-memory) done.leaves.knows inv.main serves in
           loop-goes setting c.args.more c.args.file t0 t1 tokens at n (begun c.args.file (state_of c.args.reader.now (shown c.args.loader.now))) (state_of c.loop-at.reader (shown c.loop-at.loader))
           (state_of c.read_and_enter.new.reader (shown c.read_and_enter.new.loader)) outcome inv.same c.tokens_of-in-loop-at.ensures (subst (λ (ts : List PpToken). parts_of ts ≡ part_of (take n ts) ∷ parts_of (drop n ts)) (slice-left at tokens) c.part_length.ensures.parts)
           (λ other reads. inv.leads setting other early reads) (done.leads setting late) rest;
@@ -111,10 +111,10 @@ read_file-returns-in-Err-clause-leads g t c = λ setting serves.
     let state = state_of c.args.reader.now (shown c.args.loader.now) in
     let told = g.F.Folder.files c.args.folder.now in
     stops-unless (ReadsFile setting (Enters setting c.args.more) c.args.file state) c.in-Err.stop (λ not.
-    let early = serves-early told c.args.unit.now c.args.reader.now.main c.args.loader.now c.loop-at.loader c.read_and_enter.new.loader setting (c.in-Err.ensures.leaves.knows not) (c.in-Err.ensures.leaves.grows not).begins serves in
-    let late = serves-late told (g.F.Folder.files c.loop-at.folder) c.args.unit.now c.args.reader.now.main c.loop-at.reader.main c.args.loader.now c.loop-at.loader c.read_and_enter.new.loader setting
-    inv.leaves.files_stay inv.leaves.served inv.main serves in
-    whole-stops setting c.args.more c.args.loader.now c.args.file state c.in-Err.stop refl (held-file setting told c.args.unit.now c.args.reader.now.main c.args.loader.now c.read_and_enter.new.loader c.args.file serves c.requires.held)
+    let early = serves-early told c.args.unit.now c.args.reader.now.main c.args.loader.now c.loop-at.loader c.read_and_enter.new.loader (Some c.in-Err.stop) setting (c.in-Err.ensures.leaves.knows not) (c.in-Err.ensures.leaves.grows not).begins serves in
+    let late = serves-late told (g.F.Folder.files c.loop-at.folder) c.args.unit.now c.args.reader.now.main c.loop-at.reader.main c.args.loader.now c.loop-at.loader c.read_and_enter.new.loader (Some c.in-Err.stop) setting
+    inv.leaves.files_stay inv.leaves.served (inv.leaves.knows none-memory) c.in-Err.ensures.leaves.knows inv.main serves in
+    whole-stops setting c.args.more c.args.loader.now c.args.file state c.in-Err.stop refl (held-file setting told c.args.unit.now c.args.reader.now.main c.args.loader.now c.read_and_enter.new.loader _ c.args.file serves c.requires.held)
     (loop-stops setting c.args.more c.args.file (held_tokens c.args.loader.now c.args.file) (held_tokens c.loop-at.loader c.args.file) c.tokens_of-in-loop-at.result.now c.loop-at.at c.part_length.result
     (begun c.args.file state) (state_of c.loop-at.reader (shown c.loop-at.loader)) c.in-Err.stop inv.same c.tokens_of-in-loop-at.ensures
     (subst (λ (ts : List PpToken). parts_of ts ≡ part_of (take c.part_length.result ts) ∷ parts_of (drop c.part_length.result ts)) (slice-left c.loop-at.at c.tokens_of-in-loop-at.result.now) c.part_length.ensures.parts)
@@ -133,7 +133,7 @@ read_file-returns-in-Ok-end-clause-leads g t c = λ setting serves.
     let state = state_of c.args.reader.now (shown c.args.loader.now) in
     let read = state_of c.loop-at.reader (shown c.loop-at.loader) in
     let told = g.F.Folder.files c.args.folder.now in
-    whole-ends setting c.args.more c.args.loader.now c.args.file state read _ refl (held-file setting told c.args.unit.now c.args.reader.now.main c.args.loader.now c.loop-at.loader c.args.file serves c.requires.held)
+    whole-ends setting c.args.more c.args.loader.now c.args.file state read _ refl (held-file setting told c.args.unit.now c.args.reader.now.main c.args.loader.now c.loop-at.loader _ c.args.file serves c.requires.held)
     (loop-ends setting c.args.more c.args.file (held_tokens c.args.loader.now c.args.file) (held_tokens c.loop-at.loader c.args.file) c.tokens_of.result.now c.loop-at.at
     (begun c.args.file state) read (Ok read) inv.same c.tokens_of.ensures (let few = c.loop-at-test.false in omega (arith, few))
     (λ other reads. inv.leads setting other serves reads) (c.in-Ok-end.ensures.leads (shown c.loop-at.loader)))
@@ -144,10 +144,10 @@ read_file-returns-in-Err-end-clause-leads g t c = λ setting serves.
     let inv = c.loop-at.invariant in
     let state = state_of c.args.reader.now (shown c.args.loader.now) in
     let told = g.F.Folder.files c.args.folder.now in
-    whole-stops setting c.args.more c.args.loader.now c.args.file state c.in-Err-end.stop refl (held-file setting told c.args.unit.now c.args.reader.now.main c.args.loader.now c.loop-at.loader c.args.file serves c.requires.held)
+    whole-stops setting c.args.more c.args.loader.now c.args.file state c.in-Err-end.stop refl (held-file setting told c.args.unit.now c.args.reader.now.main c.args.loader.now c.loop-at.loader _ c.args.file serves c.requires.held)
     (loop-ends-stops setting c.args.more c.args.file (held_tokens c.args.loader.now c.args.file) (held_tokens c.loop-at.loader c.args.file) c.tokens_of.result.now c.loop-at.at
     (begun c.args.file state) (state_of c.loop-at.reader (shown c.loop-at.loader)) c.in-Err-end.stop inv.same c.tokens_of.ensures (let few = c.loop-at-test.false in omega (arith, few))
-    (λ other reads. inv.leads setting other serves reads) (c.in-Err-end.ensures.leads (shown c.loop-at.loader)))
+    (λ other reads. inv.leads setting other (serves-still _ _ _ _ _ _ setting serves) reads) (c.in-Err-end.ensures.leads (shown c.loop-at.loader)))
 
 pub read_file-returns-in-Err-end-clause-leaves : goal.read_file-returns-in-Err-end-clause-leaves
 read_file-returns-in-Err-end-clause-leaves g t c =

@@ -25,7 +25,7 @@ invariant-read_file-loop-at g l = record {
   held : IsHeld l.loader l.fn.file;
   same : held_tokens l.loader l.fn.file ≡ held_tokens l.fn.loader l.fn.file;
   inside : l.at ≤ length (held_tokens l.fn.loader l.fn.file);
-  leads : (setting : Setting) (outcome : Outcome) → Serves (g.F.Folder.files l.fn.folder) l.fn.unit l.fn.reader.main l.fn.loader l.loader setting
+  leads : (setting : Setting) (outcome : Outcome) → Serves (g.F.Folder.files l.fn.folder) l.fn.unit l.fn.reader.main l.fn.loader l.loader None setting
       → ReadsParts setting (Enters setting l.fn.more) l.fn.file (parts_of (drop l.at (held_tokens l.fn.loader l.fn.file))) (state_of l.reader (shown l.loader)) outcome
       → ReadsParts setting (Enters setting l.fn.more) l.fn.file (parts_of (held_tokens l.fn.loader l.fn.file)) (begun l.fn.file (state_of l.fn.reader (shown l.fn.loader))) outcome;
   leaves : Leaves (g.F.Folder.files l.fn.folder) (g.F.Folder.files l.folder) (g.F.Folder.room l.fn.folder) (g.F.Folder.room l.folder)

@@ -5,9 +5,9 @@ use Rattle.dm_unit.specs.States.{refusal}
 use Rattle.dm_unit.specs.Loaders.{shown}
 use Rattle.dm_unit.specs.Readings.{ReadsFile, ReadsMain, Enters, most_nested, absent_place}
 use Rattle.dm_unit.specs.Views.{state_of, Does, Stops, SearchLeads, loaded_as, stop_of}
-use Rattle.dm_unit.proofs.LeaveLemmas.{leaves-trans}
+use Rattle.dm_unit.proofs.LeaveLemmas.{leaves-trans, none-memory}
 use Rattle.dm_unit.proofs.ReadingLemmas.{main-absent, main-stops, main-reads, most_nested-is}
-use Rattle.dm_unit.proofs.UnitLemmas.{serves-early, serves-late, unless-memory, does-map}
+use Rattle.dm_unit.proofs.UnitLemmas.{serves-early, serves-late, serves-still, unless-memory, does-map}
 use Rattle.dm_unit.proofs.read_main.Goals as goal
 
 pub returns-in-Ok-true-clause-leads : goal.returns-in-Ok-true-clause-leads
@@ -18,9 +18,9 @@ returns-in-Ok-true-clause-leads g c = λ setting serves.
     let after = state_of c.read_file.new.reader (shown c.read_file.new.loader) in
     let told = g.F.Folder.files c.args.folder.now in
     unless-memory (ReadsMain setting name state) c.read_file.result after (λ not.
-    let early = serves-early told c.args.unit.now c.args.main c.args.loader.now c.load_main.new.loader c.read_file.new.loader setting (c.read_file.ensures.leaves.knows not) (c.read_file.ensures.leaves.grows not).begins serves in
-    let late = serves-late told (g.F.Folder.files c.load_main.new.folder) c.args.unit.now c.args.main c.args.reader.now.main c.args.loader.now c.load_main.new.loader c.read_file.new.loader setting
-    c.in-Ok-true.ensures.leaves.files_stay c.in-Ok-true.ensures.leaves.served c.requires.main serves in
+    let early = serves-early told c.args.unit.now c.args.main c.args.loader.now c.load_main.new.loader c.read_file.new.loader (stop_of c.read_file.result) setting (c.read_file.ensures.leaves.knows not) (c.read_file.ensures.leaves.grows not).begins serves in
+    let late = serves-late told (g.F.Folder.files c.load_main.new.folder) c.args.unit.now c.args.main c.args.reader.now.main c.args.loader.now c.load_main.new.loader c.read_file.new.loader (stop_of c.read_file.result) setting
+    c.in-Ok-true.ensures.leaves.files_stay c.in-Ok-true.ensures.leaves.served (c.in-Ok-true.ensures.leaves.knows none-memory) c.read_file.ensures.leaves.knows c.requires.main serves in
     does-map (ReadsFile setting (Enters setting most_nested) c.args.main begun) (ReadsMain setting name state) c.read_file.result after
     (λ outcome reads. main-reads setting name state c.args.main (shown c.load_main.new.loader) outcome
     (subst (λ (there : Bool). SearchLeads setting None (name ∷ []) (shown c.args.loader.now) (loaded_as c.args.main (Ok there)) (shown c.load_main.new.loader)) c.in-Ok-true.field-0-test
@@ -41,7 +41,7 @@ returns-in-Ok-false-clause-leads g c = λ setting serves.
     subst (Stops (ReadsMain setting name state)) (ap (λ (main : ℕ). refusal refusals.not_found (absent_place main)) serves.main_is ∙ ap (λ (place : Place). refusal refusals.not_found place) (sym c.first_place.ensures) ∙ sym c.refused.ensures.stop)
     (main-absent setting name state (shown c.load_main.new.loader)
     (subst (λ (there : Bool). SearchLeads setting None (name ∷ []) (shown c.args.loader.now) (loaded_as c.args.main (Ok there)) (shown c.load_main.new.loader)) c.in-Ok-false.field-0-test
-    (c.in-Ok-false.ensures.search setting c.args.unit.now c.args.main serves)))
+    (c.in-Ok-false.ensures.search setting c.args.unit.now c.args.main (serves-still _ _ _ _ _ _ setting serves))))
 
 pub returns-in-Err-clause-leads : goal.returns-in-Err-clause-leads
 returns-in-Err-clause-leads g c = λ setting serves.

@@ -1,10 +1,10 @@
-use Rattle.std.proofs.Common.{◌<◌, ℕ, None, Some, Ok, Err, length, sym, ap, ◌∙◌, subst, refl}
+use Rattle.std.proofs.Common.{◌<◌, ℕ, inl, inr, None, Some, Ok, Err, length, sym, ap, ◌∙◌, subst, refl}
 use Rattle.dm_search.specs.Loaded.{Loaded, number_of, with_name}
 use Rattle.dm_unit.specs.Loaders.{shown}
 use Rattle.dm_unit.specs.Units.{setting_of}
 use Rattle.dm_unit.specs.Views.{state_of, named_by}
 use Rattle.dm_unit.proofs.NameLemmas.{number-inside, number-with_name}
-use Rattle.dm_unit.proofs.TopLemmas.{unit-leaves, finish-leaves, unit-serves, unit-numbered, unit-start, unit-answers, unit-stop, held-main}
+use Rattle.dm_unit.proofs.TopLemmas.{unit-leaves, finish-leaves, unit-serves, unit-known, unit-numbered, unit-start, unit-answers, unit-read, unit-stop, held-main}
 use Rattle.dm_unit.proofs.read_unit.Goals as goal
 
 pub read_all-requires-clause-numbered : goal.read_all-requires-clause-numbered
@@ -24,9 +24,23 @@ returns-in-Ok-clause-reading g c = λ files told.
     unit-answers setting c.args.unit.now c.args.loader.now c.read_all.new.loader start final c.finish.result
     (unit-numbered files c.args.unit.now None c.args.loader.now c.number.new.self c.read_all.new.loader c.in_ok-main.ensures.added (c.in-Ok.ensures.leaves.grows (λ e. cc)))
     (unit-start c.args.unit.now c.args.loader.now c.number.new.self start c.in_ok-main.ensures.added (c.in_ok-reader.ensures.state (shown c.number.new.self)))
-    (c.in-Ok.ensures.leads setting (unit-serves (g.F.Folder.files c.args.folder.now) files c.args.unit.now c.args.loader.now c.number.new.self c.read_all.new.loader c.in_ok-main.main
-    c.names.ensures.slots c.in_ok-main.ensures.added c.in_ok-main.ensures.number told))
+    (c.in-Ok.ensures.leads setting (unit-serves (g.F.Folder.files c.args.folder.now) files c.args.unit.now c.args.loader.now c.number.new.self c.read_all.new.loader c.in_ok-main.main None
+    c.names.ensures.slots c.in_ok-main.ensures.added c.in_ok-main.ensures.number (inl told)))
     (c.finish.ensures.tokens (shown c.read_all.new.loader)) c.finish.ensures.memory refl
+
+pub returns-in-Ok-clause-known : goal.returns-in-Ok-clause-known
+returns-in-Ok-clause-known g c =
+    let l0 = c.args.loader.now in
+    let l1 = c.number.new.self in
+    let new = c.read_all.new.loader in
+    let unit = c.args.unit.now in
+    unit-read unit l0 new (state_of c.in_ok-reader.reader (shown l1)) (state_of c.read_all.new.reader (shown new)) c.finish.result
+    (λ files. unit-numbered files unit None l0 l1 new c.in_ok-main.ensures.added (c.in-Ok.ensures.leaves.grows (λ e. cc)))
+    (unit-start unit l0 l1 (state_of c.in_ok-reader.reader (shown l1)) c.in_ok-main.ensures.added (c.in_ok-reader.ensures.state (shown l1)))
+    (λ files has. c.in-Ok.ensures.leads (setting_of l0 new files unit)
+    (unit-serves (g.F.Folder.files c.args.folder.now) files unit l0 l1 new c.in_ok-main.main None c.names.ensures.slots c.in_ok-main.ensures.added c.in_ok-main.ensures.number
+    (inr (refl, unit-known files l0 l1 new unit.file c.names.ensures.slots c.in_ok-main.ensures.added has))))
+    (c.finish.ensures.tokens (shown new)) refl
 
 pub returns-in-Ok-clause-leaves : goal.returns-in-Ok-clause-leaves
 returns-in-Ok-clause-leaves g c =
@@ -45,8 +59,8 @@ returns-in-Err-clause-reading g c = λ files told.
     unit-stop setting c.args.unit.now c.args.loader.now c.read_all.new.loader start c.in-Err.stop
     (λ not. unit-numbered files c.args.unit.now (named_by (Some c.in-Err.stop)) c.args.loader.now c.number.new.self c.read_all.new.loader c.in_ok-main.ensures.added (c.in-Err.ensures.leaves.grows not))
     (unit-start c.args.unit.now c.args.loader.now c.number.new.self start c.in_ok-main.ensures.added (c.in_ok-reader.ensures.state (shown c.number.new.self)))
-    (c.in-Err.ensures.leads setting (unit-serves (g.F.Folder.files c.args.folder.now) files c.args.unit.now c.args.loader.now c.number.new.self c.read_all.new.loader c.in_ok-main.main
-    c.names.ensures.slots c.in_ok-main.ensures.added c.in_ok-main.ensures.number told))
+    (c.in-Err.ensures.leads setting (unit-serves (g.F.Folder.files c.args.folder.now) files c.args.unit.now c.args.loader.now c.number.new.self c.read_all.new.loader c.in_ok-main.main (Some c.in-Err.stop)
+    c.names.ensures.slots c.in_ok-main.ensures.added c.in_ok-main.ensures.number (inl told)))
 
 pub returns-in-Err-clause-leaves : goal.returns-in-Err-clause-leaves
 returns-in-Err-clause-leaves g c =

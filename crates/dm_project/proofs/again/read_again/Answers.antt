@@ -1,6 +1,6 @@
 -- The new readings are put in among the others.
 use Rattle.dm_reading.specs.Layered.{IsLayered}
-use Rattle.dm_project.specs.Units.{IsTyped}
+use Rattle.dm_readings.specs.Units.{IsTyped}
 use Rattle.dm_project.proofs.AgainLemmas.{put-all}
 use Rattle.dm_project.proofs.again.read_again.Goals as goal
 

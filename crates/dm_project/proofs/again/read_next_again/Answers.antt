@@ -1,5 +1,5 @@
 -- A unit that reads the file is read as the next one.
-use Rattle.dm_project.proofs.LeaveLemmas.{known-one}
+use Rattle.dm_readings.proofs.LeaveLemmas.{known-one}
 use Rattle.dm_project.proofs.again.read_next_again.Goals as goal
 
 pub returns-in-Ok-clause-leaves : goal.returns-in-Ok-clause-leaves

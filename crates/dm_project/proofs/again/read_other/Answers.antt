@@ -1,8 +1,8 @@
 -- A unit that reads the file is read, and its stop passed over.
 use Rattle.std.proofs.Common.{sym, ◌∙◌}
-use Rattle.dm_project.specs.Again.{reads}
+use Rattle.dm_readings.specs.Again.{reads}
 use Rattle.dm_project.proofs.AgainLemmas.{may-stop, on-ok}
-use Rattle.dm_project.proofs.LeaveLemmas.{known-one, known-over}
+use Rattle.dm_readings.proofs.LeaveLemmas.{known-one, known-over}
 use Rattle.dm_project.proofs.again.read_other.Goals as goal
 
 pub returns-in-Err-clause-read : goal.returns-in-Err-clause-read

@@ -1,8 +1,8 @@
 -- The units that are left come behind those that were read.
 use Rattle.std.proofs.Common.{◌+◌, ◌<◌, None, Some, drop, sym, ◌∙◌, subst, arith}
 use Rattle.dm_token.specs.declared.stop.Stop.TheVariants.{Memory}
-use Rattle.dm_project.specs.Again.{reader_count}
-use Rattle.dm_project.proofs.LeaveLemmas.{known-trans, wanted-handed}
+use Rattle.dm_readings.specs.Again.{reader_count}
+use Rattle.dm_readings.proofs.LeaveLemmas.{known-trans, wanted-handed}
 use Rattle.dm_project.proofs.UnitLemmas.{cut}
 use Rattle.dm_project.proofs.AgainLemmas.{others-go, count-go}
 use Rattle.dm_project.proofs.again.read_others.Goals as goal

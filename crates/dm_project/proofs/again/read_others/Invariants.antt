@@ -2,8 +2,8 @@
 use Rattle.std.proofs.Common.{◌≡◌, ◌+◌, ◌≤◌, None, Some, drop}
 use Rattle.dm_io.specs.Files.{Files}
 use Rattle.dm_search.specs.Loaded.{Loaded}
-use Rattle.dm_project.specs.Again.{ReadsOthers, reader_count}
-use Rattle.dm_project.specs.Leaves.{LeavesKnown}
+use Rattle.dm_readings.specs.Again.{ReadsOthers, reader_count}
+use Rattle.dm_readings.specs.Leaves.{LeavesKnown}
 use Rattle.dm_project.proofs.again.read_others.Given as goal
 
 abbrev pub invariant-loop-at : goal.invariant-loop-at

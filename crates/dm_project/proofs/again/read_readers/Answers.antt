@@ -5,9 +5,9 @@ use Rattle.dm_token.specs.declared.stop.Stop.{Stop}
 use Rattle.dm_token.specs.declared.stop.Stop.TheVariants.{Memory}
 use Rattle.dm_reading.specs.declared.reading.Reading.{Reading}
 use Rattle.dm_reading.specs.Layered.{IsLayered}
-use Rattle.dm_project.specs.Again.{ReadsAgain, reader_count}
-use Rattle.dm_project.specs.Units.{IsTyped, most_project_tokens}
-use Rattle.dm_project.proofs.LeaveLemmas.{known-trans, known-behind, known-handed, known-memory, known-wanted}
+use Rattle.dm_readings.specs.Again.{ReadsAgain, reader_count}
+use Rattle.dm_readings.specs.Units.{IsTyped, most_project_tokens}
+use Rattle.dm_readings.proofs.LeaveLemmas.{known-trans, known-behind, known-handed, known-memory, known-wanted}
 use Rattle.dm_project.proofs.UnitLemmas.{cut}
 use Rattle.dm_project.proofs.AgainLemmas.{News, before-none, again-on, again-stop, again-end, count-go, count-end, tokens-go, tokens-end, readers-go, readers-end, memory-handed, none-handed}
 use Rattle.dm_project.proofs.again.read_readers.Goals as goal

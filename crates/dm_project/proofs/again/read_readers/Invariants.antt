@@ -5,9 +5,9 @@ use Rattle.dm_io.specs.Files.{Files}
 use Rattle.dm_search.specs.Loaded.{Loaded}
 use Rattle.dm_reading.specs.declared.reading.Reading.{Reading}
 use Rattle.dm_reading.specs.Layered.{IsLayered}
-use Rattle.dm_project.specs.Again.{ReadsAgain, put_in, reader_count, reads}
-use Rattle.dm_project.specs.Leaves.{LeavesKnown}
-use Rattle.dm_project.specs.Units.{IsTyped, most_project_tokens, token_count}
+use Rattle.dm_readings.specs.Again.{ReadsAgain, put_in, reader_count, reads}
+use Rattle.dm_readings.specs.Leaves.{LeavesKnown}
+use Rattle.dm_readings.specs.Units.{IsTyped, most_project_tokens, token_count}
 use Rattle.dm_project.proofs.AgainLemmas.{News, all_before}
 use Rattle.dm_project.proofs.again.read_readers.Given as goal
 

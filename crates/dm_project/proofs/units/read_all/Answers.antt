@@ -4,8 +4,8 @@ use Rattle.std.proofs.lemmas.List.{length-append}
 use Rattle.std.proofs.lemmas.List.Elements.{All-push}
 use Rattle.dm_token.specs.declared.stop.Stop.TheVariants.{Memory}
 use Rattle.dm_reading.specs.Layered.{IsLayered}
-use Rattle.dm_project.specs.Units.{IsTyped, ending, stopped, behind, token_count, ReadsNext, ReadsUnits}
-use Rattle.dm_project.proofs.LeaveLemmas.{leaves-handed, leaves-trans}
+use Rattle.dm_readings.specs.Units.{IsTyped, ending, stopped, behind, token_count, ReadsNext, ReadsUnits}
+use Rattle.dm_readings.proofs.LeaveLemmas.{leaves-handed, leaves-trans}
 use Rattle.dm_project.proofs.UnitLemmas.{all_behind, one-more, all-given, stopped-behind, cut, token_count-push, units-go, units-stop, units-end, next-memory, ended-with}
 use Rattle.dm_project.proofs.units.read_all.Goals as goal
 

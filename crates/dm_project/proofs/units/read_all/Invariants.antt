@@ -2,8 +2,8 @@
 use Rattle.std.proofs.Common.{◌≡◌, ◌+◌, ◌≤◌, All, None, Some, length, drop}
 use Rattle.dm_io.specs.Files.{Files}
 use Rattle.dm_reading.specs.Layered.{IsLayered}
-use Rattle.dm_project.specs.Leaves.{Leaves}
-use Rattle.dm_project.specs.Units.{Ending, IsTyped, ReadsUnits, most_project_tokens, token_count}
+use Rattle.dm_readings.specs.Leaves.{Leaves}
+use Rattle.dm_readings.specs.Units.{Ending, IsTyped, ReadsUnits, most_project_tokens, token_count}
 use Rattle.dm_project.proofs.UnitLemmas.{all_behind}
 use Rattle.dm_project.proofs.units.read_all.Given as goal
 

@@ -2,8 +2,8 @@
 use Rattle.std.proofs.Common.{length, Option, Some, None, Result, Ok, Err, refl, ap, subst, arith}
 use Rattle.dm_token.specs.declared.stop.Stop.{Stop}
 use Rattle.dm_reading.specs.declared.reading.Reading.{Reading}
-use Rattle.dm_project.specs.Leaves.{Leaves}
-use Rattle.dm_project.proofs.LeaveLemmas.{follows-grown, leaves-stop, memory-no-fault, reading-leaves, there-stays}
+use Rattle.dm_readings.specs.Leaves.{Leaves}
+use Rattle.dm_readings.proofs.LeaveLemmas.{follows-grown, leaves-stop, memory-no-fault, reading-leaves, there-stays}
 use Rattle.dm_project.proofs.UnitLemmas.{next-handed, handed-on, limit-no-fault}
 use Rattle.dm_project.proofs.units.read_next.Goals as goal
 

@@ -1,6 +1,6 @@
 -- A limit that is passed behind all readings.
 use Rattle.dm_unit.specs.Loaders.{file_of}
-use Rattle.dm_project.proofs.LeaveLemmas.{grows-weaken, none-memory}
+use Rattle.dm_readings.proofs.LeaveLemmas.{grows-weaken, none-memory}
 use Rattle.dm_project.proofs.units.read_units.Goals as goal
 
 pub returns-then-len-gt-MOST_DEFINITIONS-clause-loader : goal.returns-then-len-gt-MOST_DEFINITIONS-clause-loader

@@ -29,6 +29,12 @@ returns-clause-reading g c = λ files have.
     all-read setting c.args.unit.now c.args.loader.now c.unit_tokens.new.loader
     (record { unit = c.in_ok-own.own; pp = c.in_ok-pp.pp; tokens = c.in_ok-made.made.tokens; syntax = c.in_ok-made.made.syntax; core = c.in_ok-made.made.core; types = c.in_ok-made.made.types }) c.items.result.now c.in_ok-own.ensures c.items.ensures (c.in_ok-pp.ensures.reading files have) c.in_ok-made.ensures.layers
 
+pub returns-clause-known : goal.returns-clause-known
+returns-clause-known g c = λ files has.
+    let setting = setting_of c.args.loader.now c.unit_tokens.new.loader files c.args.unit.now in
+    all-read setting c.args.unit.now c.args.loader.now c.unit_tokens.new.loader
+    (record { unit = c.in_ok-own.own; pp = c.in_ok-pp.pp; tokens = c.in_ok-made.made.tokens; syntax = c.in_ok-made.made.syntax; core = c.in_ok-made.made.core; types = c.in_ok-made.made.types }) c.items.result.now c.in_ok-own.ensures c.items.ensures (c.in_ok-pp.ensures.known files has) c.in_ok-made.ensures.layers
+
 pub returns-clause-layers : goal.returns-clause-layers
 returns-clause-layers g c =
     layered (record { unit = c.in_ok-own.own; pp = c.in_ok-pp.pp; tokens = c.in_ok-made.made.tokens; syntax = c.in_ok-made.made.syntax; core = c.in_ok-made.made.core; types = c.in_ok-made.made.types }) c.items.result.now c.items.ensures c.in_ok-made.ensures.layers

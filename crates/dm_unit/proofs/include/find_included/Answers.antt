@@ -6,6 +6,7 @@ use Rattle.dm_unit.specs.Loaders.{shown}
 use Rattle.dm_unit.specs.Views.{Stops, SearchesHeader, IncludesStop}
 use Rattle.dm_unit.proofs.LeaveLemmas.{leaves-stop, faultless}
 use Rattle.dm_unit.proofs.ReadingLemmas.{then-stops}
+use Rattle.dm_unit.proofs.UnitLemmas.{serves-still}
 use Rattle.dm_unit.proofs.include.find_included.Goals as goal
 
 pub returns-in-Ok-None-clause-finds : goal.returns-in-Ok-None-clause-finds
@@ -13,7 +14,7 @@ returns-in-Ok-None-clause-finds g c = λ setting serves.
     let files = shown c.args.loader.now in
     subst (Stops (λ (outcome : Outcome). Then (SearchesHeader setting c.args.file c.args.header files) (λ (found : Sought) (result : Outcome). IncludesStop setting.main c.args.header.start c.args.reader.now.inclusions found.number result) outcome))
     (sym c.refused.ensures.stop)
-    (inr (sought None (shown c.search.new.loader), subst (λ (o : Option ℕ). SearchesHeader setting c.args.file c.args.header files (Ok (sought o (shown c.search.new.loader)))) c.in-Ok-None.field-0-is (c.in-Ok-None.ensures.search setting c.args.reader.now.main serves), refl))
+    (inr (sought None (shown c.search.new.loader), subst (λ (o : Option ℕ). SearchesHeader setting c.args.file c.args.header files (Ok (sought o (shown c.search.new.loader)))) c.in-Ok-None.field-0-is (c.in-Ok-None.ensures.search setting c.args.reader.now.main (serves-still _ _ _ _ _ _ setting serves)), refl))
 
 pub returns-in-Ok-None-clause-leaves : goal.returns-in-Ok-None-clause-leaves
 returns-in-Ok-None-clause-leaves g c =
@@ -33,7 +34,7 @@ returns-then-reader-ge-MOST_INCLUSIONS-clause-finds g c = λ setting serves.
     (sym c.passed.ensures.stop)
     (inr (
       sought (Some c.in-Ok-Some.found) (shown c.search.new.loader),
-      subst (λ (o : Option ℕ). SearchesHeader setting c.args.file c.args.header files (Ok (sought o (shown c.search.new.loader)))) c.in-Ok-Some.field-0-is (c.in-Ok-Some.ensures.search setting c.args.reader.now.main serves),
+      subst (λ (o : Option ℕ). SearchesHeader setting c.args.file c.args.header files (Ok (sought o (shown c.search.new.loader)))) c.in-Ok-Some.field-0-is (c.in-Ok-Some.ensures.search setting c.args.reader.now.main (serves-still _ _ _ _ _ _ setting serves)),
       (c.if-reader-ge-MOST_INCLUSIONS.true, ap (λ main. Err (limit limits.inclusions main)) (sym serves.main_is)),
     ))
 

@@ -54,7 +54,7 @@ returns-in-Err-do_directive-clause-leads g c = λ setting serves.
     let part = slice_range c.tokens_of.result.now c.args.from c.args.to in
     let start = c.start-item.result in
     let state = state_of c.args.reader.now files in
-    let bytes = held-file setting (g.F.Folder.files c.args.folder.now) c.args.unit.now c.args.reader.now.main c.args.loader.now c.args.loader.now c.args.file serves c.requires.held in
+    let bytes = held-file setting (g.F.Folder.files c.args.folder.now) c.args.unit.now c.args.reader.now.main c.args.loader.now c.args.loader.now _ c.args.file serves c.requires.held in
     all-stops (λ more. ReadsPart setting (Enters setting more) c.args.file (part_of (slice_range (held_tokens c.args.loader.now c.args.file) c.args.from c.args.to)) state) c.in-Err-do_directive.stop (λ more.
     subst (λ (ts : List PpToken). Stops (ReadsPart setting (Enters setting more) c.args.file (part_of (slice_range ts c.args.from c.args.to)) state) c.in-Err-do_directive.stop) c.tokens_of.ensures
     (stops-map (DoesDirective setting (Enters setting more) c.args.file c.directive_of-directive.result start (drop 1 part) state) (ReadsPart setting (Enters setting more) c.args.file (part_of part) state) c.in-Err-do_directive.stop

@@ -1,0 +1,3 @@
+mod DeclaredLemmas
+pub mod SourceLemmas
+pub mod TokenLemmas

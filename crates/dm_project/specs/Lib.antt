@@ -1,5 +1,0 @@
-pub mod Again
-pub mod Definitions
-pub mod Leaves
-pub mod Sites
-pub mod Units

@@ -1,0 +1,3 @@
+pub mod LeaveLemmas
+mod OneLemmas
+mod SiteLemmas
