@@ -4,7 +4,7 @@
 --     Source      the tokens of a unit, and the numbers of the entries that its declarators declare, in order
 --     Seen      what is seen so far of an external declaration, with the scopes that are open
 --     expr source seen tree, declaration .., stmt .., external ..      what is seen behind a piece of syntax
-use Rattle.std.specs.Prelude.{ℕ, ◌+◌, max, Bool, true, false, if◌then◌else◌, List, [], ◌∷◌, ◌++◌, drop, Option, Some, None, is_some, unwrap_or, slice_get}
+use Rattle.std.specs.Prelude.{ℕ, ◌+◌, max, Bool, true, false, ◌&&◌, not, if◌then◌else◌, List, [], ◌∷◌, ◌++◌, drop, Option, Some, None, is_some, unwrap_or, slice_get}
 use Rattle.dm_token.specs.declared.token.CToken.{CToken}
 use Rattle.dm_syn.specs.Scopes.{declarator_name}
 use Rattle.dm_syn.specs.Sources.{spelling_of_token}
@@ -36,10 +36,12 @@ entered_if false tag name number entered = entered
 abbrev pub with_entered : Bool → Bool → List ℕ → ℕ → Seen → Seen
 with_entered in_file tag name number seen = record seen { entered = entered_if in_file tag name number seen.entered }
 
+abbrev pub is_new_in_file : Bool → List ℕ → Scopes → Bool
+is_new_in_file tag name scopes = is_file_scope scopes && not (is_declared_here tag name scopes)
+
 abbrev pub declared : Bool → List ℕ → ℕ → Seen → Seen
 declared tag name number seen =
-    if is_declared_here tag name seen.scopes then seen
-    else record (with_entered (is_file_scope seen.scopes) tag name number seen) { scopes = declared_in tag name number seen.scopes }
+    record (with_entered (is_new_in_file tag name seen.scopes) tag name number seen) { scopes = declared_in tag name number seen.scopes }
 
 abbrev pub declaring : Source → Bool → ℕ → ℕ → Seen → Seen
 declaring source tag at number seen = mentioned source tag at (declared tag (spelled source at) number seen)

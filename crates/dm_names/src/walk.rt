@@ -161,29 +161,26 @@ impl Walk<'_> {
     }
 }
 
-/// The declaration of a name or a tag in the innermost scope, unless it is declared there.
+/// The declaration of a name or a tag in the innermost scope.
 fn declare(so_far: &mut Seen, tag: bool, name: &Text, number: u32) -> Result<(), Memory>
     ensures { OnOk result (so_far.new ≡ seen.declared tag name.now number so_far.old) }
 {
-    if so_far.scopes.is_declared(tag, name) {
-        return Ok(());
-    }
-    let in_file = so_far.scopes.is_file_scope();
-    enter_if(so_far, in_file, tag, name, number)?;
+    let is_new = so_far.scopes.is_file_scope() && !so_far.scopes.is_declared(tag, name);
+    enter_if(so_far, is_new, tag, name, number)?;
     so_far.scopes.declare(tag, name.copy()?, number)
 }
 
-/// What is declared in file scope is noted.
+/// What is declared first in file scope is noted.
 fn enter_if(
     so_far: &mut Seen,
-    in_file: bool,
+    is_new: bool,
     tag: bool,
     name: &Text,
     number: u32,
 ) -> Result<(), Memory>
-    ensures { OnOk result (so_far.new ≡ seen.with_entered in_file tag name.now number so_far.old) }
+    ensures { OnOk result (so_far.new ≡ seen.with_entered is_new tag name.now number so_far.old) }
 {
-    if in_file {
+    if is_new {
         let name = name.copy()?;
         so_far.entered.push(Entered { name, tag, number })?;
     }

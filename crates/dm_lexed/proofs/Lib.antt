@@ -1,0 +1,4 @@
+mod WordLemmas
+mod ExpansionLemmas
+mod TokenLemmas
+mod UnitLemmas

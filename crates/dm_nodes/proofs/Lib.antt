@@ -1,0 +1,5 @@
+mod FormLemmas
+mod ExpressionLemmas
+mod DeclarationLemmas
+mod StatementLemmas
+mod UnitLemmas

@@ -1,0 +1,13 @@
+mod GrowthLemmas
+mod ScopeLemmas
+mod StateLemmas
+mod FormLemmas
+mod ExpressionLemmas
+mod NumberLemmas
+mod DeclarationLemmas
+mod StatementLemmas
+mod HeadingLemmas
+mod UnitLemmas
+mod WordLemmas
+mod PlainLemmas
+mod ApartLemmas
