@@ -1,12 +1,12 @@
 -- Function definitions fit.
-use Rattle.std.specs.Prelude.{◌≡◌, ◌==◌, ℕ, ◌<◌, ◌≤◌, Bool, true, false, ◌||◌, not, if◌then◌else◌, IsTrue, List, [], ◌∷◌, ◌++◌, length, Option, Some, None, IsSome, slice_get, bytes_eq, codes, refl}
-use Rattle.std.proofs.Common.{sym, ap, ◌∙◌, subst, arith, ⊎_elim}
+use Rattle.std.specs.Prelude.{◌≡◌, ◌==◌, ℕ, ◌<◌, ◌≤◌, Bool, true, false, ◌||◌, not, if◌then◌else◌, IsTrue, ◌⊎◌, List, [], ◌∷◌, ◌++◌, length, Option, Some, None, IsSome, slice_get, bytes_eq, codes, refl}
+use Rattle.std.proofs.Common.{sym, ap, ◌∙◌, subst, arith, inl, inr, ⊎_elim}
 use Rattle.std.proofs.lemmas.List.Elements.{All-append}
 use Rattle.std.proofs.lemmas.Slice.Eq.{bytes_eq-Decides}
 use Rattle.dm_spell.specs.Keywords.{extern_word, typedef_word}
 use Rattle.dm_token.specs.declared.place.Span.{Span}
 use Rattle.dm_type.specs.Alike.{are_compatible}
-use Rattle.dm_type.specs.CTypes.{CType, CTypes, function as function_type, const, no_types, more_types, all_of, bare}
+use Rattle.dm_type.specs.CTypes.{CType, CTypes, void, integer, pointer, array, struct, function as function_type, const, no_types, more_types, all_of, bare}
 use Rattle.dm_type.specs.TableLaws.{injected}
 use Rattle.dm_type.specs.Tables.{type_of, content_of}
 use Rattle.dm_name_map.specs.Numbers.{Numbers}
@@ -21,16 +21,17 @@ use Rattle.dm_tree.specs.declared.unit.Linkage.{Linkage}
 use Rattle.dm_tree.specs.declared.unit.Linkage.TheVariants.{External as Outer}
 use Rattle.dm_tree.specs.Composites.{covers, cover_parameters}
 use Rattle.dm_tree.specs.Initialisers.{is_function_sort}
-use Rattle.dm_tree.specs.Scenes.{Scene, Names, IsConstant, is_function}
+use Rattle.dm_tree.specs.Scenes.{Scene, Names, IsConstant, IsComplete, is_void, is_array, is_function}
 use Rattle.dm_tree.specs.Trees.{Tree, node, trees, label_of}
 use Rattle.dm_tree.specs.Trees as label
 use Rattle.dm_tree.specs.Typing.{FitsSort, IsEntry, IsWellTyped, has_linkage, body_scene, ParameterFits, ParametersFit, DefinitionFits, FunctionFits, is_main_type, ExternalFits}
 use Rattle.dm_tree.specs.Units.{Declaration, defines_function}
 use Rattle.dm_tree.specs.Units as unit
 use Rattle.dm_typing.specs.Known.{Known, Setting, Outcome, given, broken, after, with_it, obeys, if_given}
+use Rattle.dm_typing.specs.Conversions.{is_complete}
 use Rattle.dm_typing.specs.Specifiers.{Said, nothing_said, type_said, Where, of_definition, are_allowed, with_said_const, is_one_at_most, is_static_alone, is_typedef_alone}
 use Rattle.dm_typing.specs.Sound.{IsProper, IsType, AreSoundTokens, IsSoundKnown, KnowsMore, GivesMore}
-use Rattle.dm_typing.specs.Typing.{TypedParameter, Step, kinds_of, is_no_parameters, without_void, entered, words_said, typed_said, steps_of, derived, parameters_of}
+use Rattle.dm_typing.specs.Typing.{TypedParameter, Step, kinds_of, is_no_parameters, without_void, is_result, entered, words_said, typed_said, steps_of, derived, parameters_of}
 use Rattle.dm_typing.proofs.ConversionLemmas.{bare-again, bare-proper}
 use Rattle.dm_typing.proofs.CoverLemmas.{covers-itself, covers-compatible}
 use Rattle.dm_typing.proofs.DerivedLemmas.{SaidFits, said-more, entered-sound}
@@ -38,14 +39,15 @@ use Rattle.dm_typing.proofs.KindLemmas.{numbers-same}
 use Rattle.dm_typing.proofs.KnownLemmas.{after-more, with-more}
 use Rattle.dm_typing.proofs.TypeLemmas.{both-hold, compatible-back}
 use Rattle.dm_typing.proofs.WholeLemmas.{words-more}
-use Rattle.dm_edecl.specs.Standing.{Linked, Standing, goes_on, further, knowing, keeps}
+use Rattle.dm_edecl.specs.Standing.{Linked, Standing, Progress, goes_on, stops, further, knowing, keeps}
 use Rattle.dm_edecl.specs.Linkages.{Storage, unsaid, typedef, extern, static, storage_of, is_same_linkage, sort_of, entry_of, kind_seen, number_here, with_link_if, named_here, function_here, is_defined}
 use Rattle.dm_edecl.specs.Declaring.{Specified, specified_by, specified, typed_declarator, name_at, fits_main, declarators_of, expressions_of, typed_declaration}
 use Rattle.dm_edecl.specs.Statements.{Within, statement, typed_items_in}
 use Rattle.dm_edecl.specs.Units.{defined_parameters, own_defined, Heading, innermost, typed_heading, put_before, numbers_of, body_within, typed_body, external_of, function_defined, typed_external}
 use Rattle.dm_edecl.specs.Settled.{is_linked, IsSoundStanding, Keeps, is_open, IsFinal, Settles}
+use Rattle.dm_edecl.specs.Results.{IsResult, GivesResult, DefinesResult}
 use Rattle.dm_edecl.specs.Fit.{AllConstants, DeclarationFits, IsSoundWithin, StandsIn, StmtFits, StmtsFit}
-use Rattle.dm_edecl.proofs.CompletionLemmas.{covers-bare, covers-main}
+use Rattle.dm_edecl.proofs.CompletionLemmas.{covers-bare, covers-main, covers-void}
 use Rattle.dm_edecl.proofs.DeclarationFitLemmas.{constants-final, declarator-typed, declared-final, complete-final, declarable-settles, names-final, declaration-settles}
 use Rattle.dm_edecl.proofs.EntryLemmas.{entry-fits}
 use Rattle.dm_edecl.proofs.KeepsLemmas.{keeps-itself, keeps-final, knowing-keeps, settles-from, settles-further, settles-keeps, settles-collecting, settles-scope}
@@ -109,10 +111,12 @@ module _ (setting : Setting) (tokens : AreSoundTokens setting.source.tokens) whe
 
 -- ---- the heading
 
--- what it says is a function with these parameters, each of which has an entry
+-- what it says is a function with these parameters, each of which has an entry, and with a result that functions may have
 abbrev pub IsHeading : ℕ → Known → Heading → Type 0
 IsHeading base known heading =
-    IsType known heading.kind × ((result : CType) × (heading.kind ≡ function_type result (all_of (kinds_of heading.parameters)))) × AllDefined base known heading.parameters
+    IsType known heading.kind
+    × ((result : CType) × (heading.kind ≡ function_type result (all_of (kinds_of heading.parameters))) × (is_result known result ≡ true))
+    × AllDefined base known heading.parameters
 
 -- the parameters are well formed
 abbrev pub IsFormed : Setting → Option Parameters → Type 0
@@ -163,7 +167,7 @@ heading-last : (known behind inside : Known) (base : ℕ) (typed : List TypedPar
     → GivesMore known (IsHeading base) (with_it outcome (λ last kind. record { kind = kind; parameters = without_void typed; scope = scope }))
 unfolding FunctionIn
 heading-last known behind inside base typed scope (given last kind) h f more sound all =
-    (h.0, h.1, h.2, (h.3, f.1, subst (λ it. AllDefined base it (without_void typed)) (sym f.0) (all-later base base inside behind (without_void typed) more sound (omega arith) all)))
+    (h.0, h.1, h.2, (h.3, (f.1.0, f.1.1, subst (λ it. is_result it f.1.0 ≡ true) (sym f.0) f.1.2), subst (λ it. AllDefined base it (without_void typed)) (sym f.0) (all-later base base inside behind (without_void typed) more sound (omega arith) all)))
 heading-last known behind inside base typed scope (broken rule at) h f more sound all = tt
 
 heading-then : (setting : Setting) (known inside : Known) (base : CType) (these : Parameters) (typed : List TypedParameter) (scope : Numbers) (steps : Outcome (List Step)) (many : ℕ)
@@ -274,6 +278,27 @@ if-named : (named fits : Bool) → (not named || fits) ≡ true → named ≡ tr
 if-named true fits h e = h
 if-named false fits h e = absurd (cc)
 
+covers-array : (a b : CType) → covers a b ≡ true → is_array a ≡ is_array b
+covers-array (array a m) (array b n) h = refl
+covers-array (function_type a types) (function_type b others) h = refl
+covers-array void void h = refl
+covers-array (integer kind) (integer other) h = refl
+covers-array (pointer a) (pointer b) h = refl
+covers-array (struct m) (struct n) h = refl
+covers-array (const a) (const b) h = refl
+covers-array a b h = absurd (cc)
+
+-- what is void or complete here is so at the end
+result-final : (t : Standing) (final : Scene) → IsSoundStanding t → IsFinal t final → (more result : CType) → covers more result ≡ true → is_result t.known result ≡ true
+    → IsResult final more
+result-final t final sound last more result c h =
+    let parts = three-hold (not (is_function result)) (not (is_array result)) (is_void (bare result) || is_complete t.known result) h in
+    (ap not (covers-array more result c) ∙ parts.1, by-void (is_void (bare result)) refl parts.2)
+  where
+    by-void : (test : Bool) → is_void (bare result) ≡ test → (test || is_complete t.known result) ≡ true → IsTrue (is_void (bare more)) ⊎ IsComplete final more
+    by-void true e g = inl (covers-void (bare more) (bare result) (covers-bare more result c) ∙ e)
+    by-void false e g = inr (complete-final t final sound last more result c g)
+
 -- its body is a block
 abbrev pub BodyFits : Within → Scene → Tree → Type 0
 BodyFits within scene made = StmtFits within scene made × (label_of made ≡ label.block)
@@ -325,7 +350,8 @@ module _ (t : Standing) (entry : Declaration) (heading : Heading) (base : ℕ) (
       (covers-main later.kind entry.kind c parts.2, linkage ∙ sym (linkages-same Outer entry.linkage parts.1))
 
   pub definition-fits : (final : Scene) → IsFinal u final → (made : Tree) → ((scene : Scene) → scene.types ≡ final.types → scene.declared ≡ final.declared → StandsIn (body_within heading.kind) scene
-      → IsWellTyped scene made) → label_of made ≡ label.block → Names final (number_here t entry) (FunctionFits final (numbers_of heading.parameters) made)
+      → IsWellTyped scene made) → label_of made ≡ label.block
+      → Names final (number_here t entry) (FunctionFits final (numbers_of heading.parameters) made) × Names final (number_here t entry) (λ later. GivesResult final later.kind)
   definition-fits final last made typed block =
       let before = keeps-final t u final declared.kept last in
       let end = declared-final t u (number_here t entry) (kind_seen t entry) entry declared final last in
@@ -336,15 +362,18 @@ module _ (t : Standing) (entry : Declaration) (heading : Heading) (base : ℕ) (
       let result = is.1.0 in
       let types = all_of (kinds_of heading.parameters) in
       let call = covers-call end.later.kind result types (subst (λ it. covers end.later.kind it ≡ true) (same ∙ is.1.1) wide) in
-      let names = end.linked linked in
-      names-final final (number_here t entry) (FunctionFits final (numbers_of heading.parameters) made) end.later end.at (
-        end.sort ∙ sort,
-        subst (DefinitionFits final (numbers_of heading.parameters) made) (sym call.1.1) (
-          parameters-final t final base heading.parameters call.1.0 sound before apart-from is.2 call.1.3,
-          block,
-          typed (body_scene final call.0) refl refl (body-stands final heading.kind result call.0 types is.1.1 call.1.2),
+      let names = end.linked linked in (
+        names-final final (number_here t entry) (FunctionFits final (numbers_of heading.parameters) made) end.later end.at (
+          end.sort ∙ sort,
+          subst (DefinitionFits final (numbers_of heading.parameters) made) (sym call.1.1) (
+            parameters-final t final base heading.parameters call.1.0 sound before apart-from is.2 call.1.3,
+            block,
+            typed (body_scene final call.0) refl refl (body-stands final heading.kind result call.0 types is.1.1 call.1.2),
+          ),
+          main-fits end.later names.0 names.1 wide,
         ),
-        main-fits end.later names.0 names.1 wide,
+        names-final final (number_here t entry) (λ later. GivesResult final later.kind) end.later end.at
+            (subst (GivesResult final) (sym call.1.1) (result-final t final sound before call.0 result call.1.2 is.1.2)),
       )
 
 -- ---- external declarations
@@ -370,11 +399,19 @@ final-again s final other types entries last = record {
   declared = λ at entry h. let one = last.declared at entry h in (one.0, ap (λ list. slice_get list at) entries ∙ one.1, one.2);
 }
 
+-- an external declaration fits, and a function that it defines gives a type that functions give
+abbrev pub FitsWhole : Scene → unit.External → Type 0
+FitsWhole final one = ExternalFits final one × DefinesResult final one.form
+
+fits-alone : (s : Standing) (progress : Progress unit.External) → Settles FitsWhole s progress → Settles ExternalFits s progress
+fits-alone s (goes_on behind one) h = (h.0, h.1, λ final last. (h.2 final last).0)
+fits-alone s (stops rule at) h = tt
+
 module _ (setting : Setting) (tokens : AreSoundTokens setting.source.tokens) where
   function-settles : (said : Specified) (t : Standing) (span : Span) (declarator : Declarator) (names : List Seen) (body : Stmt) (constants : List Tree) (heading : Heading) (base : ℕ)
       → IsSoundStanding t → IsHeading base t.known heading → is_typedef_word said.storage ≡ false → ((n : ℕ) → is_linked n t.linked ≡ true → n < base) → IsBlock body
       → IsStmt setting.source names body → At t AllConstants constants
-      → Settles ExternalFits t
+      → Settles FitsWhole t
       (function_defined setting said t span declarator body constants heading (entry_of setting t.known said.storage (name_at declarator) heading.kind))
   function-settles said t span declarator names body constants heading base sound is word apart block formed all =
       let entry = entry_of setting t.known said.storage (name_at declarator) heading.kind in
@@ -383,9 +420,9 @@ module _ (setting : Setting) (tokens : AreSoundTokens setting.source.tokens) whe
       let u = function_here t entry in
       let made : Tree → unit.External = λ tree. external_of span constants (defines_function number (numbers_of heading.parameters) tree) in
       let rest = further (typed_body setting within u heading.scope body) (λ behind tree. goes_on behind (made tree)) in
-      settles-keeps ExternalFits t (not (is_defined number t.linked)) 2 (name_at declarator) _
-      (λ new. declarable-settles ExternalFits said t t false (declarator_span declarator).first (name_at declarator) entry (keeps (fits_main entry) 36 (name_at declarator) rest)
-      (λ a b c d. settles-keeps ExternalFits t (fits_main entry) 36 (name_at declarator) rest
+      settles-keeps FitsWhole t (not (is_defined number t.linked)) 2 (name_at declarator) _
+      (λ new. declarable-settles FitsWhole said t t false (declarator_span declarator).first (name_at declarator) entry (keeps (fits_main entry) 36 (name_at declarator) rest)
+      (λ a b c d. settles-keeps FitsWhole t (fits_main entry) 36 (name_at declarator) rest
       (λ main.
       let entry-is = entry-fits setting t.known said.storage (name_at declarator) heading.kind a in
       let function : is_function heading.kind ≡ true = subst (λ it. is_function it ≡ true) (sym is.1.1) refl in
@@ -394,20 +431,18 @@ module _ (setting : Setting) (tokens : AreSoundTokens setting.source.tokens) whe
       let first = declarator-declared t entry true sound entry-is is.0 b in
       let declared : IsDeclared t u number (kind_seen t entry) entry =
       subst (λ test. IsDeclared t (record t { known = named_here t entry; linked = with_link_if test number entry.kind true t.linked }) number (kind_seen t entry) entry) linked first in
-      settles-from ExternalFits t u rest declared.kept
-      (settles-further (BodyFits within) ExternalFits u (typed_body setting within u heading.scope body) (λ behind tree. goes_on behind (made tree))
+      settles-from FitsWhole t u rest declared.kept
+      (settles-further (BodyFits within) FitsWhole u (typed_body setting within u heading.scope body) (λ behind tree. goes_on behind (made tree))
       (body-settles setting tokens within (body-sound heading.kind is.1.0 (all_of (kinds_of heading.parameters)) is.1.1 is.0.0) u heading.scope names body block formed declared.sound)
       (λ v tree inside kept fits. (
         inside,
         keeps-itself v,
         (λ final last.
             let before = keeps-final u v final kept last in
-            let mine = all final (keeps-final t u final declared.kept before) in (
-              mine.0,
-              mine.1,
-              definition-fits t entry heading base sound is refl apart sort linked declared main final before tree
-                  (λ scene types entries stands. (fits scene (final-again v final scene types entries last)).0.2 stands) (fits final last).1,
-            )),
+            let mine = all final (keeps-final t u final declared.kept before) in
+            let function = definition-fits t entry heading base sound is refl apart sort linked declared main final before tree
+            (λ scene types entries stands. (fits scene (final-again v final scene types entries last)).0.2 stands) (fits final last).1 in
+            ((mine.0, mine.1, function.0), function.1)),
       ))))))
 
   -- two lists of constants, one behind the other
@@ -417,18 +452,18 @@ module _ (setting : Setting) (tokens : AreSoundTokens setting.source.tokens) whe
       let second = g final last in
       (All-append (IsWellTyped final) one other first.0 second.0, All-append (IsConstant final) one other first.1 second.1)
 
-  pub external-settles : (s : Standing) (names : List Seen) (external : External) → IsExternal setting.source names external → IsSoundStanding s
-      → Settles ExternalFits s (typed_external setting s external)
+  pub whole-settles : (s : Standing) (names : List Seen) (external : External) → IsExternal setting.source names external → IsSoundStanding s
+      → Settles FitsWhole s (typed_external setting s external)
   unfolding IsExternal
-  external-settles s names (tree.external span declaration) h sound =
-      made-settles DeclarationFits ExternalFits s (typed_declaration setting s declaration)
+  whole-settles s names (tree.external span declaration) h sound =
+      made-settles DeclarationFits FitsWhole s (typed_declaration setting s declaration)
       (λ one. external_of span one.constants (unit.declares (declarators_of one.locals) (expressions_of one.locals))) (declaration-settles setting tokens s names declaration h.1 sound)
-      (λ t one kept fits final last. let is = fits final last in (is.0.0, is.0.1, (is.1, is.2)))
-  external-settles s names (tree.definition span specifiers declarator body) h sound =
-      settles-collecting IsDefining ExternalFits s (specified setting of_definition false s.known specifiers) _ sound (defining-more setting tokens s.known names specifiers h.1 sound.known)
+      (λ t one kept fits final last. let is = fits final last in ((is.0.0, is.0.1, (is.1, is.2)), tt))
+  whole-settles s names (tree.definition span specifiers declarator body) h sound =
+      settles-collecting IsDefining FitsWhole s (specified setting of_definition false s.known specifiers) _ sound (defining-more setting tokens s.known names specifiers h.1 sound.known)
       (λ known said more still defining inside.
       let t = knowing s known in
-      settles-collecting (IsHeading (length t.known.declared)) ExternalFits t (typed_heading setting t.known said.kind declarator) _ inside
+      settles-collecting (IsHeading (length t.known.declared)) FitsWhole t (typed_heading setting t.known said.kind declarator) _ inside
       (heading-more setting tokens t.known _ said.kind declarator h.3 h.5 inside.known defining.0)
       (λ last heading further fine is then_inside.
       let v = knowing t last in
@@ -436,3 +471,7 @@ module _ (setting : Setting) (tokens : AreSoundTokens setting.source.tokens) whe
       function-settles said v span declarator _ body (known.constants ++ last.constants) heading (length t.known.declared) then_inside (is.0, is.1, all-later base base last v.known heading.parameters (knows-but last t.known.constants) fine (omega arith) is.2) defining.1 inside.within h.7 h.8
       (both-constants t v known.constants last.constants (knowing-keeps t last inside further) (λ final end. constants-final t final inside end known.constants still.constants)
       (λ final end. constants-final v final then_inside end last.constants fine.constants))))
+
+  pub external-settles : (s : Standing) (names : List Seen) (one : External) → IsExternal setting.source names one → IsSoundStanding s
+      → Settles ExternalFits s (typed_external setting s one)
+  external-settles s names one h sound = fits-alone s (typed_external setting s one) (whole-settles s names one h sound)

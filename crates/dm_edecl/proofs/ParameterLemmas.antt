@@ -419,7 +419,7 @@ stepped-plain known behind type made (calling at these) e = by-test (is_result k
     by-test false it h = absurd (cc)
 
 abbrev pub IsFunctionOf : Known → List TypedParameter → Known → CType → Type 0
-IsFunctionOf known these behind kind = (behind ≡ known) × ((result : CType) × (kind ≡ function_type result (all_of (kinds_of these))))
+IsFunctionOf known these behind kind = (behind ≡ known) × ((result : CType) × (kind ≡ function_type result (all_of (kinds_of these))) × (is_result known result ≡ true))
 
 unfoldable pub FunctionIn : Known → List TypedParameter → Outcome CType → Type 0
 FunctionIn known these (given behind kind) = IsFunctionOf known these behind kind
@@ -427,13 +427,13 @@ FunctionIn known these (broken rule at) = Unit {0}
 
 last-call : (known : Known) (type : CType) (at : ℕ) (these : List TypedParameter) → FunctionIn known these (derived known type (calling at these ∷ []))
 unfolding FunctionIn
-last-call known type at these = go (is_result known type)
+last-call known type at these = go (is_result known type) refl
   where
-    go : (test : Bool)
+    go : (test : Bool) → is_result known type ≡ test
         → FunctionIn known these
         (after (obeys test 5 at (given known (function_type type (all_of (kinds_of these))))) (λ behind made. derived behind made []))
-    go true = (refl, (type, refl))
-    go false = tt
+    go true e = (refl, (type, refl, e))
+    go false e = tt
 
 then-call : (known : Known) (these : List TypedParameter) (first : Outcome CType) (next : Known → CType → Outcome CType)
     → ((behind : Known) (made : CType) → first ≡ given behind made → behind ≡ known) → ((type : CType) → FunctionIn known these (next known type))

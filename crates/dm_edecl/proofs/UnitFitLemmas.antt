@@ -23,10 +23,11 @@ use Rattle.dm_typing.proofs.WholeLemmas.{sound-start}
 use Rattle.dm_edecl.specs.Standing.{Linked, Standing, Progress, goes_on, stops, further}
 use Rattle.dm_edecl.specs.Linkages.{whole_kind, with_whole_kinds}
 use Rattle.dm_edecl.specs.Placing.{AreExternals}
+use Rattle.dm_edecl.specs.Results.{DefinesResult}
 use Rattle.dm_edecl.specs.Settled.{IsBound, is_linked, IsSoundStanding, IsFinalEntry, IsFinal, Settles}
 use Rattle.dm_edecl.specs.Units.{unit_setting, beginning, typed_external, typed_externals, unit_of, typed_unit}
 use Rattle.dm_edecl.proofs.CompletionLemmas.{covers-sort}
-use Rattle.dm_edecl.proofs.FunctionFitLemmas.{external-settles}
+use Rattle.dm_edecl.proofs.FunctionFitLemmas.{FitsWhole, whole-settles}
 use Rattle.dm_edecl.proofs.KeepsLemmas.{keeps-itself, keeps-final, settles-further}
 use Rattle.dm_edecl.proofs.LinkLemmas.{unlinked-bound, whole-is}
 use Rattle.dm_edecl.proofs.OnceLemmas.{functions-once}
@@ -45,22 +46,29 @@ beginning-sound shapes = record {
 
 abbrev pub AllFit : Scene → List unit.External → Type 0
 AllFit scene [] = Unit {0}
-AllFit scene (first ∷ others) = ExternalFits scene first × AllFit scene others
+AllFit scene (first ∷ others) = FitsWhole scene first × AllFit scene others
 
 module _ (setting : Setting) (tokens : AreSoundTokens setting.source.tokens) where
   externals-settle : (s : Standing) (names : List Seen) (at : ℕ) (externals : List External) → AreExternals setting.source names at externals → IsSoundStanding s
       → Settles AllFit s (typed_externals setting s externals)
   externals-settle s names at [] h sound = (sound, keeps-itself s, (λ final last. tt))
   externals-settle s names at (first ∷ others) h sound =
-      settles-further ExternalFits AllFit s (typed_external setting s first)
-      (λ then_standing made. further (typed_externals setting then_standing others) (λ behind more. goes_on behind (made ∷ more))) (external-settles setting tokens s names first h.1 sound)
+      settles-further FitsWhole AllFit s (typed_external setting s first)
+      (λ then_standing made. further (typed_externals setting then_standing others) (λ behind more. goes_on behind (made ∷ more))) (whole-settles setting tokens s names first h.1 sound)
       (λ t made inside kept fits. settles-further AllFit AllFit t (typed_externals setting t others) (λ behind more. goes_on behind (made ∷ more))
       (externals-settle t (external_declares setting.source first ++ names) (external_span first).after others h.2 inside)
       (λ u more still further_kept all. (still, keeps-itself u, (λ final last. (fits final (keeps-final t u final further_kept last), all final last)))))
 
 all-fit : (scene : Scene) (externals : List unit.External) → AllFit scene externals → All (ExternalFits scene) externals
 all-fit scene [] h = All-nil (ExternalFits scene)
-all-fit scene (first ∷ others) h = All-cons (ExternalFits scene) first others h.0 (all-fit scene others h.1)
+all-fit scene (first ∷ others) h = All-cons (ExternalFits scene) first others h.0.0 (all-fit scene others h.1)
+
+abbrev Gives : Scene → unit.External → Type 0
+Gives scene one = DefinesResult scene one.form
+
+all-give : (scene : Scene) (externals : List unit.External) → AllFit scene externals → All (Gives scene) externals
+all-give scene [] h = All-nil (Gives scene)
+all-give scene (first ∷ others) h = All-cons (Gives scene) first others h.0.1 (all-give scene others h.1)
 
 -- ---- the entries at the end
 
@@ -150,7 +158,7 @@ unit_in (given known one) other = one
 unit_in (broken rule at) other = other
 
 unit-typed : (progress : Progress (List unit.External)) (start : Standing) (known : Known) (one : TypedUnit) → Settles AllFit start progress → unit_of progress ≡ given known one
-    → All IsEntry one.declared × All (ExternalFits (file_scene known.types one.declared)) one.externals
+    → All IsEntry one.declared × All (ExternalFits (file_scene known.types one.declared)) one.externals × All (Gives (file_scene known.types one.declared)) one.externals
 unfolding known_in unit_in
 unit-typed (goes_on behind externals) start known one h e =
     let made : TypedUnit = record { declared = with_whole_kinds behind.linked 0 behind.known.declared; externals = externals } in
@@ -160,9 +168,10 @@ unit-typed (goes_on behind externals) start known one h e =
     let entries-are : All IsEntry made.declared =
     all-entries behind.linked 0 behind.known.declared
     (λ at entry g. let same : at ≡ 0 + at = omega arith in subst (λ m. IsEntry (whole-entry behind.linked m entry)) same (whole-is-entry behind h.0 at entry g)) in
-    let externals-are : All (ExternalFits scene) externals = all-fit scene externals (h.2 scene (unit-final behind h.0)) in
-    subst (λ (it : TypedUnit). All IsEntry it.declared × All (ExternalFits (file_scene known.types it.declared)) it.externals) one-is
-    (subst (λ (it : Known). All IsEntry made.declared × All (ExternalFits (file_scene it.types made.declared)) made.externals) known-is (entries-are, externals-are))
+    let all = h.2 scene (unit-final behind h.0) in
+    subst (λ (it : TypedUnit). All IsEntry it.declared × All (ExternalFits (file_scene known.types it.declared)) it.externals × All (Gives (file_scene known.types it.declared)) it.externals) one-is
+    (subst (λ (it : Known). All IsEntry made.declared × All (ExternalFits (file_scene it.types made.declared)) made.externals × All (Gives (file_scene it.types made.declared)) made.externals) known-is
+    (entries-are, all-fit scene externals all, all-give scene externals all))
 unit-typed (stops rule at) start known one h e = absurd (cc)
 
 unit-known : (progress : Progress (List unit.External)) (start : Standing) (known : Known) (one : TypedUnit) → Settles AllFit start progress → unit_of progress ≡ given known one
@@ -186,3 +195,12 @@ units-typed shapes tokens externals known one sound are e =
     let settled = externals-settle setting sound (beginning shapes) [] 0 externals are (beginning-sound shapes) in
     let fits = unit-typed (typed_externals setting (beginning shapes) externals) (beginning shapes) known one settled e in
     record { entries = fits.0; externals = fits.1; once = functions-once shapes tokens externals known one e }
+
+-- a function that a typed unit defines gives void or a complete object type
+pub units-give : (shapes : List Shape) (tokens : List CToken) (externals : List External) (known : Known) (one : TypedUnit) → AreSoundTokens tokens
+    → AreExternals (unit_setting tokens externals).source [] 0 externals → typed_unit shapes tokens externals ≡ given known one
+    → All (λ (external : unit.External). DefinesResult (file_scene known.types one.declared) external.form) one.externals
+units-give shapes tokens externals known one sound are e =
+    let setting = unit_setting tokens externals in
+    let settled = externals-settle setting sound (beginning shapes) [] 0 externals are (beginning-sound shapes) in
+    (unit-typed (typed_externals setting (beginning shapes) externals) (beginning shapes) known one settled e).2

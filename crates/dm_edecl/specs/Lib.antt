@@ -8,4 +8,5 @@ pub mod Settled
 pub mod Fit
 pub mod Sound
 pub mod Placing
+pub mod Results
 pub mod Examples

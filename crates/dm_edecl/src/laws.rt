@@ -1,6 +1,6 @@
 //! What holds of the typing of units.
 
-ghost use Rattle.std.specs.Prelude.{ℕ, nat_eq, ℤ, Bool, false, List, [], Option, ◌≡◌};
+ghost use Rattle.std.specs.Prelude.{ℕ, nat_eq, ℤ, Bool, false, List, [], All, Option, ◌≡◌};
 ghost use Rattle.std.specs.List.{IsDistinct};
 ghost use Rattle.dm_token.specs.declared.place.Span.{Span};
 ghost use Rattle.dm_token.specs.declared.token.CToken.{CToken};
@@ -12,8 +12,8 @@ ghost use Rattle.dm_syn.specs.Spans.{declaration_span, stmt_span, external_span}
 ghost use Rattle.dm_syn.specs.Grammar.{IsExpr};
 ghost use Rattle.dm_syn.specs.Statements.{IsOptional, IsInitialiser, IsDeclaration, IsStmt, IsExternal};
 ghost use Rattle.dm_syn.specs.Trees.{Expr, Initialiser, Declaration, Stmt, External};
-ghost use Rattle.dm_tree.specs.Typing.{IsEntry, ExternalFits, IsWellTypedUnit, defined_functions};
-ghost use Rattle.dm_tree.specs.Units.{TypedUnit};
+ghost use Rattle.dm_tree.specs.Typing.{IsEntry, file_scene, ExternalFits, IsWellTypedUnit, defined_functions};
+ghost use Rattle.dm_tree.specs.Units.{External as TypedExternal, TypedUnit};
 ghost use Rattle.dm_typing.specs.Known.{Known, Setting, given};
 ghost use Rattle.dm_typing.specs.Sound.{IsProper, AreSoundTokens, IsSoundKnown, GivesMore, BreaksWithin};
 ghost use Rattle.dm_edecl.specs.Standing.{Standing};
@@ -22,6 +22,7 @@ ghost use Rattle.dm_edecl.specs.Initialising.{expressions_alone, typed_initialis
 ghost use Rattle.dm_edecl.specs.Declaring.{is_misplaced_static, typed_declaration};
 ghost use Rattle.dm_edecl.specs.Statements.{Within, typed_condition, typed_subject, typed_case, typed_return, typed_stmt};
 ghost use Rattle.dm_edecl.specs.Units.{unit_setting, beginning, typed_external, typed_unit};
+ghost use Rattle.dm_edecl.specs.Results.{DefinesResult};
 ghost use Rattle.dm_edecl.specs.Settled.{IsSoundStanding, Settles};
 ghost use Rattle.dm_edecl.specs.Fit.{IsSoundWithin, DeclarationFits, StmtFits};
 ghost use Rattle.dm_edecl.specs.Sound.{AllSound, IsSoundInitial, IsSoundCondition, IsSoundSubject, IsSoundCase, IsSoundReturn};
@@ -109,6 +110,13 @@ pub fn external_declarations_are_well_typed()
 pub fn units_are_well_typed()
     ensures { (shapes : List Shape) (tokens : List CToken) (externals : List External) (known : Known) (unit : TypedUnit) → AreSoundTokens tokens →
         AreExternals (unit_setting tokens externals).source [] 0 externals → typed_unit shapes tokens externals ≡ given known unit → IsWellTypedUnit known.types unit }
+{}
+
+/// A function that a typed unit defines gives void or a complete object type other than an array (6.9.1p3); so it gives no function.
+pub fn defined_functions_give_objects()
+    ensures { (shapes : List Shape) (tokens : List CToken) (externals : List External) (known : Known) (unit : TypedUnit) → AreSoundTokens tokens →
+        AreExternals (unit_setting tokens externals).source [] 0 externals → typed_unit shapes tokens externals ≡ given known unit →
+        All (λ (one : TypedExternal). DefinesResult (file_scene known.types unit.declared) one.form) unit.externals }
 {}
 
 /// What is known at the end of a typed unit is sound: the members of its structs are complete, its structs are within one another in

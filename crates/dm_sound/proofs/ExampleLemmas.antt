@@ -1,11 +1,11 @@
 -- The premises of the laws, for the example.
-use Rattle.std.specs.Prelude.{nat_eq, ◌≡◌, refl, ℕ, zero, suc, ◌+◌, ◌==◌, Bool, true, false, ◌&&◌, All, [], ◌∷◌, Some, None, pos, codes, if◌then◌else◌}
+use Rattle.std.specs.Prelude.{nat_eq, ◌≡◌, refl, ℕ, zero, suc, ◌+◌, ◌==◌, Bool, true, false, ◌&&◌, ◌||◌, IsTrue, All, [], ◌∷◌, Some, None, pos, codes, if◌then◌else◌}
 use Rattle.std.specs.List.{IsDistinct}
-use Rattle.std.proofs.Common.{arith, ap, sym, ◌∙◌, subst, inl}
+use Rattle.std.proofs.Common.{arith, ap, sym, ◌∙◌, subst, inl, inr}
 use Rattle.std.proofs.lemmas.Bool.{false≢true}
 use Rattle.std.proofs.lemmas.Int.{ints}
 use Rattle.dm_int.specs.declared.Kind.TheVariants.{Int}
-use Rattle.dm_type.specs.CTypes.{CType, integer, void, function as function_type, no_types}
+use Rattle.dm_type.specs.CTypes.{CType, integer, void, function as function_type, no_types, bare}
 use Rattle.dm_type.specs.Structs.{AreSameStructs}
 use Rattle.dm_type.specs.Tables.{Table, no_type, types_of, type_of, Has}
 use Rattle.dm_tree.specs.declared.tree.Form.{roll-Form}
@@ -13,7 +13,7 @@ use Rattle.dm_tree.specs.declared.tree.Form.TheOpen as layer
 use Rattle.dm_tree.specs.declared.tree.Form.TheFolds as folds
 use Rattle.dm_tree.specs.declared.unit.Linkage.TheVariants.{External as Outer}
 use Rattle.dm_tree.specs.declared.unit.Sort.TheVariants.{Function}
-use Rattle.dm_tree.specs.Scenes.{HasConst, itself}
+use Rattle.dm_tree.specs.Scenes.{HasConst, itself, is_void}
 use Rattle.dm_tree.specs.Trees.{block as block_form, Tree, node, no_trees}
 use Rattle.dm_tree.specs.TypeNumbers.{argv_kind, IsTypedUnit, are_known, are_known_in_form, form_known, initial_known, core_known, local_known}
 use Rattle.dm_tree.specs.Typing.{IsEntry, ExternalFits, IsWellTypedUnit, file_scene}
@@ -23,14 +23,15 @@ use Rattle.dm_meaning.specs.Machines.{Goes, RunsTo}
 use Rattle.dm_meaning.specs.Units.{machine_of, Begins}
 use Rattle.dm_meaning.specs.Values.{integer_value}
 use Rattle.dm_meaning.specs.Memory.{Block, look_up}
-use Rattle.dm_meaning.specs.Programs.{layout}
+use Rattle.dm_meaning.specs.Programs.{Definition, layout}
 use Rattle.dm_meaning.specs.Running.{every}
 use Rattle.dm_meaning.specs.Steps.{Step}
 use Rattle.dm_meaning.proofs.OptionLemmas.{none_is_some, some_is_some}
-use Rattle.dm_sound.specs.TypedValues.{HasType, IsGiven, AreTyped}
+use Rattle.dm_sound.specs.Lacks.{GivesValues}
+use Rattle.dm_sound.specs.TypedValues.{own_type, has_values, HasType, IsGiven, AreTyped}
 use Rattle.dm_sound.specs.TypedTrees.{IsProper, IsSoundTable, IsTyped}
 use Rattle.dm_sound.specs.TypedSteps.{AreOperands}
-use Rattle.dm_sound.specs.TypedRuns.{HoleComesFrom, IsProperForm, IsProperUnit, IsTypedProgram, IsTypedWorld}
+use Rattle.dm_sound.specs.TypedRuns.{HoleComesFrom, IsProperForm, IsProperUnit, IsTypedProgram, IsTypedWorld, result_of}
 use Rattle.dm_sound.specs.TypedStates.{IsTypedState}
 use Rattle.dm_sound.specs.Examples.{one_table, other_table, somewhere, no_span, spans, main_definition, started, types, core_body, core_unit, core_program, core_started, int, entry, external, unit, main_entry, body, main_external, running_unit, running, beginning, behind, program, counted, name, world_with, operands, negated, negation, two, one_of_two}
 use Rattle.dm_sound.proofs.UnitLemmas.{unit_typed}
@@ -142,6 +143,11 @@ running_proper = record {
 
 pub running_typed : IsTypedProgram running
 running_typed = unit_typed no_type running_unit table_sound running_fits running_proper
+
+pub running_gives : GivesValues running
+running_gives definition (inl e) =
+    subst (λ (d : Definition). IsTrue (is_void (bare (result_of running d.function)) || has_values (own_type (result_of running d.function)))) (sym e) refl
+running_gives definition (inr e) = absurd e
 
 five_there : (b : Bool) (block : Block) → (if b then Some (record { kind = int; contents = integer_value Int (pos 5); alive = true; writable = true }) else None) ≡ Some block → HasType (layout running) block.kind block.contents
 five_there true block e = subst (λ (x : Block). HasType (layout running) x.kind x.contents) (some_is_some _ block e) (refl, (omega (arith, ints), omega (arith, ints)))

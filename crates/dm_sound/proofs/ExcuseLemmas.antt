@@ -35,7 +35,7 @@ use Rattle.dm_sound.proofs.TaskLemmas.{unfolded_fit, given_back}
 -- ---- steps that go on
 
 -- a step goes on
-abbrev IsOnward : Turned → Type 0
+abbrev pub IsOnward : Turned → Type 0
 IsOnward (onward objects tasks memory) = Unit {0}
 IsOnward (refused cause place) = ⊥
 
@@ -54,33 +54,33 @@ module _ (program : Program) (names : ℕ → ℕ) (objects : Objects) (rest : L
   form_on return trees = option_tree_has IsOnward trees _ _ return_on tt
   form_on label trees = tt
 
-  tree_on : (tree : Tree) → IsOnward (begin_tree program names objects rest memory tree)
+  pub tree_on : (tree : Tree) → IsOnward (begin_tree program names objects rest memory tree)
   tree_on (node label kind spans parts) = form_on label (listed parts)
 
-  initialiser_on : (at : At) (kind : CType) (initialiser : Initialiser) (trees : List Tree) → IsOnward (begin_initialiser program objects rest memory at kind initialiser trees)
+  pub initialiser_on : (at : At) (kind : CType) (initialiser : Initialiser) (trees : List Tree) → IsOnward (begin_initialiser program objects rest memory at kind initialiser trees)
   initialiser_on at kind one_expression trees = one_tree_has IsOnward trees _ _ (λ x. tt) tt
   initialiser_on at kind (in_braces items) trees = tt
 
-break_on : (objects : Objects) (memory : Memory) (tasks : List Task) → IsOnward (after_break objects memory tasks)
+pub break_on : (objects : Objects) (memory : Memory) (tasks : List Task) → IsOnward (after_break objects memory tasks)
 break_on objects memory [] = tt
 break_on objects memory (again saved loop ∷ tasks) = tt
 break_on objects memory (ends_switch saved ∷ tasks) = tt
 break_on objects memory (task ∷ tasks) = break_on objects memory tasks
 
-continue_on : (objects : Objects) (memory : Memory) (tasks : List Task) → IsOnward (after_continue objects memory tasks)
+pub continue_on : (objects : Objects) (memory : Memory) (tasks : List Task) → IsOnward (after_continue objects memory tasks)
 continue_on objects memory [] = tt
 continue_on objects memory (again saved loop ∷ tasks) = tt
 continue_on objects memory (task ∷ tasks) = continue_on objects memory tasks
 
 -- ---- causes
 
-cause_is : (a b : Cause) (p q : Place) → undefined a p ≡ undefined b q → a ≡ b
+pub cause_is : (a b : Cause) (p q : Place) → undefined a p ≡ undefined b q → a ≡ b
 cause_is a b p q e = cc
 
-going_apart : (cause : Cause) (place : Place) → going ≡ undefined cause place → ⊥
+pub going_apart : (cause : Cause) (place : Place) → going ≡ undefined cause place → ⊥
 going_apart cause place e = cc
 
-exited_apart : (status : ℕ) (cause : Cause) (place : Place) → exited status ≡ undefined cause place → ⊥
+pub exited_apart : (status : ℕ) (cause : Cause) (place : Place) → exited status ≡ undefined cause place → ⊥
 exited_apart status cause place e = cc
 
 value_apart : NoValue ≡ OtherType → ⊥

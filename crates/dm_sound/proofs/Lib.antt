@@ -24,4 +24,6 @@ pub mod ProperLemmas
 pub mod RunningLemmas
 pub mod SetLemmas
 pub mod ExcuseLemmas
+mod CauseLemmas
+pub mod LackLemmas
 pub mod LayoutLemmas

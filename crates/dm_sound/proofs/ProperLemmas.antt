@@ -1,5 +1,5 @@
 -- The types of trees and of declarations are proper where a table gave them.
-use Rattle.std.specs.Prelude.{◌≡◌, ℕ, Bool, All, List, [], ◌∷◌, ◌++◌, map, Option, Some, None, option_map}
+use Rattle.std.specs.Prelude.{◌≡◌, ℕ, Bool, All, List, [], ◌∷◌, ◌++◌, map, Option, Some, None}
 use Rattle.std.proofs.Common.{sym, subst}
 use Rattle.std.proofs.lemmas.List.Elements.{All-nil, All-cons}
 use Rattle.dm_type.specs.Tables.{Table, type_of}
@@ -16,7 +16,7 @@ use Rattle.dm_tree.specs.declared.unit.CoreUnit.{CoreUnit}
 use Rattle.dm_tree.specs.declared.unit.Declared.{Declared}
 use Rattle.dm_tree.specs.Trees.{Tree, trees}
 use Rattle.dm_tree.specs.Units.{Declaration, External}
-use Rattle.dm_tree.specs.Views.{Opened, OpenedInitial, OpenedLocal, view, opened_form, view_of_local, view_of_declared, view_of_form, view_of_external, view_of_unit, form_layer, initial_layer, core_layer, local_layer, node_of, if_there, expressions_of_items, expressions_of_locals}
+use Rattle.dm_tree.specs.Views.{Opened, OpenedInitial, OpenedLocal, view, opened_form, view_of_local, view_of_declared, view_of_form, view_of_external, view_of_unit, form_layer, initial_layer, core_layer, local_layer, node_of, expressions_of_items, expressions_of_locals}
 use Rattle.dm_sound.specs.TypedTrees.{IsProper, IsProperTree, AreProperTrees}
 use Rattle.dm_sound.specs.TypedRuns.{IsProperForm, IsProperUnit}
 use Rattle.dm_sound.proofs.TableLemmas.{table_proper}
@@ -78,11 +78,6 @@ module _ (types : Table) where
   locals_proper : (items : List Locals) → AllProper (expressions_of_locals (map (view_of_local types) (map (λ e. e.0) items)))
   locals_proper [] = tt
   locals_proper (e ∷ items) = joined_proper (view_of_local types e.0).expressions (expressions_of_locals (map (view_of_local types) (map (λ x. x.0) items))) e.1 (locals_proper items)
-
-  -- a tree that may be absent, and those behind it
-  there_proper : (o : Option Cores) (xs : List Tree) → AllProper xs → AllProper (if_there (option_map (λ (e : Cores). view types e.0) o) ++ xs)
-  there_proper None xs h = h
-  there_proper (Some e) xs h = (e.1, h)
 
   -- one layer
   abbrev stripped_form : layer.Form-F Forms Initials Cores Locals → layer.Form-F Form Initial Core Local

@@ -22,10 +22,6 @@ pub own_bare : (type : CType) → own_type (bare type) ≡ own_type type
 own_bare (const type) = refl
 own_bare type = refl
 
-pub own_own : (type : CType) → own_type (own_type type) ≡ own_type type
-own_own (const type) = own_own type
-own_own type = refl
-
 pub own_not_const : (type : CType) → is_const (own_type type) ≡ false
 own_not_const (const type) = own_not_const type
 own_not_const type = refl

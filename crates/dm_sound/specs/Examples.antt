@@ -22,7 +22,7 @@ use Rattle.dm_meaning.specs.Machines.{going}
 use Rattle.dm_meaning.specs.Values.{At, numbered, Value, integer_value, parts, unset, no_values, more_values}
 use Rattle.dm_meaning.specs.Programs.{Definition, Program}
 use Rattle.dm_meaning.specs.Operations.{designates, Operand, World, Scene, whole}
-use Rattle.dm_meaning.specs.Running.{evaluates, no_runs, Hole, here, within, in_first}
+use Rattle.dm_meaning.specs.Running.{evaluates, Run, done, to_do, no_runs, more_runs, Hole, here, within, in_first}
 use Rattle.dm_meaning.specs.States.{Task, begins, ends, State}
 use Rattle.dm_meaning.specs.Units.{program_of, start}
 
@@ -77,6 +77,10 @@ place = whole (numbered 7)
 
 abbrev pub operands : List Operand
 operands = record { kind = int; result = designates place } ∷ []
+
+-- c++ where c is evaluated
+abbrev pub counting_run : Run
+counting_run = to_do (evaluates counting) int somewhere (more_runs (done int (designates place) []) no_runs)
 
 -- the negative of a call, and the same with the call left out
 abbrev pub negated : Tree

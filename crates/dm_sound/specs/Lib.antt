@@ -5,4 +5,5 @@ pub mod TypedRuns
 pub mod TypedStates
 pub mod Examples
 pub mod Excuses
+pub mod Lacks
 pub mod SameTables

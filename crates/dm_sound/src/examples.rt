@@ -8,6 +8,9 @@ ghost use Rattle.dm_type.specs.Tables.{no_type};
 ghost use Rattle.dm_tree.specs.Constants.{integer_kind};
 ghost use Rattle.dm_tree.specs.TypeNumbers.{IsTypedUnit};
 ghost use Rattle.dm_tree.specs.Typing.{IsWellTypedUnit};
+ghost use Rattle.dm_meaning.specs.declared.cause.Cause.TheVariants.{Overflow};
+ghost use Rattle.dm_meaning.specs.Among.{IsAmong};
+ghost use Rattle.dm_meaning.specs.Expressions.{fails, moves};
 ghost use Rattle.dm_meaning.specs.Machines.{Goes, RunsTo};
 ghost use Rattle.dm_meaning.specs.Operations.{gives, of_value, operate};
 ghost use Rattle.dm_meaning.specs.Programs.{layout};
@@ -17,6 +20,7 @@ ghost use Rattle.dm_meaning.specs.Units.{Begins, machine_of, program_of};
 ghost use Rattle.dm_meaning.specs.Values.{integer_value};
 ghost use Rattle.dm_meaning.specs.Wholes.{is_expression};
 ghost use Rattle.dm_sound.specs.Examples as examples;
+ghost use Rattle.dm_sound.specs.Lacks.{GivesValues};
 ghost use Rattle.dm_sound.specs.TypedRuns.{ArgumentsFit, ComesFrom, HoleComesFrom, IsProperUnit, IsTypedProgram, IsTypedWorld};
 ghost use Rattle.dm_sound.specs.TypedStates.{IsTypedState};
 ghost use Rattle.dm_sound.specs.TypedSteps.{IsTypedScope, AreOperands, is_operated};
@@ -38,6 +42,11 @@ pub fn typed_counting()
     // what its step does
     ensures does { operate examples.scene (examples.world_with 5) [] examples.counting examples.int examples.operands
         ≡ gives (examples.world_with 6) (of_value (integer_value Int (pos 5))) (examples.place ∷ []) }
+{}
+
+/// So does the step of `c++`, where `c` holds the greatest int, that of `expressions_never_lack_values`: it is undefined for another cause.
+pub fn overflowing_count()
+    ensures { IsAmong (fails Overflow examples.somewhere) (moves examples.scene (examples.world_with 2147483647) [] examples.counting_run) }
 {}
 
 /// The negative of what a call gives meets each premise of `calls_give_their_types`.
@@ -67,9 +76,11 @@ pub fn typed_unit()
 {}
 
 /// The state in which `main` of `int c; int main(void) {}` runs, and the step to the state behind it, meet each premise of
-/// `steps_keep_states_typed`, `typed_steps_are_never_ill`, `typed_calls_get_their_values` and `runs_stay_typed`.
+/// `steps_keep_states_typed`, `typed_steps_are_never_ill`, `typed_calls_get_their_values`, `values_lack_at_closing_braces_alone` and
+/// `runs_stay_typed`.
 pub fn typed_state()
     ensures program { IsTypedProgram examples.running }
+    ensures values { GivesValues examples.running }
     ensures state { IsTypedState examples.running examples.beginning }
     ensures step { Step examples.running examples.beginning examples.behind }
     ensures goes { Goes (machine_of examples.running) 1 examples.beginning examples.behind }

@@ -1,4 +1,5 @@
 ghost use Rattle.std.specs.Prelude.{◌≡◌, ℕ, IsTrue, List, [], Some};
+ghost use Rattle.dm_token.specs.declared.place.Place.{Place};
 ghost use Rattle.dm_int.specs.declared.Kind.{Kind};
 ghost use Rattle.dm_type.specs.CTypes.{CType, array};
 ghost use Rattle.dm_type.specs.Structs.{AreSameStructs};
@@ -10,8 +11,10 @@ ghost use Rattle.dm_tree.specs.TypeNumbers.{IsTypedUnit};
 ghost use Rattle.dm_tree.specs.Typing.{IsWellTypedUnit};
 ghost use Rattle.dm_tree.specs.Units.{TypedUnit};
 ghost use Rattle.dm_tree.specs.Views.{view_of_unit};
+ghost use Rattle.dm_meaning.specs.declared.cause.Cause.{Cause};
+ghost use Rattle.dm_meaning.specs.declared.cause.Cause.TheVariants.{NoValue};
 ghost use Rattle.dm_meaning.specs.Among.{IsAmong};
-ghost use Rattle.dm_meaning.specs.Expressions.{Move, moves};
+ghost use Rattle.dm_meaning.specs.Expressions.{Move, fails, moves};
 ghost use Rattle.dm_meaning.specs.Machines.{Goes, RunsTo};
 ghost use Rattle.dm_meaning.specs.Memory.{Memory, killed};
 ghost use Rattle.dm_meaning.specs.Objects.{Layout, all_unset, all_zero};
@@ -25,6 +28,7 @@ ghost use Rattle.dm_meaning.specs.Units.{Begins, machine_of, program_of};
 ghost use Rattle.dm_meaning.specs.Values.{At, Value, literal_of};
 ghost use Rattle.dm_meaning.specs.Wholes.{is_expression};
 ghost use Rattle.dm_sound.specs.Excuses.{HandsBackValues, IsExcusedMove, IsExcusedStep, results_in};
+ghost use Rattle.dm_sound.specs.Lacks.{GivesValues, LacksAtBrace};
 ghost use Rattle.dm_sound.specs.SameTables.{over};
 ghost use Rattle.dm_sound.specs.TypedRuns.{ArgumentsFit, ComesFrom, HoleComesFrom, IsProperUnit, IsTypedProgram, IsTypedWorld, MoveFits};
 ghost use Rattle.dm_sound.specs.TypedStates.{IsTypedState};
@@ -149,6 +153,20 @@ pub fn typed_steps_are_never_ill()
 /// In a typed state, what a function hands back to a call was set, where the call's type has values: no call lacks a value.
 pub fn typed_calls_get_their_values()
     ensures { (program : Program) (state : State) → IsTypedState program state → HandsBackValues state }
+{}
+
+/// No step of an expression is undefined because a value is lacking (`novalue`), whatever its tree.
+pub fn expressions_never_lack_values()
+    ensures { (scene : Scene) (world : World) (locks : List At) (run : Run) (cause : Cause) (place : Place)
+        → IsAmong (fails cause place) (moves scene world locks run) → ¬ (cause ≡ NoValue) }
+{}
+
+/// In a program whose functions give void or values, as those of each typed unit do (6.9.1p3), a step of a typed state is undefined because
+/// a value is lacking only at the closing brace of a function that isn't `main` and whose result isn't void (6.9.1p12); never where a call
+/// returns.
+pub fn values_lack_at_closing_braces_alone()
+    ensures { (program : Program) (state other : State) → IsTypedProgram program → GivesValues program → IsTypedState program state
+        → Step program state other → LacksAtBrace program state other }
 {}
 
 /// Over tables that say the same of structs a program's types are laid out alike, and its constant expressions have the same values. Nothing

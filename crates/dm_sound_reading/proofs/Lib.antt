@@ -1,2 +1,3 @@
 mod TableLemmas
+mod ResultLemmas
 pub mod ReadingLemmas

@@ -5,11 +5,13 @@ ghost use Rattle.dm_tree.specs.Typing.{IsWellTypedUnit};
 ghost use Rattle.dm_tree.specs.Views.{view_of_unit};
 ghost use Rattle.dm_meaning.specs.Machines.{RunsTo};
 ghost use Rattle.dm_meaning.specs.States.{State};
+ghost use Rattle.dm_meaning.specs.Steps.{Step};
 ghost use Rattle.dm_meaning.specs.Units.{machine_of, program_of};
 ghost use Rattle.dm_effect.specs.Scoped.{IsScopedUnit};
 ghost use Rattle.dm_reading.specs.declared.reading.Reading.{Reading};
 ghost use Rattle.dm_reading.specs.Layered.{IsLayered};
 ghost use Rattle.dm_scoped.specs.Spans.{IsLaidOutUnit};
+ghost use Rattle.dm_sound.specs.Lacks.{GivesValues, LacksAtBrace};
 ghost use Rattle.dm_sound.specs.TypedRuns.{IsTypedProgram};
 ghost use Rattle.dm_sound.specs.TypedStates.{IsTypedState};
 ghost use Rattle.dm_sound.specs.TypedTrees.{IsSoundTable};
@@ -33,6 +35,16 @@ pub fn readings_run_typed()
     ensures { (reading : Reading) (input : List ℕ) (n : ℕ) (state : State) → IsLayered reading
         → RunsTo (machine_of (program_of reading.types (view_of_unit reading.types reading.core))) input n state
         → IsTypedState (program_of reading.types (view_of_unit reading.types reading.core)) state }
+{}
+
+/// In each run of its program on bytes, a step is undefined because a value is lacking (`novalue`) only at the closing brace of a function that
+/// isn't `main` and whose result isn't void (6.9.1p12): no expression lacks one, and no call.
+pub fn readings_lack_values_at_closing_braces_alone()
+    ensures results { (reading : Reading) → IsLayered reading → GivesValues (program_of reading.types (view_of_unit reading.types reading.core)) }
+    ensures steps { (reading : Reading) (input : List ℕ) (n : ℕ) (state other : State) → IsLayered reading
+        → RunsTo (machine_of (program_of reading.types (view_of_unit reading.types reading.core))) input n state
+        → Step (program_of reading.types (view_of_unit reading.types reading.core)) state other
+        → LacksAtBrace (program_of reading.types (view_of_unit reading.types reading.core)) state other }
 {}
 
 /// So in each state of each run on bytes the automatic objects of its unit that have first values are set behind them, and scalar objects of

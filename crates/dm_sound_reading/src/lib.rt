@@ -6,5 +6,6 @@ mod laws;
 
 pub use examples::empty_reading;
 pub use laws::{
-    readings_are_sound, readings_name_what_is_set, readings_run_alike, readings_run_typed,
+    readings_are_sound, readings_lack_values_at_closing_braces_alone, readings_name_what_is_set,
+    readings_run_alike, readings_run_typed,
 };
