@@ -26,9 +26,9 @@ use Rattle.dm_unit.specs.States.{Catalogue, Outcome, Setting, State}
 use Rattle.dm_unit.specs.Units.{AreNumbered, HasOutcome, IsReadAs, first_files, setting_of, state_with}
 use Rattle.dm_unit.specs.Views.{IsFaultless}
 use Rattle.dm_reading.specs.declared.reading.Reading.{Reading}
-use Rattle.dm_read.specs.Reading.{AreOneReading, IsReading}
-use Rattle.dm_project.specs.Definitions.{definitions_in, in_files, once_more}
-use Rattle.dm_project.specs.Units.{Ending, IsCounted, ReadsNext, ReadsProject, ReadsUnits, ending, most_project_tokens}
+use Rattle.dm_readings.specs.Reading.{AreOneReading, IsReading}
+use Rattle.dm_readings.specs.Definitions.{definitions_in, in_files, once_more}
+use Rattle.dm_readings.specs.Units.{Ending, IsCounted, ReadsNext, ReadsProject, ReadsUnits, ending, most_project_tokens}
 use Rattle.dm_lines.specs.Outside.{Outside}
 use Rattle.dm_lines.specs.Statuses as statuses
 use Rattle.dm_apply.specs.Endings.{PlanEnding, ApplyEnding, EndsPlanning, EndsApplying, status_of_plan, status_of_apply, planned, report_failed, stopped, memory_wanted, applied, write_failed, output_failed, unplanned, unready}

@@ -14,7 +14,7 @@ use Rattle.dm_io.specs.Faults.{Rose}
 use Rattle.dm_manifest.proofs.Short.{lawful-short}
 use Rattle.dm_manifest.specs.Units.{IsLawful}
 use Rattle.dm_search.specs.Loaded.{Loaded}
-use Rattle.dm_project.specs.Units.{HasShortDefines}
+use Rattle.dm_readings.specs.Units.{HasShortDefines}
 use Rattle.dm_edit.specs.declared.plan.Changed.{Changed}
 use Rattle.dm_edit.specs.declared.plan.Plan.{Plan}
 use Rattle.dm_gen.specs.Generated.{unit_name}

@@ -1,4 +1,5 @@
 pub mod CommitLemmas
 pub mod CompleteLemmas
 pub mod EndingLemmas
+pub mod LaterLemmas
 pub mod SummaryLemmas

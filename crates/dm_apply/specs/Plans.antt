@@ -12,7 +12,7 @@ use Rattle.dm_edit.specs.declared.plan.Plan.{Plan}
 use Rattle.dm_lines.specs.Lines.{limit_line, write_fault_line}
 use Rattle.dm_lines.specs.Stops.{line_of_stop}
 use Rattle.dm_reading.specs.declared.reading.Reading.{Reading}
-use Rattle.dm_project.specs.Units.{ReadsProject, ending, no_file}
+use Rattle.dm_readings.specs.Units.{ReadsProject, ending, no_file}
 use Rattle.dm_planning.specs.Plans.{IsPlanned}
 use Rattle.dm_report.specs.JsonReport.{json_of}
 use Rattle.dm_report.specs.Lines.{report_of}

@@ -10,7 +10,7 @@ ghost use Rattle.dm_apply.specs.Endings.{ApplyEnding, PlanEnding, EndsApplying, 
 ghost use Rattle.dm_apply.specs.Generation.{GenEnding, EndsGenerating, status_of_gen};
 ghost use Rattle.dm_apply.specs.Summaries.{files_of, units as generated_units};
 
-use dm_read::one_reading_of_unit;
+use dm_readings::one_reading_of_unit;
 use dm_unit::one_outcome;
 
 /// Where the files are told, the units are read within the limits and nothing fails, a plan is reported, or memory is wanted.

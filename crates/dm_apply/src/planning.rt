@@ -10,9 +10,8 @@ ghost use Rattle.dm_apply.specs.Plans.{HasCause, IsOnePlan};
 
 use dm_edit::Plan;
 use dm_io::Folder;
-use dm_planning::plan;
-use dm_project::held_files_stay_there;
-use dm_read::Steps;
+use dm_planning::{Steps, plan};
+use dm_readings::held_files_stay_there;
 use dm_search::Loader;
 use dm_token::{Stop, Unit};
 use std::alloc::Global;

@@ -4,14 +4,11 @@ use Rattle.std.specs.List.{list_any, filter_map}
 use Rattle.std.proofs.lemmas.Bool.{ltb-true, ltb-false, lt-ltb, le-ltb, eq-eqb, ne_eqb}
 use Rattle.dm_type.specs.Tables.{Table}
 use Rattle.dm_tree.specs.declared.unit.CoreUnit.{CoreUnit}
-use Rattle.dm_tree.specs.Paths.{Path, tree_at, all_in}
+use Rattle.dm_tree.specs.Paths.{Path, tree_at}
 use Rattle.dm_tree.specs.Trees.{Label, binary, store, update, call, Tree, label_of, parts_of, is_statement}
 use Rattle.dm_tree.specs.Units.{TypedUnit}
 use Rattle.dm_tree.specs.Views.{view_of_unit}
-use Rattle.dm_effect.specs.Quiet.{is_quiet, is_one_of, quiet_functions, before}
 use Rattle.dm_effect.specs.Sequencing.{is_unsequenced, beside}
-use Rattle.dm_effect.specs.Stable.{is_pure, acts}
-use Rattle.dm_effect.proofs.QuietLemmas.{still}
 use Rattle.dm_sites.specs.Links.{linked}
 use Rattle.dm_sites.specs.Sites.{Site, sites_of_unit}
 use Rattle.dm_sites.proofs.LeadLemmas.{fit-at, unit-fits}
@@ -28,15 +25,6 @@ or-swap true true = refl
 or-swap true false = refl
 or-swap false true = refl
 or-swap false false = refl
-
--- ---- what neither calls nor stores is quiet
-
-not-true : (b : Bool) → not b ≡ true → b ≡ false
-not-true true h = absurd (cc)
-not-true false h = refl
-
-pub pure-quiet : (one : TypedUnit) (tree : Tree) → is_pure tree ≡ true → is_quiet one tree ≡ true
-pure-quiet one tree pure = ap not (still (is_one_of (quiet_functions (before tree one.externals))) (all_in tree) (not-true (list_any acts (all_in tree)) pure))
 
 -- what leaves its operands unsequenced is an expression
 pub unsequenced-expression : (label : Label) → is_unsequenced label ≡ true → is_statement label ≡ false

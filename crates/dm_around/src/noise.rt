@@ -4,7 +4,6 @@ ghost use Rattle.std.specs.Prelude.{◌≡◌, ◌≤◌, ℕ, Some, length, map
 ghost use Rattle.std.specs.Option.{option_copied};
 ghost use Rattle.dm_type.specs.Tables.{Table};
 ghost use Rattle.dm_tree.specs.Views.{if_there, view, view_of_unit};
-ghost use Rattle.dm_effect.specs.Quiet as quieting;
 ghost use Rattle.dm_sites.specs.Sites.{sites_of_unit, Site as SeenSite};
 ghost use Rattle.dm_around.specs.Noises as noises;
 ghost use Rattle.dm_around.specs.Noises.{is_noisy, noisy_among as noisy_in};
@@ -13,7 +12,7 @@ ghost use Rattle.dm_around.specs.Surroundings.{any_beside};
 
 use crate::parents::parent_at;
 use crate::parts::is_unsequenced;
-use dm_effect::{QuietFunctions, is_pure, parts_of};
+use dm_effect::{QuietFunctions, parts_of};
 use dm_sites::Sites;
 use dm_token::Memory;
 use dm_tree::Core;
@@ -83,16 +82,9 @@ fn is_beside(quiet: &QuietFunctions, above: Noise, operand: &Core) -> bool
     }
     match above.operands {
         0 => false,
-        1 => is_quiet(quiet, operand),
+        1 => quiet.is_quiet(operand),
         _ => true,
     }
-}
-
-/// Whether a tree is quiet. The external declarations before it are counted only where it stores or calls something.
-pub(crate) fn is_quiet(quiet: &QuietFunctions, tree: &Core) -> bool
-    ensures { (types : Table) → result ≡ quieting.is_quiet (view_of_unit types quiet.now) (view types tree.now) }
-{
-    is_pure(tree) || quiet.is_quiet(tree)
 }
 
 /// How many operands of an expression that leaves them unsequenced aren't quiet.
@@ -114,7 +106,7 @@ fn noise_in(quiet: &QuietFunctions, part: Option<&Core>) -> usize
     ensures few { result ≤ 1 }
 {
     match part {
-        Some(tree) => { if is_quiet(quiet, tree) { 0 } else { 1 } }
+        Some(tree) => { if quiet.is_quiet(tree) { 0 } else { 1 } }
         None => 0,
     }
 }
@@ -127,7 +119,7 @@ fn noisy_among(quiet: &QuietFunctions, trees: &[Core]) -> usize
     let mut count = 0;
     let mut left = trees;
     while let Some((tree, rest)) = left.split_first() {
-        if !is_quiet(quiet, tree) {
+        if !quiet.is_quiet(tree) {
             count += 1;
         }
         left = rest;

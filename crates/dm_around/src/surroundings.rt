@@ -15,7 +15,7 @@ ghost use Rattle.dm_sites.specs.Sites.{sites_of_unit, Site as SeenSite};
 use crate::beside::is_written_around;
 use crate::ends::ends_of;
 use crate::links::{Link, links_of};
-use crate::noise::{Noise, is_quiet, noise_at, noises_of};
+use crate::noise::{Noise, noise_at, noises_of};
 use crate::parents::parents_of;
 use crate::ways::{Way, is_in, way_at, ways_of};
 use crate::writes::{row_of, writes_of};
@@ -98,7 +98,7 @@ impl<'a> Surroundings<'a> {
             return false;
         }
         match sites.get(number) {
-            Some(site) => is_quiet(quiet, site.tree),
+            Some(site) => quiet.is_quiet(site.tree),
             None => false,
         }
     }

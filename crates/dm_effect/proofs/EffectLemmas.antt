@@ -1,12 +1,11 @@
 -- What a node of the code does, by its form.
-use Rattle.std.specs.Prelude.{◌≡◌, ℕ, ◌≤◌, ◌==◌, Bool, true, false, not, List, [], ◌∷◌, map, length, Option, Some, None, IfSome}
-use Rattle.std.proofs.Common.{rules, refl, ap, sym, ◌∙◌, Bor, true≢false, arith}
+use Rattle.std.specs.Prelude.{◌≡◌, ℕ, ◌==◌, Bool, true, false, not, List, [], ◌∷◌, map, length, None}
+use Rattle.std.proofs.Common.{rules, refl, ap, sym, ◌∙◌, true≢false, arith}
 use Rattle.std.proofs.lemmas.Bool.Decides.{Decides-eqb}
-use denote.Param.Weighed.{most}
 use Rattle.dm_type.specs.CTypes.{CType}
 use Rattle.dm_int.specs.declared.Op.{Op}
 use Rattle.dm_type.specs.Tables.{Table, type_of}
-use Rattle.dm_tree.specs.declared.tree.Core.{Core, out-Core, size-Core}
+use Rattle.dm_tree.specs.declared.tree.Core.{Core, out-Core}
 use Rattle.dm_tree.specs.declared.tree.Core as q
 use Rattle.dm_tree.specs.declared.tree.Form.{Form}
 use Rattle.dm_tree.specs.declared.tree.Form.TheVariants as form
@@ -71,13 +70,6 @@ pub block-as : (types : Table) (core : Core) (items : List Core) → (out-Core c
     → alone_returned (view types core)
     ≡ alone_returned (node label.block (type_of types (out-Core core).kind) (record { inner = (out-Core core).inner; outer = (out-Core core).outer; place = (out-Core core).place }) (trees (map (view types) items)))
 block-as types core items is = seen-as types core alone_returned (form.Block items) (opened label.block (map (view types) items)) is (opened-Block types items)
-
-pub block-deep : (core : Core) (items : List Core) → (out-Core core).form ≡ form.Block items → most size-Core items ≤ size-Core core
-block-deep core items is = search (rules, q.the_lemmas)
-
-pub no-deeper : (found : Option (Bor Core)) (m n : ℕ) → m ≤ n → IfSome found (λ value. size-Core value.now ≤ m) → IfSome found (λ value. size-Core value.now ≤ n)
-no-deeper None m n le h = tt
-no-deeper (Some value) m n le h = omega arith
 
 -- an item alone, and several
 pub only-item : (types : Table) (kind : CType) (spans : Spans) (items : List Core) (only : Core) (others : List Core) → items ≡ only ∷ others → others ≡ []

@@ -13,4 +13,3 @@ pub mod Scoped
 pub mod Sequencing
 pub mod Stable
 pub mod Tables
-pub mod Walks

@@ -1,34 +1,30 @@
 //! What stands at a place of an expression and beside it.
 
-ghost use Rattle.std.specs.Prelude.{◌≡◌, ℕ, ◌&&◌, ◌==◌, length, map, not};
+ghost use Rattle.std.specs.Prelude.{◌≡◌, ℕ, ◌&&◌, ◌==◌, not};
 ghost use Rattle.std.specs.List.{filter_map, list_any};
 ghost use Rattle.dm_type.specs.Tables.{Table};
 ghost use Rattle.dm_tree.specs.Paths.{tree_in};
 ghost use Rattle.dm_tree.specs.Trees.{trees_of};
-ghost use Rattle.dm_tree.specs.Views.{view, view_of_external};
+ghost use Rattle.dm_tree.specs.Views.{view};
 ghost use Rattle.dm_effect.specs.Doubts.{is_doubted, is_doubted_beside};
 ghost use Rattle.dm_effect.specs.Entities as entities;
 ghost use Rattle.dm_effect.specs.Operands.{others_by};
-ghost use Rattle.dm_effect.specs.Questions.{is_quiet_since};
-ghost use Rattle.dm_effect.specs.Quiet.{before, is_quiet_with};
 ghost use Rattle.dm_effect.specs.Sequencing.{around};
 
 use crate::parts::part;
 use crate::question::Question;
-use crate::quieting::count_before;
 use crate::sequencing::Path;
 use crate::unsequenced::{last_operand, previous};
 use crate::walk::any_node;
-use dm_tree::{Core, CoreExternal};
+use dm_tree::Core;
 
 /// What is asked of a tree that stands at a place or beside it.
 #[derive(Clone, Copy)]
 pub(crate) enum Doubt<'a> {
     /// Whether it stores in the object of this number by its name.
     Writes(u32),
-    /// Whether it isn't quiet in a unit with these external declarations, where it is told by which of them each function became
-    /// quiet.
-    Disturbs(&'a [CoreExternal], &'a [Option<usize>]),
+    /// Whether it isn't quiet, where it is told from which token on each function is.
+    Disturbs(&'a [Option<u32>]),
 }
 
 /// Whether what stands at a place, or an operand that is unsequenced to it, stores in the object by its name.
@@ -90,17 +86,6 @@ fn doubts(tree: &Core, doubt: Doubt) -> bool
 {
     match doubt {
         Doubt::Writes(object) => any_node(tree, Question::Writes(object)),
-        Doubt::Disturbs(externals, since) => is_disturbed(tree, externals, since),
+        Doubt::Disturbs(since) => any_node(tree, Question::Disturbs(since, tree.inner.first)),
     }
-}
-
-/// Whether a tree isn't quiet. The external declarations before it are counted only where it stores or calls something.
-fn is_disturbed(tree: &Core, externals: &[CoreExternal], since: &[Option<usize>]) -> bool
-    ensures { (types : Table) → result ≡ not (is_quiet_with (is_quiet_since since.now (length (before (view types tree.now) (map (view_of_external types) externals.now)))) (view types tree.now)) }
-{
-    if !any_node(tree, Question::Acts) {
-        return false;
-    }
-    let count = count_before(externals, tree.inner.first);
-    any_node(tree, Question::DisturbsSince(since, count))
 }

@@ -121,7 +121,7 @@ fn in_declarators(form: &CoreExternalForm, question: Question) -> bool
             Question::Defines(object) => any_defines(locals.items(), object),
             Question::Initialises(object, token) => any_initialises(locals.items(), object, token),
             Question::Acts | Question::Writes(_) | Question::Addresses(_) => false,
-            Question::Disturbs(_) | Question::DisturbsSince(_, _) => false,
+            Question::Disturbs(_, _) => false,
         },
         CoreExternalForm::Function {
             function: _,

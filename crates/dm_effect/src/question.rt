@@ -1,7 +1,5 @@
 //! What is asked of the nodes of a tree.
 
-use dm_tree::CoreExternal;
-
 /// What is asked of a node. A `u32` is the number of a declaration, unless said otherwise.
 #[derive(Clone, Copy)]
 pub(crate) enum Question<'a> {
@@ -15,8 +13,6 @@ pub(crate) enum Question<'a> {
     Defines(u32),
     /// Whether it is a declaration that initialises the object, outside of whose initialiser the token stands.
     Initialises(u32, u32),
-    /// Whether it stores, or calls a function that isn't quiet behind these external declarations.
-    Disturbs(&'a [CoreExternal]),
-    /// The same, where it is told by which external declaration each function became quiet, and how many there are.
-    DisturbsSince(&'a [Option<usize>], usize),
+    /// Whether it stores, or calls a function that isn't quiet at the token, where it is told from which token on each function is.
+    Disturbs(&'a [Option<u32>], u32),
 }

@@ -1,19 +1,17 @@
 //! Trees whose evaluation writes nothing.
 
-ghost use Rattle.std.specs.Prelude.{◌≡◌, ◌≤◌, ◌||◌, ◌==◌, ℕ, Bool, nat_lt, nat_le, IfOk, OnOk, length, map, take, take_while, vec_len, if◌then◌else◌};
+ghost use Rattle.std.specs.Prelude.{◌≡◌, ◌≤◌, ◌==◌, ℕ, max, nat_le, IfOk, OnOk, vec_len, if◌then◌else◌};
 ghost use Rattle.std.specs.List.{list_all};
 ghost use Rattle.dm_type.specs.Tables.{Table};
-ghost use Rattle.dm_tree.specs.declared.unit.CoreExternal.{CoreExternal as OneExternal};
 ghost use Rattle.dm_tree.specs.Views.{view, view_of_external, view_of_unit};
 ghost use Rattle.dm_effect.specs.Entities.{is_this};
 ghost use Rattle.dm_effect.specs.Questions.{is_quiet_since};
-ghost use Rattle.dm_effect.specs.Quiet.{is_one_of, is_quiet, is_quiet_with, quiet_functions};
+ghost use Rattle.dm_effect.specs.Quiet.{is_quiet};
 ghost use Rattle.dm_effect.specs.Sequencing.{around};
-ghost use Rattle.dm_effect.specs.Tables.{Enters};
-ghost use Rattle.dm_effect.specs.Walks.{joins};
+ghost use Rattle.dm_effect.specs.Tables.{joins, Enters};
 
 use crate::around::{Doubt, any_around};
-use crate::functions::{is_quiet_by, returned};
+use crate::functions::{is_quiet_at, returned};
 use crate::question::Question;
 use crate::sequencing::Path;
 use crate::walk::any_node;
@@ -22,36 +20,12 @@ use dm_tree::{Core, CoreExternal, CoreExternalForm, CoreUnit};
 use std::alloc::Global;
 use std::marker::Model;
 
-/// Whether a tree of the unit has no store, and calls only functions whose whole body is one `return` of such a tree and which
-/// the unit defines before the external declaration in which the tree stands. The bodies are gone into again at each call,
-/// one inside another, so a chain of functions can take time that doubles with each, and a depth of the stack that grows with the
-/// chain: [`QuietFunctions`], which has neither, is for whole units.
-pub fn quiet(unit: &CoreUnit, tree: &Core) -> bool
-    ensures { (types : Table) → result ≡ is_quiet (view_of_unit types unit.now) (view types tree.now) }
-{
-    let externals = unit.externals.items();
-    let count = count_before(externals, tree.inner.first);
-    let (front, _) = externals.split_at(count);
-    !any_node(tree, Question::Disturbs(front))
-}
-
-/// How many external declarations from the first on end before the token.
-pub(crate) fn count_before(externals: &[CoreExternal], first: u32) -> usize
-    ensures count { result ≡ length (take_while (λ (one : OneExternal). nat_le one.span.after first) externals.now) }
-    ensures within { result ≤ length externals.now }
-{
-    externals
-        .iter()
-        .take_while(|one| one.span.after <= first)
-        .count()
-}
-
-/// The functions of a unit that are quiet, each with the external declaration by which it became so. Contracts see the unit.
+/// The functions of a unit that are quiet, each with the token from which on it is. Contracts see the unit.
 #[derive(Drop)]
 pub struct QuietFunctions<'a> {
     unit: &'a CoreUnit,
     /// By the numbers of their declarations.
-    since: Vec<Option<usize>>,
+    since: Vec<Option<u32>>,
 }
 
 impl<'a> Model for QuietFunctions<'a> {
@@ -77,11 +51,11 @@ impl<'a> QuietFunctions<'a> {
         ensures { IfOk result (λ made. made ≡ unit.now) }
     {
         let mut since = Vec::new(alloc);
+        let mut end = 0;
         let externals = unit.externals.items();
-        let mut done = 0;
-        while done < externals.len() {
-            enter(&mut since, &externals[done], done)?;
-            done += 1;
+        for external in externals {
+            end = later(end, external.span.after);
+            enter(&mut since, external, end)?;
         }
         Ok(QuietFunctions { unit, since })
     }
@@ -93,45 +67,53 @@ impl<'a> QuietFunctions<'a> {
         self.unit
     }
 
-    /// Whether a tree of the unit is quiet.
+    /// Whether a tree of the unit is quiet. Takes the time of one walk over it.
     pub fn is_quiet(&self, tree: &Core) -> bool
         ensures { (types : Table) → result ≡ is_quiet (view_of_unit types self.now) (view types tree.now) }
     {
-        let count = count_before(self.unit.externals.items(), tree.inner.first);
-        self.is_quiet_behind(count, tree)
+        let since = self.since.as_slice();
+        !any_node(tree, Question::Disturbs(since, tree.inner.first))
     }
 
     /// Whether what stands at a place of a full expression in the unit, and all operands that are unsequenced to it, are quiet.
     pub fn are_quiet_around(&self, full: &Core, at: &Path) -> bool
         ensures { (types : Table) → result ≡ list_all (is_quiet (view_of_unit types self.now)) (around at.now (view types full.now)) }
     {
-        let externals = self.unit.externals.items();
-        !any_around(full, at, Doubt::Disturbs(externals, self.since.as_slice()))
-    }
-
-    /// Whether a tree has no store, and calls only functions that are quiet behind the first `count` external declarations.
-    pub fn is_quiet_behind(&self, count: usize, tree: &Core) -> bool
-        ensures { (types : Table) → result ≡ is_quiet_with (is_one_of (quiet_functions (map (view_of_external types) (take count self.now.externals)))) (view types tree.now) }
-    {
-        !any_node(tree, Question::DisturbsSince(self.since.as_slice(), count))
+        !any_around(full, at, Doubt::Disturbs(self.since.as_slice()))
     }
 }
 
-/// One more external declaration, which has this number.
-fn enter(since: &mut Vec<Option<usize>>, external: &CoreExternal, at: usize) -> Result<(), Memory>
-    ensures { OnOk result (Enters since.old.items at external.now since.new.items) }
+/// Whether a tree of the unit has no store, and calls only functions whose whole body is one `return` of such a tree and which
+/// the unit defines before the external declaration in which the tree stands. [`QuietFunctions`] is for many trees of one unit.
+pub fn quiet(alloc: Global, unit: &CoreUnit, tree: &Core) -> Result<bool, Memory>
+    ensures { (types : Table) → IfOk result (λ answer. answer ≡ is_quiet (view_of_unit types unit.now) (view types tree.now)) }
 {
-    if let Some(function) = made_quiet(external, since.as_slice(), at) {
-        if !is_quiet_by(since.as_slice(), at, function) {
-            place(since, function, at)?;
+    let functions = QuietFunctions::of(alloc, unit)?;
+    Ok(functions.is_quiet(tree))
+}
+
+/// The later of two tokens.
+fn later(one: u32, other: u32) -> u32
+    ensures { result ≡ max one other }
+{
+    one.max(other)
+}
+
+/// One more external declaration; it and those before it end before the token.
+fn enter(since: &mut Vec<Option<u32>>, external: &CoreExternal, token: u32) -> Result<(), Memory>
+    ensures { OnOk result (Enters since.old.items token external.now since.new.items) }
+{
+    if let Some(function) = made_quiet(external, since.as_slice(), token) {
+        if !is_quiet_at(since.as_slice(), token, function) {
+            place(since, function, token)?;
         }
     }
     Ok(())
 }
 
-/// The function that an external declaration makes quiet, which has this number.
-fn made_quiet(external: &CoreExternal, since: &[Option<usize>], at: usize) -> Option<u32>
-    ensures { (types : Table) (d : ℕ) → joins (is_quiet_since since.now at) d (view_of_external types external.now).form ≡ is_this d result }
+/// The function that an external declaration makes quiet, where those that are so at the token are before it.
+fn made_quiet(external: &CoreExternal, since: &[Option<u32>], token: u32) -> Option<u32>
+    ensures { (types : Table) (d : ℕ) → joins (is_quiet_since since.now token) d (view_of_external types external.now).form ≡ is_this d result }
 {
     match &external.form {
         CoreExternalForm::Declaration(_) => None,
@@ -141,7 +123,7 @@ fn made_quiet(external: &CoreExternal, since: &[Option<usize>], at: usize) -> Op
             body,
         } => match returned(body) {
             Some(value) => {
-                if any_node(value, Question::DisturbsSince(since, at)) {
+                if any_node(value, Question::Disturbs(since, token)) {
                     None
                 } else {
                     Some(*function)
@@ -152,19 +134,19 @@ fn made_quiet(external: &CoreExternal, since: &[Option<usize>], at: usize) -> Op
     }
 }
 
-/// A function became quiet by the external declaration of this number.
-fn place(since: &mut Vec<Option<usize>>, function: u32, at: usize) -> Result<(), Memory>
-    ensures { OnOk result ((count d : ℕ) → is_quiet_since since.new.items count d ≡ (if function == d then nat_lt at count else is_quiet_since since.old.items count d)) }
+/// A function is quiet from the token on.
+fn place(since: &mut Vec<Option<u32>>, function: u32, from: u32) -> Result<(), Memory>
+    ensures { OnOk result ((token d : ℕ) → is_quiet_since since.new.items token d ≡ (if function == d then nat_le from token else is_quiet_since since.old.items token d)) }
 {
     let number = function as usize;
     grow(since, number + 1)?;
-    since[number] = Some(at);
+    since[number] = Some(from);
     Ok(())
 }
 
 /// The table goes at least to this length.
-fn grow(since: &mut Vec<Option<usize>>, least: usize) -> Result<(), Memory>
-    ensures same { OnOk result ((count d : ℕ) → is_quiet_since since.new.items count d ≡ is_quiet_since since.old.items count d) }
+fn grow(since: &mut Vec<Option<u32>>, least: usize) -> Result<(), Memory>
+    ensures same { OnOk result ((token d : ℕ) → is_quiet_since since.new.items token d ≡ is_quiet_since since.old.items token d) }
     ensures long { OnOk result (least ≤ vec_len since.new) }
 {
     while since.len() < least {

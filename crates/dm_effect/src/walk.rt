@@ -5,19 +5,17 @@ ghost use Rattle.std.specs.List.{list_any};
 ghost use Rattle.std.specs.Option.{option_copied, option_map};
 ghost use Rattle.dm_type.specs.Tables.{Table};
 ghost use Rattle.dm_tree.specs.Paths.{all_in};
-ghost use Rattle.dm_tree.specs.Views.{expressions_of_items, expressions_of_locals, if_there, view, view_of_external, view_of_local};
+ghost use Rattle.dm_tree.specs.Views.{expressions_of_items, expressions_of_locals, if_there, view, view_of_local};
 ghost use Rattle.dm_meaning.specs.Wholes.{view_of_initial};
 ghost use Rattle.dm_effect.specs.Parts.{parts_in};
 ghost use Rattle.dm_effect.specs.Questions.{answer, is_asked};
-ghost use Rattle.dm_effect.specs.Quiet.{is_one_of, quiet_functions};
-ghost use Rattle.dm_effect.specs.Walks.{joins};
 
 use crate::declarators::{defines, initialises};
 use crate::effect::{Effect, acts, addresses, effect_of, writes};
-use crate::functions::{is_quiet_by, returned};
+use crate::functions::is_quiet_at;
 use crate::parts::{Parts, parts_of};
 use crate::question::Question;
-use dm_tree::{Core, CoreExternal, CoreExternalForm, Form, Initial, Local};
+use dm_tree::{Core, Form, Initial, Local};
 
 /// Whether the answer is yes at some node of a tree. Goes down the left operands of commas in a loop, since a comma expression
 /// may have any number of parts.
@@ -134,7 +132,6 @@ fn any_initial(initials: &[Initial], question: Question) -> bool
 }
 
 /// The answer at a node.
-#[cycle(walk)]
 fn answers(node: &Core, question: Question) -> bool
     ensures { (types : Table) → result ≡ answer types question.entry (view types node.now) }
 {
@@ -144,53 +141,10 @@ fn answers(node: &Core, question: Question) -> bool
         Question::Addresses(object) => addresses(node, object),
         Question::Defines(object) => defines(node, object),
         Question::Initialises(object, token) => initialises(node, object, token),
-        Question::Disturbs(before) => match effect_of(node) {
+        Question::Disturbs(since, token) => match effect_of(node) {
             Effect::Nothing => false,
             Effect::Disturbs => true,
-            Effect::Calls(function) => !is_quiet_function(before, function),
+            Effect::Calls(function) => !is_quiet_at(since, token, function),
         },
-        Question::DisturbsSince(since, count) => match effect_of(node) {
-            Effect::Nothing => false,
-            Effect::Disturbs => true,
-            Effect::Calls(function) => !is_quiet_by(since, count, function),
-        },
-    }
-}
-
-/// Whether a function is quiet behind these external declarations.
-#[cycle(walk)]
-pub(crate) fn is_quiet_function(externals: &[CoreExternal], function: u32) -> bool
-    ensures { (types : Table) → result ≡ is_one_of (quiet_functions (map (view_of_external types) externals.now)) function }
-{
-    let mut left = externals;
-    while let Some((last, before)) = left.split_last() {
-        if defines_quietly(last, before, function) {
-            return true;
-        }
-        left = before;
-    }
-    false
-}
-
-/// Whether a declaration defines the function, and its body returns a tree alone that is quiet behind these others.
-#[cycle(walk)]
-fn defines_quietly(external: &CoreExternal, before: &[CoreExternal], function: u32) -> bool
-    ensures { (types : Table) → result ≡ joins (is_one_of (quiet_functions (map (view_of_external types) before.now))) function (view_of_external types external.now).form }
-{
-    match &external.form {
-        CoreExternalForm::Declaration(_) => false,
-        CoreExternalForm::Function {
-            function: number,
-            parameters: _,
-            body,
-        } => {
-            if *number != function {
-                return false;
-            }
-            match returned(body) {
-                Some(value) => !any_node(value, Question::Disturbs(before)),
-                None => false,
-            }
-        }
     }
 }

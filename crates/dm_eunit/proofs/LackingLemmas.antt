@@ -82,6 +82,18 @@ adds false old new name number set is once twice = record {
     turned-not true e = refl
     turned-not false e = absurd (cc)
 
+-- a name that isn't among others is among these once it is added
+pub known-now : (old new others : Scopes) (name : List ℕ) → ((other : List ℕ) → has new other ≡ (has old other || (bytes_eq name other && not (has others other)))) → (has new name || has others name) ≡ true
+known-now old new others name added =
+    ap (λ test. test || has others name) (added name)
+    ∙ ap (λ test. (has old name || (test && not (has others name))) || has others name) ((bytes_eq-Decides name name).1 refl)
+    ∙ go (has old name) (has others name)
+  where
+    go : (x z : Bool) → ((x || not z) || z) ≡ true
+    go true z = refl
+    go false true = refl
+    go false false = refl
+
 -- ---- all names in the tokens
 
 first-name : (e s n : Bool) → ((false || (e && n)) || (s && n)) ≡ ((e || s) && n)

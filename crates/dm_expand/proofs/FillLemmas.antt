@@ -14,7 +14,7 @@ use Rattle.dm_expand.specs.Pastes.{Site, token, placemarker, operator, made}
 use Rattle.std.specs.FinSet as set
 use Rattle.dm_token.specs.declared.token.PpToken.{PpToken}
 use Rattle.dm_token.specs.declared.token.PpKind.TheVariants.{Literal}
-use Rattle.dm_expand.specs.Steps.{Progress, ◌>>=◌, take_argument}
+use Rattle.dm_expand.specs.Steps.{Progress, take_argument}
 use Rattle.dm_macro.specs.Bodies.{plain, hash, beside, paste}
 use Rattle.dm_expand.specs.Strings.{quoted}
 use Rattle.dm_expand.specs.Substitution.{Expander, operands, filled, body_item, argument_for, argument_item, placed}

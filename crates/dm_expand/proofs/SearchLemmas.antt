@@ -5,6 +5,7 @@ use Rattle.dm_token.specs.declared.expansion.Mark.{Mark}
 use Rattle.dm_macro.proofs.BodyLemmas.{next_is}
 use Rattle.dm_expand.specs.Items.{Item}
 use Rattle.dm_expand.specs.Trails.{come_otherwise, begins_with}
+use Rattle.dm_expand.proofs.TrailLemmas.{begins-nothing}
 
 pub found_at : {A : Type 0} (whole : List A → Bool) (test : A → Bool) (items : List A) (i : ℕ) (item : A) → ((others : List A) → whole (item ∷ others) ≡ (test item || whole others))
     → i < length items → item ≡ get_or items i item → whole (drop i items) ≡ whole items → true ≡ test item → true ≡ whole items
@@ -51,6 +52,11 @@ otherwise-append name (x ∷ xs) ys =
 
 otherwise-passed : (name : List Mark) (item : Item) (others : List Item) → true ≡ begins_with name item.trail → come_otherwise name (item ∷ others) ≡ come_otherwise name others
 otherwise-passed name item others begins = otherwise-step name item others ∙ ap (λ b. not b || come_otherwise name others) (sym begins)
+
+-- each token comes by the way of a name without marks
+pub otherwise-no_way : (name : List Mark) (items : List Item) → length name ≡ 0 → false ≡ come_otherwise name items
+otherwise-no_way name [] none = sym (otherwise-nothing name)
+otherwise-no_way name (item ∷ items) none = otherwise-no_way name items none ∙ sym (otherwise-passed name item items (begins-nothing name item.trail none))
 
 -- whether some token of an invocation came otherwise: its `(`, one inside, or its `)`
 pub foreign-opening : (name : List Mark) (opening closing : Item) (inside : List Item) → false ≡ begins_with name opening.trail → true ≡ come_otherwise name (opening ∷ (inside ++ closing ∷ []))

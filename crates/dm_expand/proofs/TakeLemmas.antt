@@ -105,6 +105,13 @@ along-grown outer inner (one ∷ others) =
     ends : (b c : Bool) → (one.taken || (b || (c || false))) ≡ ((one.taken || (c || false)) || b)
     ends b c = ap (λ (d : Bool). one.taken || (b || d)) (or_false c) ∙ regroup one.taken b c
 
+pub along-behind : (front behind : List Mark) (made : List Expansion) → map (taken_along (front ++ behind)) made ≡ map (taken_along behind) (map (taken_along front) made)
+along-behind front behind [] = refl
+along-behind front behind (one ∷ others) =
+    ap (λ (b : Bool). record one { taken = one.taken || b } ∷ map (taken_along (front ++ behind)) others) (list_any-append (marks_instance one.instance) front behind)
+    ∙ ap (λ (b : Bool). record one { taken = b } ∷ map (taken_along (front ++ behind)) others) (or_assoc one.taken (list_any (marks_instance one.instance) front) (list_any (marks_instance one.instance) behind))
+    ∙ ap (λ (xs : List Expansion). taken_along behind (taken_along front one) ∷ xs) (along-behind front behind others)
+
 -- TOKENS
 
 pub taken-more : (item : Item) (items : List Item) (made : List Expansion) → map (taken_by (item ∷ items)) made ≡ map (taken_by items) (map (taken_along item.trail) made)

@@ -1,11 +1,13 @@
 -- Trails: what they have in common, and walks from their innermost marks.
-use Rattle.std.proofs.Common.{inl, inr, ◌≡◌, ◌+◌, ◌-◌, ◌<◌, ◌≤◌, Bool, true, false, cond, List, [], ◌∷◌, ◌++◌, length, take, drop, refl, sym, ap, ◌∙◌, subst, arith, IsTrue, append_assoc, length-append, eqb, ◌↔◌}
-use Rattle.std.proofs.lemmas.List.{take_at, drop_at}
+use Rattle.std.proofs.Common.{inl, inr, ◌≡◌, ◌≤◌, Bool, true, List, [], ◌∷◌, ◌++◌, length, drop, refl, sym, ap, ◌∙◌, subst, arith, IsTrue, append_assoc, length-append, eqb, ◌↔◌}
+use Rattle.std.specs.Prelude.{slice_get}
+use Rattle.std.proofs.lemmas.List.{drop_at}
 use Rattle.std.proofs.lemmas.Bool.{cases_Bool, and_parts, and_from, eqb-true, eq-eqb, cond-true, cond-false, false≢true}
 use Rattle.dm_token.specs.declared.expansion.Mark.{Mark}
 use Rattle.dm_token.specs.declared.expansion.Mark.TheVariants.{Expansion, Argument}
 use Rattle.dm_token.specs.Prefixes.{IsPrefix, IsLongestCommonPrefix}
 use Rattle.dm_expand.specs.Trails.{same_mark, begins_with, past}
+use Rattle.dm_expand.specs.Ways.{way_of, LeadsTo}
 
 same_mark-true : (a b : Mark) → same_mark a b ≡ true → a ≡ b
 unfolding same_mark
@@ -29,6 +31,15 @@ unfolding past
 past-front [] name trail = refl
 past-front (mark ∷ front) name trail = cond-true _ _ _ (same_mark-itself mark) ∙ past-front front name trail
 
+-- no mark more in common
+no-more : (front name trail : List Mark) (mark first : Mark) → ((shared : List Mark) → IsPrefix shared (front ++ mark ∷ name) → IsPrefix shared (front ++ first ∷ trail) → IsPrefix shared front) → same_mark mark first ≡ true → ⊥
+no-more front name trail mark first longest is =
+    let same : mark ≡ first = same_mark-true mark first is in
+    let mine : front ++ mark ∷ name ≡ (front ++ mark ∷ []) ++ name = sym (append_assoc front (mark ∷ []) name) in
+    let theirs : front ++ first ∷ trail ≡ (front ++ mark ∷ []) ++ trail = sym (append_assoc front (first ∷ []) trail) ∙ ap (λ m. (front ++ m ∷ []) ++ trail) (sym same) in
+    let longer : IsPrefix (front ++ mark ∷ []) front = longest (front ++ mark ∷ []) (name, mine) (trail, theirs) in
+    omega (arith, ap length longer.1, length-append (front ++ mark ∷ []) longer.0, length-append front (mark ∷ []))
+
 -- nothing more in common
 past-apart : (front name trail : List Mark) → ((shared : List Mark) → IsPrefix shared (front ++ name) → IsPrefix shared (front ++ trail) → IsPrefix shared front) → past name trail ≡ trail
 unfolding past
@@ -36,12 +47,7 @@ past-apart front [] trail longest = refl
 past-apart front (mark ∷ name) [] longest = refl
 past-apart front (mark ∷ name) (first ∷ trail) longest =
     elim (cases_Bool (same_mark mark first)) [
-      | inl is ↦
-          let same : mark ≡ first = same_mark-true mark first is in
-          let mine : front ++ mark ∷ name ≡ (front ++ mark ∷ []) ++ name = sym (append_assoc front (mark ∷ []) name) in
-          let theirs : front ++ first ∷ trail ≡ (front ++ mark ∷ []) ++ trail = sym (append_assoc front (first ∷ []) trail) ∙ ap (λ m. (front ++ m ∷ []) ++ trail) (sym same) in
-          let longer : IsPrefix (front ++ mark ∷ []) front = longest (front ++ mark ∷ []) (name, mine) (trail, theirs) in
-          absurd (omega (arith, ap length longer.1, length-append (front ++ mark ∷ []) longer.0, length-append front (mark ∷ [])))
+      | inl is ↦ absurd (no-more front name trail mark first longest is)
       | inr is ↦ cond-false _ _ _ is
     ]
 
@@ -77,10 +83,6 @@ unfolding begins_with
 begins-nothing [] trail none = refl
 begins-nothing (mark ∷ marks) trail none = absurd (omega arith)
 
-pub common-nothing : (left right : List Mark) → length left ≡ 0 → IsLongestCommonPrefix left right []
-common-nothing [] right none = (([], refl), (right, refl), λ shared mine theirs. mine)
-common-nothing (mark ∷ marks) right none = absurd (omega arith)
-
 -- a test that says whether a trail begins with another is the one of the definition
 pub begins-is : (name trail : List Mark) (b : Bool) → (IsTrue b ↔ IsPrefix name trail) → b ≡ begins_with name trail
 begins-is name trail b means =
@@ -101,53 +103,71 @@ IsWalk whole left passed = whole ≡ left ++ passed
 
 -- WAYS
 
-past-shorter : (name trail : List Mark) → length (past name trail) ≤ length trail
-unfolding past
-past-shorter [] trail = omega arith
-past-shorter (mark ∷ name) [] = omega arith
-past-shorter (mark ∷ name) (first ∷ trail) =
-    elim (same_mark mark first) as (λ b. length (cond b (past name trail) (first ∷ trail)) ≤ length (first ∷ trail)) [
-      | true ↦ let shorter = past-shorter name trail in omega (arith, shorter)
-      | false ↦ omega arith
-    ]
-
--- what is left of two trails that begin alike, where something of that is left
-abbrev pub Shares : List Mark → List Mark → List Mark → List Mark → Type 0
-Shares name known mine theirs = (kept : List Mark) × (past name (known ++ mine) ≡ kept ++ mine) × (past name (known ++ theirs) ≡ kept ++ theirs)
-
-past-shares : (name known mine theirs : List Mark) → length mine < length (past name (known ++ mine)) → Shares name known mine theirs
-unfolding past
-past-shares [] known mine theirs more = (known, refl, refl)
-past-shares (mark ∷ name) [] mine theirs more = let shorter = past-shorter (mark ∷ name) mine in absurd (omega (arith, more, shorter))
-past-shares (mark ∷ name) (first ∷ known) mine theirs more =
-    elim (same_mark mark first) as (λ b. length mine < length (cond b (past name (known ++ mine)) (first ∷ (known ++ mine)))
-    → (kept : List Mark) × (cond b (past name (known ++ mine)) (first ∷ (known ++ mine)) ≡ kept ++ mine) × (cond b (past name (known ++ theirs)) (first ∷ (known ++ theirs)) ≡ kept ++ theirs)) [
-      | true ↦ λ more. past-shares name known mine theirs more
-      | false ↦ λ more. (first ∷ known, refl, refl)
-    ] more
-
--- What a trail becomes begins like what became of another one, as far as both begin alike past what is the name's.
-pub led_front : (name base last became trail known : List Mark) → became ≡ base ++ past name last → IsLongestCommonPrefix last trail known → length last - length known < length became - length base
-    → take (length became - (length last - length known)) became ++ drop (length known) trail ≡ base ++ past name trail
-led_front name base last became trail known is alike longer =
-    let mine : List Mark = alike.0.0 in
-    let theirs : List Mark = alike.1.0 in
-    let behind : length last ≡ length known + length mine = ap length alike.0.1 ∙ length-append known mine in
-    let ahead : length became ≡ length base + length (past name (known ++ mine)) = ap length is ∙ length-append base (past name last) ∙ ap (λ x. length base + length (past name x)) alike.0.1 in
-    let shares : Shares name known mine theirs = past-shares name known mine theirs (omega (arith, behind, ahead, longer)) in
-    let kept : List Mark = shares.0 in
-    let front : became ≡ (base ++ kept) ++ mine = is ∙ ap (λ x. base ++ past name x) alike.0.1 ∙ ap (λ x. base ++ x) shares.1 ∙ sym (append_assoc base kept mine) in
-    let long : length became ≡ length (base ++ kept) + length mine = ap length front ∙ length-append (base ++ kept) mine in
-    let count : length (base ++ kept) ≡ length became - (length last - length known) = omega (arith, long, behind) in
-    ap (λ x. take (length became - (length last - length known)) x ++ drop (length known) trail) front
-    ∙ ap (λ x. x ++ drop (length known) trail) (take_at (base ++ kept) mine _ count)
-    ∙ ap (λ x. (base ++ kept) ++ drop (length known) x) alike.1.1
-    ∙ ap (λ x. (base ++ kept) ++ x) (drop_at known theirs (length known) refl)
-    ∙ append_assoc base kept theirs
-    ∙ ap (λ x. base ++ x) (sym shares.2 ∙ ap (past name) (sym alike.1.1))
-
 -- nothing is left of no marks
 pub past-nothing : (name : List Mark) → past name [] ≡ []
 unfolding past
 past-nothing [] = refl
 past-nothing (mark ∷ name) = refl
+
+-- nothing more in common, whatever stands behind
+past-behind : (front name trail behind : List Mark) → ((shared : List Mark) → IsPrefix shared (front ++ name) → IsPrefix shared (front ++ trail) → IsPrefix shared front) → (length trail ≡ 0 → length name ≡ 0)
+    → past name (trail ++ behind) ≡ trail ++ behind
+unfolding past
+past-behind front [] trail behind longest enough = refl
+past-behind front (mark ∷ name) [] behind longest enough = let none = enough refl in absurd (omega (arith, none))
+past-behind front (mark ∷ name) (first ∷ trail) behind longest enough =
+    elim (cases_Bool (same_mark mark first)) [
+      | inl is ↦ absurd (no-more front name trail mark first longest is)
+      | inr is ↦ cond-false _ _ _ is
+    ]
+
+-- what is left of marks that end behind what they have in common with the name's, or are no fewer than these
+past-more : (name outer common : List Mark) → IsLongestCommonPrefix name outer common → (length common ≡ length outer → length name ≤ length common) → (behind : List Mark) → past name (outer ++ behind) ≡ drop (length common) outer ++ behind
+past-more name outer common is enough behind =
+    let mine : name ≡ common ++ is.0.0 = is.0.1 in
+    let theirs : outer ≡ common ++ is.1.0 = is.1.1 in
+    let ends : length is.1.0 ≡ 0 → length is.0.0 ≡ 0 = λ none.
+    let fewer : length name ≤ length common = enough (omega (arith, none, ap length theirs, length-append common is.1.0)) in
+    omega (arith, fewer, ap length mine, length-append common is.0.0)
+    in
+    ap (λ x. past x (outer ++ behind)) mine
+    ∙ ap (λ x. past (common ++ is.0.0) (x ++ behind)) theirs
+    ∙ ap (λ x. past (common ++ is.0.0) x) (append_assoc common is.1.0 behind)
+    ∙ past-front common is.0.0 (is.1.0 ++ behind)
+    ∙ past-behind common is.0.0 is.1.0 behind (λ shared left right. is.2 shared (subst (IsPrefix shared) (sym mine) left) (subst (IsPrefix shared) (sym theirs) right)) ends
+    ∙ ap (λ x. x ++ behind) (sym (drop_at common is.1.0 (length common) refl))
+    ∙ ap (λ x. drop (length common) x ++ behind) (sym theirs)
+
+-- what becomes of trails in front of another one: the outermost loses what is the name's, and the base is put in front
+pub leads : (name base outer behind marks common rest became : List Mark) → IsLongestCommonPrefix name outer common → (length common ≡ length outer → length name ≤ length common)
+    → marks ≡ outer ++ behind → rest ≡ drop (length common) outer → became ≡ base ++ (rest ++ behind) → LeadsTo (way_of name base) marks became
+leads name base outer behind marks common rest became is enough split left made others =
+    ap (λ m. base ++ past name (m ++ others)) split
+    ∙ ap (λ m. base ++ past name m) (append_assoc outer behind others)
+    ∙ ap (λ m. base ++ m) (past-more name outer common is enough (behind ++ others))
+    ∙ ap (λ m. base ++ (m ++ (behind ++ others))) (sym left)
+    ∙ ap (λ m. base ++ m) (sym (append_assoc rest behind others))
+    ∙ sym (append_assoc base (rest ++ behind) others)
+    ∙ ap (λ m. m ++ others) (sym made)
+
+-- ENDS
+
+-- two lists with one mark more each
+pub same-outer : (outer other : List Mark) (mark last : Mark) → outer ++ mark ∷ [] ≡ other ++ last ∷ [] → outer ≡ other
+same-outer [] [] mark last is = refl
+same-outer [] (first ∷ other) mark last is = absurd (omega (arith, ap length is, length-append other (last ∷ [])))
+same-outer (first ∷ outer) [] mark last is = absurd (omega (arith, ap length is, length-append outer (mark ∷ [])))
+same-outer (first ∷ outer) (one ∷ other) mark last is =
+    let same : first ≡ one = cc in
+    let rest : outer ++ mark ∷ [] ≡ other ++ last ∷ [] = cc in
+    let inner : outer ≡ other = same-outer outer other mark last rest in
+    cc
+
+pub no-marks : (marks : List Mark) → length marks ≡ 0 → marks ≡ []
+no-marks [] none = refl
+no-marks (mark ∷ marks) none = absurd (omega (arith, none))
+
+-- the first mark is that of a beginning
+pub first-front : (front whole : List Mark) → IsPrefix front whole → (length front ≡ 0 → whole ≡ []) → slice_get front 0 ≡ slice_get whole 0
+first-front [] whole is all = ap (λ (marks : List Mark). slice_get marks 0) (sym (all refl))
+first-front (mark ∷ marks) whole is all = ap (λ (marks : List Mark). slice_get marks 0) (sym is.1)

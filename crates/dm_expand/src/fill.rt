@@ -12,10 +12,11 @@ ghost use Rattle.std.specs.FinSet as set;
 
 use crate::hidden::Hidden;
 use crate::item::{Item, copied};
-use crate::paste::{Site, make_token};
+use crate::paste::{Site, make_token, name_trail};
 use crate::progress::Progress;
 use crate::string::quoted;
-use crate::trails::{Way, grown};
+use crate::trails::Way;
+use dm_route::{Route, grown};
 use dm_token::{Mark, Memory, PpKind, PpToken};
 use std::alloc::Global;
 
@@ -38,7 +39,7 @@ pub fn body_item(alloc: Global, site: &Site, token: &PpToken) -> Result<Item, Me
     Ok(Item {
         pp: token.copy()?,
         hidden: Hidden::nothing(alloc),
-        trail: site.inside.copy()?,
+        trail: Route::of(site.inside.copy()?),
     })
 }
 
@@ -70,8 +71,7 @@ fn way_to(alloc: Global, site: &Site, parameter: u32, occurrence: u32) -> Result
         occurrence,
     };
     let base = grown(&site.inside, mark)?;
-    let name = &site.name;
-    let way = Way::new(alloc, &name.trail, base)?;
+    let way = Way::new(alloc, name_trail(site), base)?;
     Ok(way)
 }
 

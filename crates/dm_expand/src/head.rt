@@ -15,7 +15,7 @@ use crate::predefined::{may_be_predefined, replaced};
 use crate::progress::Progress;
 use crate::trails::{begins_with, come_otherwise};
 use dm_macro::{Body, MacroTable, is_identifier, is_left_parenthesis};
-use dm_token::{List, Memory, PpToken, Text};
+use dm_token::{List, Memory, PpToken, Text, Trail};
 use std::alloc::Global;
 use std::collections::VecDeque;
 
@@ -133,17 +133,39 @@ fn with_arguments<'a>(
 }
 
 // Whether some token of an invocation didn't come by the way that the name came.
-fn is_foreign(name: &Item, opening: &Item, enclosed: &Enclosed) -> bool
-    ensures { result ≡ trails.come_otherwise name.now.trail (opening.now ∷ (enclosed.now.inside ++ enclosed.now.closing ∷ [])) }
+fn is_foreign(
+    alloc: Global,
+    name: &Item,
+    opening: &Item,
+    enclosed: &Enclosed,
+) -> Result<bool, Memory>
+    ensures { IfOk result (λ foreign. foreign ≡ trails.come_otherwise name.now.trail (opening.now ∷ (enclosed.now.inside ++ enclosed.now.closing ∷ []))) }
 {
-    if !begins_with(&name.trail, &opening.trail) {
-        return true;
+    let way = name.trail.trail(alloc)?;
+    let foreign = comes_otherwise(alloc, &way, opening, enclosed)?;
+    Ok(foreign)
+}
+
+// Whether some token from a `(` to its `)` didn't come by this way.
+fn comes_otherwise(
+    alloc: Global,
+    way: &Trail,
+    opening: &Item,
+    enclosed: &Enclosed,
+) -> Result<bool, Memory>
+    ensures { IfOk result (λ foreign. foreign ≡ trails.come_otherwise way.now (opening.now ∷ (enclosed.now.inside ++ enclosed.now.closing ∷ []))) }
+{
+    let opens = begins_with(alloc, way, &opening.trail)?;
+    if !opens {
+        return Ok(true);
     }
-    if come_otherwise(&name.trail, enclosed.inside.items()) {
-        return true;
+    let other = come_otherwise(alloc, way, enclosed.inside.items())?;
+    if other {
+        return Ok(true);
     }
     let closing = &enclosed.closing;
-    !begins_with(&name.trail, &closing.trail)
+    let closes = begins_with(alloc, way, &closing.trail)?;
+    Ok(!closes)
 }
 
 // A function-like macro's name and a `(`, and what follows it.
@@ -163,7 +185,7 @@ fn enclosing<'a>(
     let Some(enclosed) = take_enclosed(alloc, rest)? else {
         return Ok(Head::Refuse);
     };
-    let foreign = is_foreign(&name, opening, &enclosed);
+    let foreign = is_foreign(alloc, &name, opening, &enclosed)?;
     let Enclosed { inside, closing } = enclosed;
     let Some(arguments) = arguments_of(alloc, found.body.definition, inside)? else {
         return Ok(Head::Refuse);

@@ -3,6 +3,7 @@ ghost use Rattle.dm_expand.specs.Expansion.{token_of as put_out};
 ghost use Rattle.dm_expand.specs.Items.{of_source as source_item, with_blank as blank_item};
 
 use crate::hidden::Hidden;
+use dm_route::{Joining, Route};
 use dm_token::{Memory, PpToken, Token, Trail};
 use std::alloc::Global;
 use std::marker::Model;
@@ -13,7 +14,7 @@ use std::marker::Model;
 pub struct Item {
     pub pp: PpToken,
     pub hidden: Hidden,
-    pub trail: Trail,
+    pub trail: Route,
 }
 
 impl Model for Item {
@@ -38,7 +39,7 @@ impl Item {
         Ok(Item {
             pp: token.copy()?,
             hidden: Hidden::nothing(alloc),
-            trail: Trail::empty(alloc),
+            trail: Route::of(Trail::empty(alloc)),
         })
     }
 
@@ -55,15 +56,16 @@ impl Item {
 
     /// The token as it is put out, without its hide set.
     #[tactic(auto, unfolding(crate::specs::Expansion::token_of))]
-    pub fn into_token(self) -> Token
-        ensures { result ≡ put_out self }
+    pub fn into_token(self, joining: &mut Joining) -> Result<Token, Memory>
+        ensures { IfOk result (λ token. token ≡ put_out self) }
     {
         let Item {
             pp,
             hidden: _,
             trail,
         } = self;
-        Token { pp, trail }
+        let trail = joining.join(&trail)?;
+        Ok(Token { pp, trail })
     }
 
     /// The token with a blank before it, or with none.

@@ -24,8 +24,8 @@ use crate::needs::{stay, take_argument};
 use crate::paste::{Pieces, Site};
 use crate::progress::Progress;
 use crate::substitute::{Whole, complete, fill_from, fill_whole};
-use crate::trails::grown;
 use dm_macro::Body;
+use dm_route::{Joining, grown};
 use dm_token::{List, Mark, Memory, Place, Refusal, Stop, Token, refusals};
 use std::alloc::Global;
 use std::collections::VecDeque;
@@ -82,6 +82,7 @@ fn put_before(tokens: Vec<Item>, rest: &mut VecDeque<Item>) -> Result<(), Memory
 // The expansion with this number for an invocation.
 #[tactic(auto, unfolding(crate::specs::Trails::body_trail))]
 fn site_of(
+    alloc: Global,
     definition: u32,
     instance: u32,
     name: Item,
@@ -93,7 +94,8 @@ fn site_of(
         definition,
         instance,
     };
-    let inside = grown(&name.trail, mark)?;
+    let way = name.trail.trail(alloc)?;
+    let inside = grown(&way, mark)?;
     Ok(Site {
         name,
         mark,
@@ -333,9 +335,11 @@ fn put_all(out: &mut Vec<Item>, put: &mut Vec<Token>) -> Result<(), Memory>
     ensures put { OnOk result (put.new.items ≡ put.old.items ++ map token_of out.old.items) }
     ensures nothing { OnOk result (out.new.items ≡ []) }
 {
-    let mut left = VecDeque::from(mem::replace(out, Vec::new(*put.allocator())));
+    let alloc = *put.allocator();
+    let mut joining = Joining::new(alloc);
+    let mut left = VecDeque::from(mem::replace(out, Vec::new(alloc)));
     'tokens: while let Some(item) = next_of(&mut left) {
-        put.push(item.into_token())?;
+        put.push(item.into_token(&mut joining)?)?;
     }
     *out = left.into_vec();
     Ok(())
@@ -431,7 +435,7 @@ fn replace<'a>(
     } = invocation;
     let instance = progress.next_instance();
     progress.begin(found.number, &name, foreign)?;
-    let site = site_of(found.number, instance, name, arguments)?;
+    let site = site_of(macros.alloc, found.number, instance, name, arguments)?;
     let filling = Filling {
         site,
         hidden,

@@ -6,6 +6,7 @@ use crate::arguments::next_of;
 use crate::hidden::Hidden;
 use crate::item::Item;
 use dm_lex::one_token;
+use dm_route::Route;
 use dm_token::{List, Mark, Memory, PpKind, PpToken, Refusal, Stop, Text, Trail, refusals};
 use std::alloc::Global;
 use std::collections::VecDeque;
@@ -100,6 +101,16 @@ impl Pieces {
     }
 }
 
+/// The trail of the macro's name.
+pub fn name_trail(site: &Site) -> &Trail
+    ensures { result.now ≡ site.now.name.trail }
+{
+    match site.inside.parent() {
+        None => &site.inside,
+        Some(outer) => outer,
+    }
+}
+
 // Adds tokens to pieces.
 fn add_tokens(tokens: Vec<Item>, to: &mut Vec<Piece>) -> Result<(), Memory>
     ensures { OnOk result (map piece_value to.new.items ≡ map piece_value to.old.items ++ map pastes.token tokens.items) }
@@ -132,7 +143,11 @@ pub fn make_token(
         blank_before: blank,
         line_first: false,
     };
-    Ok(Item { pp, hidden, trail })
+    Ok(Item {
+        pp,
+        hidden,
+        trail: Route::of(trail),
+    })
 }
 
 // A token that has a placemarker beside it.

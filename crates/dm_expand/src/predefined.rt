@@ -4,7 +4,7 @@ ghost use Rattle.dm_expand.specs.Predefined as predefined;
 
 use crate::item::Item;
 use crate::progress::Progress;
-use crate::trails::first_mark;
+use crate::trails::first_of;
 use dm_macro::is_word;
 use dm_token::{Mark, Memory, Place, PpKind, PpToken, Text};
 use std::alloc::Global;
@@ -14,7 +14,7 @@ use std::alloc::Global;
 fn root_of(progress: &Progress, item: &Item) -> Place
     ensures { result ≡ predefined.root_of progress.now.expansions item.now.trail item.now.pp.place }
 {
-    match first_mark(&item.trail) {
+    match first_of(&item.trail) {
         Some(
             Mark::Expansion {
                 definition: _,

@@ -5,7 +5,7 @@ ghost use Rattle.dm_expand.specs.Predefined.{name_of as place_of_name};
 ghost use Rattle.dm_expand.specs.Views.{StopsAs, IsWithin, AreNumberedSo, taken_along};
 
 use crate::item::Item;
-use crate::trails::innermost;
+use dm_route::{Route, innermost};
 use dm_token::{Expansion, Limit, MOST_WORK, Mark, Place, Stop, Trail, limit_numbers};
 use std::alloc::Global;
 use std::marker::Model;
@@ -82,7 +82,7 @@ impl Progress {
             definition,
             instance: self.instance,
             name: name.pp.place,
-            trail: name.trail.copy()?,
+            trail: name.trail.trail(*self.expansions.allocator())?,
             taken: false,
             foreign,
         };
@@ -133,8 +133,22 @@ fn take_in(expansions: &mut [Expansion], first: u32, argument: &[Item])
     ensures { expansions.new ≡ map (steps.taken_by argument.now) expansions.old }
 {
     for item in argument {
-        take_along(expansions, first, &item.trail);
+        take_on(expansions, first, &item.trail);
     }
+}
+
+// Marks those as taken whose marks a route has.
+fn take_on(expansions: &mut [Expansion], first: u32, route: &Route)
+    requires { AreNumberedSo first expansions.old }
+    ensures { expansions.new ≡ map (taken_along route.now) expansions.old }
+{
+    let (legs, own) = route.parts();
+    let mut left = legs;
+    'legs: while let Some((trail, behind)) = left.split() {
+        take_along(expansions, first, trail);
+        left = behind;
+    }
+    take_along(expansions, first, own);
 }
 
 // Marks those as taken whose marks a trail has.

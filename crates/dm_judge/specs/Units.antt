@@ -5,6 +5,7 @@ use Rattle.std.specs.Prelude.{◌≡◌, List, All, map}
 use Rattle.dm_tree.specs.TypeNumbers.{IsTypedUnit}
 use Rattle.dm_reading.specs.declared.reading.Reading.{Reading}
 use Rattle.dm_rules.specs.Indexes as indexes
+use Rattle.dm_rules.specs.Words.{AreMacros}
 use Rattle.dm_meanings.specs.declared.meanings.Meanings.{Meanings}
 use Rattle.dm_meanings.specs.First as meanings
 use Rattle.dm_judge.specs.declared.notes.Notes.{Notes}
@@ -27,3 +28,4 @@ pub record AreWhole (units : Units) : Type 0 where
   pub typed : AreTyped (readings_of units)
   pub meant : AreMeant (readings_of units) units.meanings.items
   pub noted : AreNoted (readings_of units) units.notes.items
+  pub defined : AreMacros units.macros (readings_of units)

@@ -1,6 +1,7 @@
 //! All rules, from the least on.
 
 ghost use Rattle.std.specs.Prelude.{◌≡◌, IfOk};
+ghost use Rattle.dm_rules.specs.Rules.{broken_parameter as unfit_in};
 ghost use Rattle.dm_meanings.specs.Captures.{broken_capture as captured_in};
 ghost use Rattle.dm_meanings.specs.Types.{broken_type as typed_otherwise_in};
 ghost use Rattle.dm_judge.specs.Rules as rules;
@@ -16,6 +17,19 @@ use dm_rules::{
 };
 use dm_token::{Definition, Memory, Place};
 use std::alloc::Global;
+
+/// The definition's place, where a parameter can't be one of a function.
+fn unfit_parameter(
+    alloc: Global,
+    definition: &Definition,
+    units: &Units,
+) -> Result<Option<Place>, Memory>
+    requires { AreWhole units.now }
+    ensures { IfOk result (λ place. place ≡ unfit_in definition.now (readings_of units.now)) }
+{
+    let place = broken_parameter(alloc, definition, &units.macros)?;
+    Ok(place)
+}
 
 /// Where the types of expansions differ first.
 fn other_type(
@@ -88,7 +102,7 @@ pub fn broken_from_5(
     if let Some(place) = broken_name(definition, indexes) {
         return Ok(Some((7, place)));
     }
-    if let Some(place) = broken_parameter(alloc, definition, indexes)? {
+    if let Some(place) = unfit_parameter(alloc, definition, units)? {
         return Ok(Some((8, place)));
     }
     broken_from_9(alloc, definition, units)

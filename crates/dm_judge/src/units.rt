@@ -7,7 +7,7 @@ ghost use Rattle.dm_judge.specs.Units.{AreMeant, AreNoted, AreTyped, AreWhole};
 use crate::notes::Notes;
 use dm_meanings::Meanings;
 use dm_reading::Reading;
-use dm_rules::Index;
+use dm_rules::{Index, Words};
 use dm_token::Memory;
 use std::alloc::Global;
 
@@ -17,6 +17,8 @@ pub struct Units<'u, 'r> {
     pub(crate) indexes: &'u [Index<'r>],
     pub(crate) meanings: Vec<Meanings<'u, 'r>>,
     pub(crate) notes: Vec<Notes<'r>>,
+    /// The names that some unit defines.
+    pub(crate) macros: Words,
 }
 
 /// The indexes of some readings, each gone through once.
@@ -63,10 +65,12 @@ impl<'u, 'r> Units<'u, 'r> {
     {
         let meanings = meanings_of(alloc, indexes)?;
         let notes = notes_of(alloc, indexes)?;
+        let macros = Words::of_macros(alloc, indexes)?;
         Ok(Units {
             indexes,
             meanings,
             notes,
+            macros,
         })
     }
 }

@@ -1,7 +1,7 @@
 -- The first of some things that passes a test, by its position.
 use Rattle.std.proofs.Common.{◌≡◌, ℕ, suc, ◌+◌, ◌-◌, ◌<◌, ◌≤◌, Bool, true, false, cond, List, [], ◌∷◌, find, length, drop, get_or, Option, Some, None, slice_get, refl, sym, ap, ◌∙◌, arith}
-use Rattle.std.specs.Prelude.{filter, is_some, ◌||◌}
-use Rattle.std.specs.List.{list_any, position_from}
+use Rattle.std.specs.Prelude.{filter}
+use Rattle.std.specs.List.{position_from}
 
 -- it stands at a position, which is counted from another one
 pub record IsFirst {A : Type 0} (test : A → Bool) (from : ℕ) (things : List A) (at : ℕ) : Type 0 where
@@ -63,13 +63,3 @@ none-there test from (thing ∷ things) is = by_test (test thing) refl (λ later
           found = ap (λ b. cond b (Some thing) (find test things)) e ∙ rest.found;
           filtered = ap (λ b. cond b (thing ∷ filter test things) (filter test things)) e ∙ rest.filtered;
         }
-
--- some of them passes where there is a first one
-pub some-passes : {A : Type 0} (test : A → Bool) (from : ℕ) (things : List A) → is_some (position_from test from things) ≡ list_any test things
-some-passes test from [] = refl
-some-passes test from (thing ∷ things) = by_test (test thing) (some-passes test (from + 1) things)
-  where
-    by_test : (b : Bool) → is_some (position_from test (from + 1) things) ≡ list_any test things
-        → is_some (cond b (Some from) (position_from test (from + 1) things)) ≡ (b || list_any test things)
-    by_test true behind = refl
-    by_test false behind = behind

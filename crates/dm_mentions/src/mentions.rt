@@ -4,12 +4,12 @@ ghost use Rattle.std.specs.Prelude.{◌≡◌, ℕ, List as Sequence, IfOk};
 ghost use Rattle.std.specs.List.{position_from};
 ghost use Rattle.std.specs.FinMap as finite;
 ghost use Rattle.dm_mentions.specs.Mentions as mentions;
-ghost use Rattle.dm_mentions.specs.Mentions.{is_definition, is_mention, is_use, AreChains};
+ghost use Rattle.dm_mentions.specs.Mentions.{is_mention, is_use, AreChains};
 ghost use Rattle.dm_mentions.specs.Tables.{AreTables};
 
 use crate::chains::{Chains, chained};
 use crate::events::{Event, events};
-use crate::places::{first_definitions, first_uses, identifiers};
+use crate::places::{first_uses, identifiers};
 use crate::tables::Tables;
 use dm_name_map::NameMap;
 use dm_runs::is_at;
@@ -22,12 +22,10 @@ pub struct Mentions<'a> {
     pub pp: &'a UnitTokens,
     identifiers: NameMap,
     uses: NameMap,
-    definitions: NameMap,
     events: Vec<Event>,
     chains: Chains,
     ghost finds_identifiers: { (name : Sequence ℕ) → finite.get identifiers name ≡ position_from (is_mention name) 0 pp.now.tokens },
     ghost finds_uses: { (name : Sequence ℕ) → finite.get uses name ≡ position_from (is_use name) 0 pp.now.directive_uses },
-    ghost finds_definitions: { (name : Sequence ℕ) → finite.get definitions name ≡ position_from (is_definition name) 0 pp.now.read },
     ghost has_events: { events.items ≡ mentions.events pp.now },
     ghost has_chains: { AreChains pp.now 0 events.items chains.first chains.next.items },
 }
@@ -40,14 +38,12 @@ impl<'a> Mentions<'a> {
     {
         let identifiers = identifiers(alloc, pp.tokens.items())?;
         let uses = first_uses(alloc, pp.directive_uses.items())?;
-        let definitions = first_definitions(alloc, pp.read.items())?;
         let events = events(alloc, pp)?;
         let chains = chained(alloc, pp, &events)?;
         Ok(Mentions {
             pp,
             identifiers,
             uses,
-            definitions,
             events,
             chains,
         })
@@ -62,7 +58,6 @@ impl<'a> Mentions<'a> {
             pp,
             identifiers: tables.identifiers,
             uses: tables.uses,
-            definitions: tables.definitions,
             events: tables.events,
             chains: tables.chains,
         }
@@ -75,7 +70,6 @@ impl<'a> Mentions<'a> {
         Tables {
             identifiers: self.identifiers,
             uses: self.uses,
-            definitions: self.definitions,
             events: self.events,
             chains: self.chains,
         }
@@ -95,13 +89,6 @@ impl<'a> Mentions<'a> {
     {
         let at = self.uses.get(name)?;
         Some(self.pp.directive_uses.items()[at as usize].place)
-    }
-
-    /// Whether the unit reads a definition of the name.
-    pub fn defines(&self, name: &Text) -> bool
-        ensures { result ≡ mentions.defines self.now.pp.now name.now }
-    {
-        self.definitions.get(name).is_some()
     }
 
     /// The first event of the name that isn't the first reading of the definition whose `#` is this byte of a file.

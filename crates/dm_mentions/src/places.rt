@@ -3,11 +3,11 @@
 ghost use Rattle.std.specs.Prelude.{◌≡◌, ℕ, List as Sequence, IfOk};
 ghost use Rattle.std.specs.List.{position_from};
 ghost use Rattle.std.specs.FinMap as finite;
-ghost use Rattle.dm_mentions.specs.Mentions.{is_definition, is_mention, is_use};
+ghost use Rattle.dm_mentions.specs.Mentions.{is_mention, is_use};
 
 use dm_macro::is_identifier;
 use dm_name_map::NameMap;
-use dm_token::{Memory, Read, Token, Use};
+use dm_token::{Memory, Token, Use};
 use std::alloc::Global;
 
 /// The position of the first token that is an identifier, for each identifier. More than 4,294,967,295 tokens count as
@@ -41,23 +41,6 @@ pub(crate) fn first_uses(alloc: Global, uses: &[Use]) -> Result<NameMap, Memory>
     let mut left = uses;
     while let Some((last, before)) = left.split_last() {
         found.insert(last.name.copy()?, before.len() as u32)?;
-        left = before;
-    }
-    Ok(found)
-}
-
-/// The position of the first definition of a name, for each name that is defined. More than 4,294,967,295 definitions
-/// count as want of memory.
-pub(crate) fn first_definitions(alloc: Global, read: &[Read]) -> Result<NameMap, Memory>
-    ensures { IfOk result (λ found. (name : Sequence ℕ) → finite.get found name ≡ position_from (is_definition name) 0 read.now) }
-{
-    if read.len() > u32::MAX as usize {
-        return Err(Memory);
-    }
-    let mut found = NameMap::new(alloc);
-    let mut left = read;
-    while let Some((last, before)) = left.split_last() {
-        found.insert(last.definition.name.copy()?, before.len() as u32)?;
         left = before;
     }
     Ok(found)

@@ -9,7 +9,6 @@ use dm_name_map::NameMap;
 pub struct Tables {
     pub(crate) identifiers: NameMap,
     pub(crate) uses: NameMap,
-    pub(crate) definitions: NameMap,
     pub(crate) events: Vec<Event>,
     pub(crate) chains: Chains,
 }

@@ -15,8 +15,8 @@ use Rattle.dm_edit.specs.declared.plan.Fate.TheVariants.{Kept, Rewritten}
 use Rattle.dm_edit.specs.Cuts.{BeginsVisibly, LiesIn}
 use Rattle.dm_edit.specs.Edits.{IsEdited}
 use Rattle.dm_edit.proofs.CutLemmas.{joined-body, through_body-directive}
-use Rattle.dm_project.specs.Again.{reader_count}
-use Rattle.dm_project.specs.Leaves.{StaysKnown}
+use Rattle.dm_readings.specs.Again.{reader_count}
+use Rattle.dm_readings.specs.Leaves.{StaysKnown}
 use Rattle.dm_subjects.specs.declared.subject.Subject.{Subject}
 use Rattle.dm_subjects.specs.Subjects.{bytes_at}
 use Rattle.dm_planning.specs.Judging.{Project, EndsBy, Edits, JudgesAll, file_of, reread_rule, restored}

@@ -10,7 +10,7 @@ use Rattle.dm_reading.specs.declared.reading.Reading.{Reading}
 use Rattle.dm_edit.specs.declared.change.Change.{Change}
 use Rattle.dm_edit.specs.declared.plan.Entry.{Entry}
 use Rattle.dm_edit.specs.declared.plan.Fate.TheVariants.{Rewritten, Kept}
-use Rattle.dm_project.specs.Again.{put_in, reader_count}
+use Rattle.dm_readings.specs.Again.{put_in, reader_count}
 use Rattle.dm_subjects.specs.Subjects.{bytes_at}
 use Rattle.dm_subjects.specs.declared.subject.Subject.{Subject}
 use Rattle.dm_planning.specs.Judging.{CanBeEdited, Edits, EndsBy, Project, Rereads, entry_with, file_of, reread_rule}
@@ -77,4 +77,4 @@ module _ (told : Option Files) (units : List Source) (old held known new : Loade
 pub judged-next : (told : Option Files) (units : List Source) (first now after : Project) (subjects : List Subject) (entries : List Entry) (change : Change) (entry : Entry) → HasJudged told units first subjects entries now
     → IsNext now.loaded now.readings subjects entries (Some change) → Edits told units now change entry after → HasJudged told units first subjects (entries ++ entry ∷ []) after
 judged-next told units first now after subjects entries change entry judged next edits =
-    judged-more told units first now after subjects entries next.1 entry judged next.0 next.2 (judges-change told units now after next.1 change entry next.3 edits)
+    judged-more told units first now after subjects entries next.1 entry judged next.0 next.2 (judges-change told units now after next.1 next.3 change entry next.4 next.5 edits)

@@ -2,6 +2,7 @@
 use Rattle.std.proofs.Common.{◌≡◌, ℕ, suc, ◌+◌, ◌-◌, ◌<◌, List, [], ◌∷◌, ◌++◌, length, drop, get_or, set, reverse, map, All, Option, Some, None, IfSome, is_some, unwrap_or, refl, sym, ap, ◌∙◌, subst, arith, length-append}
 use Rattle.std.proofs.lemmas.List.Elements.{All-nil, All-cons, All-head, All-tail}
 use Rattle.std.proofs.lemmas.List.{at_drop_more, at_drop_all, reverse-append}
+use Rattle.dm_token.specs.declared.expansion.Definition.{Definition}
 use Rattle.dm_token.specs.declared.place.Place.{Place}
 use Rattle.dm_token.specs.declared.unit.Unit.{Unit as Source}
 use Rattle.dm_io.specs.Files.{Files}
@@ -11,11 +12,13 @@ use Rattle.dm_edit.specs.declared.plan.Entry.{Entry}
 use Rattle.dm_edit.specs.declared.plan.Fate.TheVariants.{Kept}
 use Rattle.dm_judge.specs.declared.proposal.Proposal.TheVariants as proposal
 use Rattle.dm_judge.specs.Proposals.{proposed}
-use Rattle.dm_project.specs.Again.{AreReaders, put_in, reads}
-use Rattle.dm_project.specs.Units.{IsTyped}
+use Rattle.dm_readings.specs.Again.{AreReaders, put_in, reads}
+use Rattle.dm_readings.specs.Units.{IsTyped}
+use Rattle.dm_rules.specs.declared.tables.Tables.{Tables}
+use Rattle.dm_subjects.specs.Tables.{AreKnown, AreNew}
 use Rattle.dm_subjects.specs.declared.subject.Subject.{Subject}
-use Rattle.dm_planning.specs.Judging.{Edits, Judges, JudgesAll, Project, definition_in, entry_with}
-use Rattle.dm_planning.specs.Steps.{HasJudged, IsLastLeft}
+use Rattle.dm_planning.specs.Judging.{Edits, Judges, JudgesAll, JudgesFound, Project, entry_with, found_in, reread_rule}
+use Rattle.dm_planning.specs.Steps.{HasJudged, IsLastLeft, items_with}
 
 -- ---- which definition is next
 
@@ -59,41 +62,47 @@ judged-all told units first now subjects entries judged all =
     let none : length subjects - length entries ≡ 0 = omega (arith, all) in
     subst (λ n. JudgesAll told units first (drop n subjects) (reverse entries) now) none judged.judged
 
--- a definition that breaks a rule
-pub judges-broken : (told : Option Files) (units : List Source) (now : Project) (subject : Subject) (rule : ℕ) (place : Place) (entry : Entry)
-    → proposed now.readings (definition_in now subject) ≡ Some (proposal.Broken rule place) → entry ≡ entry_with (definition_in now subject) (Kept rule place) → Judges told units now subject entry now
-judges-broken told units now subject rule place entry is kept = (proposal.Broken rule place, is, (kept, refl))
+-- a definition that no unit reads
+pub judges-unread : (told : Option Files) (units : List Source) (now : Project) (subject : Subject) (entry : Entry) → found_in now subject ≡ None
+    → entry ≡ entry_with subject.definition (Kept reread_rule subject.definition.place) → Judges told units now subject entry now
+judges-unread told units now subject entry found kept =
+    subst (λ (one : Option Definition). JudgesFound told units now subject one entry now) (sym found) (kept, refl)
+
+-- one that breaks a rule
+pub judges-broken : (told : Option Files) (units : List Source) (now : Project) (subject : Subject) (definition : Definition) (rule : ℕ) (place : Place) (entry : Entry) → found_in now subject ≡ Some definition
+    → proposed now.readings definition ≡ Some (proposal.Broken rule place) → entry ≡ entry_with definition (Kept rule place) → Judges told units now subject entry now
+judges-broken told units now subject definition rule place entry found is kept =
+    subst (λ (one : Option Definition). JudgesFound told units now subject one entry now) (sym found) (proposal.Broken rule place, is, (kept, refl))
 
 -- one that is edited
-pub judges-change : (told : Option Files) (units : List Source) (now after : Project) (subject : Subject) (change : Change) (entry : Entry)
-    → proposed now.readings (definition_in now subject) ≡ Some (proposal.Change change) → Edits told units now change entry after → Judges told units now subject entry after
-judges-change told units now after subject change entry is edits = (proposal.Change change, is, edits)
+pub judges-change : (told : Option Files) (units : List Source) (now after : Project) (subject : Subject) (definition : Definition) (change : Change) (entry : Entry) → found_in now subject ≡ Some definition
+    → proposed now.readings definition ≡ Some (proposal.Change change) → Edits told units now change entry after → Judges told units now subject entry after
+judges-change told units now after subject definition change entry found is edits =
+    subst (λ (one : Option Definition). JudgesFound told units now subject one entry after) (sym found) (proposal.Change change, is, edits)
 
 -- ---- the readings that are put in
 
--- the last reading put in before the others
-pub put-last : (kept : List Reading) (front : List (Option Reading)) (new : Reading) → length front < length kept
-    → put_in (set kept (length front) new) front ≡ put_in kept (front ++ Some new ∷ [])
-put-last [] front new less = absurd (omega (arith, less))
-put-last (reading ∷ kept) [] new less = by kept
-  where
-    by : (rest : List Reading) → ◌≡◌ {A = List Reading} (new ∷ rest) (new ∷ put_in rest [])
-    by [] = refl
-    by (other ∷ rest) = refl
-put-last (reading ∷ kept) (one ∷ front) new less = ap (λ rest. unwrap_or one reading ∷ rest) (put-last kept front new (omega (arith, less)))
+pub put-empty : {A : Type 0} (items : List A) → items_with items [] ≡ items
+put-empty [] = refl
+put-empty (item ∷ items) = refl
 
-put-nothing : (kept : List Reading) → put_in kept [] ≡ kept
-put-nothing [] = refl
-put-nothing (reading ∷ kept) = refl
+-- the last item put in before the others
+pub put-last : {A : Type 0} (items : List A) (front : List (Option A)) (new : A) → length front < length items
+    → items_with (set items (length front) new) front ≡ items_with items (front ++ Some new ∷ [])
+put-last [] front new less = absurd (omega (arith, less))
+put-last (item ∷ items) [] new less = ap (λ rest. new ∷ rest) (sym (put-empty items))
+put-last (item ∷ items) (one ∷ front) new less = ap (λ rest. unwrap_or one item ∷ rest) (put-last items front new (omega (arith, less)))
 
 -- where there is no new one last
-pub put-none : (kept : List Reading) (front : List (Option Reading)) → put_in kept front ≡ put_in kept (front ++ None ∷ [])
+pub put-none : {A : Type 0} (items : List A) (front : List (Option A)) → items_with items front ≡ items_with items (front ++ None ∷ [])
 put-none [] front = refl
-put-none (reading ∷ kept) [] = ap (λ rest. reading ∷ rest) (sym (put-nothing kept))
-put-none (reading ∷ kept) (one ∷ front) = ap (λ rest. unwrap_or one reading ∷ rest) (put-none kept front)
+put-none (item ∷ items) [] = ap (λ rest. item ∷ rest) (sym (put-empty items))
+put-none (item ∷ items) (one ∷ front) = ap (λ rest. unwrap_or one item ∷ rest) (put-none items front)
 
-pub put-empty : (kept : List Reading) → put_in kept [] ≡ kept
-put-empty = put-nothing
+pub put-readings : (kept : List Reading) (news : List (Option Reading)) → items_with kept news ≡ put_in kept news
+put-readings [] news = refl
+put-readings (reading ∷ kept) [] = refl
+put-readings (reading ∷ kept) (one ∷ news) = ap (λ rest. unwrap_or one reading ∷ rest) (put-readings kept news)
 
 -- as many as before
 pub put-length : (kept : List Reading) (news : List (Option Reading)) → length (put_in kept news) ≡ length kept
@@ -120,3 +129,31 @@ new-typed (reading ∷ kept) (Some new ∷ news) same typed =
     All-cons HasTyped (Some new) news (All-head IsTyped new (put_in kept news) typed) (new-typed kept news (omega (arith, same)) (All-tail IsTyped new (put_in kept news) typed))
 new-typed (reading ∷ kept) (None ∷ news) same typed =
     All-cons HasTyped None news tt (new-typed kept news (omega (arith, same)) (All-tail IsTyped reading (put_in kept news) typed))
+
+-- ---- what is known of them
+
+pub known-length : (kept : List Reading) (known : List Tables) → AreKnown kept known → length known ≡ length kept
+known-length [] [] are = refl
+known-length [] (one ∷ known) are = absurd are
+known-length (reading ∷ kept) [] are = absurd are
+known-length (reading ∷ kept) (one ∷ known) are = ap suc (known-length kept known are.1)
+
+pub new-length : (news : List (Option Reading)) (tables : List (Option Tables)) → AreNew news tables → length tables ≡ length news
+new-length [] [] are = refl
+new-length [] (one ∷ tables) are = absurd are
+new-length (new ∷ news) [] are = absurd are
+new-length (new ∷ news) (one ∷ tables) are = ap suc (new-length news tables are.1)
+
+-- where what is known of new readings is put in
+pub known-put : (kept : List Reading) (known : List Tables) (news : List (Option Reading)) (tables : List (Option Tables)) → AreKnown kept known → AreNew news tables
+    → AreKnown (put_in kept news) (items_with known tables)
+known-put [] [] news tables are new = tt
+known-put [] (one ∷ known) news tables are new = absurd are
+known-put (reading ∷ kept) [] news tables are new = absurd are
+known-put (reading ∷ kept) (one ∷ known) [] [] are new = are
+known-put (reading ∷ kept) (one ∷ known) [] (other ∷ tables) are new = absurd new
+known-put (reading ∷ kept) (one ∷ known) (given ∷ news) [] are new = absurd new
+known-put (reading ∷ kept) (one ∷ known) (Some given ∷ news) (Some other ∷ tables) are new = (new.0, known-put kept known news tables are.1 new.1)
+known-put (reading ∷ kept) (one ∷ known) (Some given ∷ news) (None ∷ tables) are new = absurd new.0
+known-put (reading ∷ kept) (one ∷ known) (None ∷ news) (Some other ∷ tables) are new = absurd new.0
+known-put (reading ∷ kept) (one ∷ known) (None ∷ news) (None ∷ tables) are new = (are.0, known-put kept known news tables are.1 new.1)

@@ -10,7 +10,7 @@ use Rattle.dm_io.specs.Files.{Files}
 use Rattle.dm_search.specs.Loaded.{Loaded, held_at, is_held, with_bytes}
 use Rattle.dm_unit.specs.Loaders.{Grows, WasUnknown, most_names, stopped_at}
 use Rattle.dm_unit.specs.Views.{stop_of}
-use Rattle.dm_project.specs.Leaves.{AreThere, StaysKnown}
+use Rattle.dm_readings.specs.Leaves.{AreThere, StaysKnown}
 use Rattle.dm_planning.specs.Steps.{LeavesProject}
 
 -- ---- what is held

@@ -1,5 +1,5 @@
 -- The files of a plan: each is one of the folder, and their names differ.
-use Rattle.std.proofs.Common.{◌≡◌, ◌≢◌, ◌⊎◌, inl, inr, ℕ, zero, suc, ◌+◌, ◌<◌, ◌≤◌, Bool, true, false, ◌&&◌, ◌||◌, cond, List, [], ◌∷◌, length, map, nat_eq, All, Option, Result, Ok, Err, refl, sym, ap, ◌∙◌, subst, arith, bytes_eq, IsPermutation}
+use Rattle.std.proofs.Common.{◌≡◌, ◌≢◌, ◌⊎◌, inl, inr, ℕ, zero, suc, ◌+◌, ◌<◌, ◌≤◌, Bool, true, false, ◌&&◌, ◌||◌, cond, List, [], ◌∷◌, length, map, nat_eq, All, Option, Some, None, Result, Ok, Err, refl, sym, ap, ◌∙◌, subst, arith, bytes_eq, IsPermutation}
 use Rattle.std.specs.List.{AllByRecursion, IsDistinct, filter, range_with_len}
 use Rattle.std.proofs.lemmas.Bool.{false≢true}
 use Rattle.std.proofs.lemmas.List.Elements.{All-nil, All-cons, All-head, All-tail}
@@ -21,11 +21,11 @@ use Rattle.dm_edit.specs.declared.plan.Entry.{Entry}
 use Rattle.dm_edit.specs.Edits.{IsEdited}
 use Rattle.dm_judge.specs.declared.proposal.Proposal.{Proposal}
 use Rattle.dm_judge.specs.declared.proposal.Proposal.TheVariants as proposal
-use Rattle.dm_project.specs.Leaves.{AreThere, StaysKnown}
+use Rattle.dm_readings.specs.Leaves.{AreThere, StaysKnown}
 use Rattle.dm_subjects.specs.Files.{changed_file, edited_files, is_edited, is_rewritten}
 use Rattle.dm_subjects.specs.Subjects.{bytes_at}
 use Rattle.dm_subjects.specs.declared.subject.Subject.{Subject}
-use Rattle.dm_planning.specs.Judging.{Edits, EndsBy, HoldsEdited, JudgesAll, JudgesBy, Project, definition_in, file_of, restored}
+use Rattle.dm_planning.specs.Judging.{Edits, EndsBy, HoldsEdited, JudgesAll, JudgesBy, JudgesFound, Project, file_of, found_in, restored}
 use Rattle.dm_planning.proofs.EditLemmas.{held-where-lies}
 use Rattle.dm_planning.proofs.LeaveLemmas.{known-held, replaced-held}
 
@@ -88,6 +88,16 @@ module _ (told : Option Files) (units : List Source) where
       λ rewritten. absurd (false≢true (sym (ap (λ (one : Entry). is_rewritten one.outcome) judges.0) ∙ rewritten))
   judged-written before after definition (proposal.Change change) entry judges = written told units before after change entry judges
 
+  found-held : (before after : Project) (subject : Subject) (found : Option Definition) (entry : Entry) → JudgesFound told units before subject found entry after → (other : ℕ) → is_held before.loaded other ≡ true
+      → is_held after.loaded other ≡ true
+  found-held before after subject None entry judges other held = ap (λ (one : Project). is_held one.loaded other) judges.1 ∙ held
+  found-held before after subject (Some definition) entry judges other held = judged-held before after definition judges.0 entry judges.2 other held
+
+  found-written : (before after : Project) (subject : Subject) (found : Option Definition) (entry : Entry) → JudgesFound told units before subject found entry after → IsWritable after.loaded entry
+  found-written before after subject None entry judges =
+      λ rewritten. absurd (false≢true (sym (ap (λ (one : Entry). is_rewritten one.outcome) judges.0) ∙ rewritten))
+  found-written before after subject (Some definition) entry judges = judged-written before after definition judges.0 entry judges.2
+
   later-written : (old new : Loaded) → ((other : ℕ) → is_held old other ≡ true → is_held new other ≡ true) → (entries : List Entry) → All (IsWritable old) entries → All (IsWritable new) entries
   later-written old new held [] are = All-nil (IsWritable new)
   later-written old new held (entry ∷ entries) are =
@@ -104,8 +114,8 @@ module _ (told : Option Files) (units : List Source) where
       let one = judges.4 in
       subst (All (IsWritable last.loaded)) (sym judges.5)
       (All-cons (IsWritable last.loaded) entry others
-      (judged-written middle last (definition_in middle subject) one.0 entry one.2)
-      (later-written middle.loaded last.loaded (judged-held middle last (definition_in middle subject) one.0 entry one.2) others
+      (found-written middle last subject (found_in middle subject) entry one)
+      (later-written middle.loaded last.loaded (found-held middle last subject (found_in middle subject) entry one) others
       (all-written first middle subjects others judges.2)))
 
 -- ---- the files

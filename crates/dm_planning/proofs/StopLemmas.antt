@@ -9,7 +9,7 @@ use Rattle.dm_search.specs.Loaded.{Loaded}
 use Rattle.dm_search.specs.Loading.{StopsReplacing}
 use Rattle.dm_reading.specs.declared.reading.Reading.{Reading}
 use Rattle.dm_edit.specs.declared.plan.Plan.{Plan}
-use Rattle.dm_project.specs.Units.{ReadsProject, ending}
+use Rattle.dm_readings.specs.Units.{ReadsProject, ending}
 use Rattle.dm_planning.specs.Judging.{IsOfSource, Project}
 use Rattle.dm_planning.specs.Plans.{IsPlanned, ReadsFirst, StopsFirst}
 use Rattle.dm_planning.specs.Steps.{is_of_source, project_of}

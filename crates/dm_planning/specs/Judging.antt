@@ -2,7 +2,7 @@
 --     Edits told units before change entry after      the edit of a definition stands, or the definition stays
 --     Judges told units before subject entry after      what is judged of one definition, and the project then
 --     JudgesAll told units before subjects entries after      the same for all, from the last to the first
-use Rattle.std.specs.Prelude.{◌≡◌, ◌⊎◌, ℕ, ◌+◌, ◌≤◌, List, [], ◌∷◌, Option, Some, unwrap_or, Result, Ok, Err}
+use Rattle.std.specs.Prelude.{◌≡◌, ◌⊎◌, ℕ, ◌+◌, ◌≤◌, List, [], ◌∷◌, Option, Some, None, Result, Ok, Err}
 use Rattle.dm_token.specs.declared.stop.Stop.{Stop}
 use Rattle.dm_token.specs.declared.stop.Stop.TheVariants.{Memory, Refused, Limit, ReadFault}
 use Rattle.dm_token.specs.declared.expansion.Definition.{Definition}
@@ -20,8 +20,8 @@ use Rattle.dm_edit.specs.declared.plan.Fate.{Fate}
 use Rattle.dm_edit.specs.declared.plan.Fate.TheVariants.{Rewritten, Kept}
 use Rattle.dm_edit.specs.Cuts.{LiesIn}
 use Rattle.dm_edit.specs.Edits.{IsEdited}
-use Rattle.dm_project.specs.Again.{IsReadAgain, put_in, reader_count}
-use Rattle.dm_project.specs.Leaves.{IsNumbered, StaysKnown}
+use Rattle.dm_readings.specs.Again.{IsReadAgain, put_in, reader_count}
+use Rattle.dm_readings.specs.Leaves.{IsNumbered, StaysKnown}
 use Rattle.dm_judge.specs.declared.proposal.Proposal.{Proposal}
 use Rattle.dm_judge.specs.declared.proposal.Proposal.TheVariants as proposal
 use Rattle.dm_judge.specs.Proposals.{proposed}
@@ -47,9 +47,8 @@ entry_with definition fate = record { definition = definition; outcome = fate }
 abbrev pub reread_rule : ℕ
 reread_rule = 15
 
-abbrev pub IsKept : Change → Entry → Project → Project → Type 0
-IsKept change entry stands after =
-    (entry ≡ entry_with change.definition (Kept reread_rule change.definition.place)) × (after ≡ stands)
+abbrev pub IsKept : Definition → Entry → Project → Project → Type 0
+IsKept definition entry stands after = (entry ≡ entry_with definition (Kept reread_rule definition.place)) × (after ≡ stands)
 
 abbrev pub IsRewritten : Change → Entry → Project → Project → Type 0
 IsRewritten change entry stands after = (entry ≡ entry_with change.definition (Rewritten change.kind)) × (after ≡ stands)
@@ -87,15 +86,15 @@ restored change before known = record {
 
 -- The edit stands where all units are read within the limits, and are aligned.
 abbrev pub EndsBy : Change → Project → Result (List (Option Reading)) Stop → Loaded → Entry → Project → Type 0
-EndsBy change before (Err stop) known entry after = IsOfSource stop × IsKept change entry (restored change before known) after
+EndsBy change before (Err stop) known entry after = IsOfSource stop × IsKept change.definition entry (restored change before known) after
 EndsBy change before (Ok news) known entry after =
     (AreAllAligned change before.readings news × IsRewritten change entry (rewritten change before known news) after)
-    ⊎ ((¬ AreAllAligned change before.readings news) × IsKept change entry (restored change before known) after)
+    ⊎ ((¬ AreAllAligned change before.readings news) × IsKept change.definition entry (restored change before known) after)
 
 -- New bytes may be refused before any unit is read. Else each unit that reads the file is read again.
 abbrev pub HoldsEdited : Option Files → List Source → Project → Change → List ℕ → Entry → Project → Type 0
 HoldsEdited told units before change edited entry after =
-    ((stop : Stop) × IsOfSource stop × StopsReplacing (file_of change) edited stop × IsKept change entry before after)
+    ((stop : Stop) × IsOfSource stop × StopsReplacing (file_of change) edited stop × IsKept change.definition entry before after)
     ⊎ (IsReadable (file_of change) edited × (result : Result (List (Option Reading)) Stop) × (known : Loaded)
     × Rereads told (file_of change) units before.readings (with_bytes before.loaded (file_of change) edited) result known
     × EndsBy change before result known entry after)
@@ -107,18 +106,15 @@ CanBeEdited loaded definition =
 
 abbrev pub Edits : Option Files → List Source → Project → Change → Entry → Project → Type 0
 Edits told units before change entry after =
-    ((¬ CanBeEdited before.loaded change.definition) × IsKept change entry before after)
+    ((¬ CanBeEdited before.loaded change.definition) × IsKept change.definition entry before after)
     ⊎ ((edited : List ℕ) × (header_count ≤ file_of change) × IsEdited (bytes_at before.loaded (file_of change)) change edited
     × HoldsEdited told units before change edited entry after)
 
 -- ---- one definition
 
--- One that no unit reads any more is judged as it was.
-abbrev pub definition_over : Loaded → List Reading → Subject → Definition
-definition_over loaded readings subject = unwrap_or (definition_at loaded readings subject.key) subject.definition
-
-abbrev pub definition_in : Project → Subject → Definition
-definition_in project subject = definition_over project.loaded project.readings subject
+-- as the first unit that reads it has it
+abbrev pub found_in : Project → Subject → Option Definition
+found_in project subject = definition_at project.loaded project.readings subject.key
 
 -- One that breaks a rule stays. Another is edited at once.
 abbrev pub JudgesBy : Option Files → List Source → Project → Definition → Proposal → Entry → Project → Type 0
@@ -126,10 +122,14 @@ JudgesBy told units before definition (proposal.Broken rule place) entry after =
     (entry ≡ entry_with definition (Kept rule place)) × (after ≡ before)
 JudgesBy told units before definition (proposal.Change change) entry after = Edits told units before change entry after
 
+-- One that no unit reads any more stays too, as it was read first.
+abbrev pub JudgesFound : Option Files → List Source → Project → Subject → Option Definition → Entry → Project → Type 0
+JudgesFound told units before subject None entry after = IsKept subject.definition entry before after
+JudgesFound told units before subject (Some definition) entry after =
+    (answer : Proposal) × (proposed before.readings definition ≡ Some answer) × JudgesBy told units before definition answer entry after
+
 abbrev pub Judges : Option Files → List Source → Project → Subject → Entry → Project → Type 0
-Judges told units before subject entry after =
-    (answer : Proposal) × (proposed before.readings (definition_in before subject) ≡ Some answer)
-    × JudgesBy told units before (definition_in before subject) answer entry after
+Judges told units before subject entry after = JudgesFound told units before subject (found_in before subject) entry after
 
 -- ---- all of them
 

@@ -11,9 +11,9 @@ use Rattle.dm_io.specs.Files.{Files}
 use Rattle.dm_search.specs.Loaded.{Loaded}
 use Rattle.dm_edit.specs.declared.plan.Changed.{Changed}
 use Rattle.dm_edit.specs.declared.plan.Plan.{Plan}
-use Rattle.dm_project.specs.Definitions.{definitions_in}
-use Rattle.dm_project.specs.Leaves.{IsNumbered}
-use Rattle.dm_project.specs.Units.{KeepsLimits, ReadsProject, ending}
+use Rattle.dm_readings.specs.Definitions.{definitions_in}
+use Rattle.dm_readings.specs.Leaves.{IsNumbered}
+use Rattle.dm_readings.specs.Units.{KeepsLimits, ReadsProject, ending}
 use Rattle.dm_subjects.specs.Files.{changed_file, edited_files}
 use Rattle.dm_subjects.specs.Subjects.{subject_of}
 use Rattle.dm_subjects.specs.declared.subject.Subject.{Subject}

@@ -3,11 +3,13 @@
 --     LeavesProject .. old new stop      what a step leaves of the folder and the loader
 --     Holds change old held new      the new bytes of a definition's file are held, or refused
 --     RereadsTo told units change kept old stands now new      the new readings stand for the old ones, or these stay
+--     items_with items news      new items in place of the old ones
 --     HasJudged told units first subjects entries now      the last definitions have outcomes, the last one first
 --     IsNext loaded readings subjects entries change      the last one without an outcome is to be edited, or there is none
-use Rattle.std.specs.Prelude.{◌≡◌, ◌≢◌, ℕ, suc, ◌-◌, ◌<◌, ◌≤◌, Bool, true, false, List, ◌∷◌, ◌++◌, length, drop, reverse, All, Option, Some, None, Result, Ok, Err}
+use Rattle.std.specs.Prelude.{◌≡◌, ◌≢◌, ℕ, suc, ◌-◌, ◌<◌, ◌≤◌, Bool, true, false, List, [], ◌∷◌, ◌++◌, length, drop, reverse, unwrap_or, All, Option, Some, None, Result, Ok, Err}
 use Rattle.dm_token.specs.declared.stop.Stop.{Stop}
 use Rattle.dm_token.specs.declared.stop.Stop.TheVariants.{Memory, Refused, Limit, ReadFault}
+use Rattle.dm_token.specs.declared.expansion.Definition.{Definition}
 use Rattle.dm_token.specs.declared.unit.Unit.{Unit as Source}
 use Rattle.dm_io.specs.Faults.{Rose}
 use Rattle.dm_io.specs.Files.{Files}
@@ -21,13 +23,13 @@ use Rattle.dm_edit.specs.declared.plan.Entry.{Entry}
 use Rattle.dm_edit.specs.Edits.{IsEdited}
 use Rattle.dm_judge.specs.declared.proposal.Proposal.TheVariants as proposal
 use Rattle.dm_judge.specs.Proposals.{proposed}
-use Rattle.dm_project.specs.Again.{put_in}
-use Rattle.dm_project.specs.Leaves.{AreThere}
-use Rattle.dm_project.specs.Units.{IsTyped, KeepsLimits}
+use Rattle.dm_readings.specs.Again.{put_in}
+use Rattle.dm_readings.specs.Leaves.{AreThere}
+use Rattle.dm_readings.specs.Units.{IsTyped, KeepsLimits}
 use Rattle.dm_subjects.specs.Alignments.{AreAllAligned}
-use Rattle.dm_subjects.specs.Subjects.{bytes_at}
+use Rattle.dm_subjects.specs.Subjects.{bytes_at, definition_at}
 use Rattle.dm_subjects.specs.declared.subject.Subject.{Subject}
-use Rattle.dm_planning.specs.Judging.{IsOfSource, JudgesAll, Project, Rereads, definition_over, file_of}
+use Rattle.dm_planning.specs.Judging.{IsOfSource, JudgesAll, Project, Rereads, file_of}
 
 abbrev pub project_of : Loaded → List Reading → ℕ → Project
 project_of loaded readings count = record { loaded = loaded; readings = readings; count = count }
@@ -80,6 +82,11 @@ abbrev pub RereadsTo : Option Files → List Source → Change → List Reading 
 RereadsTo told units change kept old stands now new =
     (result : Result (List (Option Reading)) Stop) × Rereads told (file_of change) units kept old result new × Stands change kept result stands now
 
+abbrev pub items_with : {A : Type 0} → List A → List (Option A) → List A
+items_with [] news = []
+items_with (item ∷ items) [] = item ∷ items
+items_with (item ∷ items) (new ∷ news) = unwrap_or new item ∷ items_with items news
+
 -- ---- all definitions
 
 -- As many of the last definitions have outcomes as there are entries.
@@ -96,4 +103,5 @@ abbrev pub IsNext : Loaded → List Reading → List Subject → List Entry → 
 IsNext loaded readings subjects entries None = length entries ≡ length subjects
 IsNext loaded readings subjects entries (Some change) =
     (length entries < length subjects) × (subject : Subject) × IsLastLeft subjects entries subject
-    × (proposed readings (definition_over loaded readings subject) ≡ Some (proposal.Change change))
+    × (definition : Definition) × (definition_at loaded readings subject.key ≡ Some definition)
+    × (proposed readings definition ≡ Some (proposal.Change change))

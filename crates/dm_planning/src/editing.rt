@@ -1,30 +1,33 @@
 //! The edit of a definition, which stands or is taken back.
 
-ghost use Rattle.std.specs.Prelude.{◌≡◌, ◌↔◌, ◌<◌, ◌≤◌, ◌+◌, All, IfOk, IfErr, IsTrue, OnOk, true, false, length};
+ghost use Rattle.std.specs.Prelude.{◌≡◌, ◌↔◌, ◌<◌, ◌≤◌, ◌+◌, Option as Maybe, All, IfNone, IfOk, IfErr, IfSome, IsTrue, OnOk, true, false, length};
 ghost use Rattle.dm_search.specs.Loaded.{is_held, with_bytes};
 ghost use Rattle.dm_search.specs.Readable.{IsReadable};
 ghost use Rattle.dm_unit.specs.Loaders.{most_names};
 ghost use Rattle.dm_unit.specs.Views.{stop_of};
-ghost use Rattle.dm_project.specs.Again.{put_in as readings_with, reader_count};
-ghost use Rattle.dm_project.specs.Units.{HasShortDefines};
+ghost use Rattle.dm_readings.specs.Again.{put_in as readings_with, reader_count};
+ghost use Rattle.dm_readings.specs.Units.{HasShortDefines, IsTyped};
+ghost use Rattle.dm_reading.specs.declared.reading.Reading.{Reading as Read};
+ghost use Rattle.dm_subjects.specs.Alignments.{AreAllAligned};
+ghost use Rattle.dm_subjects.specs.Tables.{AreKnown, AreNew};
 ghost use Rattle.dm_planning.specs.Judging.{CanBeEdited, Edits, entry_with, file_of, reread_rule};
-ghost use Rattle.dm_planning.specs.Steps.{AreGood, Holds, LeavesProject, RereadsTo, is_of_source as is_seen_of_source, project_of};
+ghost use Rattle.dm_planning.specs.Steps.{AreGood, Holds, LeavesProject, RereadsTo, is_of_source as is_seen_of_source, items_with, project_of};
 ghost use Rattle.dm_edit.specs.declared.plan.Fate.TheVariants.{Rewritten, Kept};
 
 use dm_edit::{Change, Entry, Fate, edit, lies_in};
 use dm_io::Folder;
-use dm_project::read_again;
-use dm_read::Steps;
+use dm_project::{Steps, read_again};
 use dm_reading::Reading;
+use dm_rules::Tables;
 use dm_search::{Loader, readable_bytes_are_not_refused};
-use dm_subjects::{are_all_aligned, bytes_at};
+use dm_subjects::{aligned_tables, bytes_at, indexes_with, tables_of};
 use dm_token::{Definition, HEADER_COUNT, List, Memory, Stop, Unit};
 use std::alloc::Global;
 use std::mem;
 use std::sync::ledger::Ledger;
 
 /// The rule that a definition breaks where its edit can't stand.
-const REREAD_RULE: u8 = 15;
+pub(crate) const REREAD_RULE: u8 = 15;
 
 /// Puts a declaration in place of a definition, and reads the units again that read its file. Where one isn't read within the limits, or
 /// isn't aligned, the old bytes are put back.
@@ -34,15 +37,18 @@ pub(crate) fn edit_one<F: Folder, L: Ledger>(
     loader: &mut Loader,
     units: &[Unit],
     kept: &mut List<Reading>,
+    known: &mut Vec<Tables>,
     change: Change,
     readings: &mut Steps<L>,
 ) -> Result<Entry, Stop>
     requires room { length loader.old.names < most_names }
     requires short { All HasShortDefines units.now }
     requires good { AreGood units.now kept.old }
+    requires known { AreKnown kept.old known.old.items }
     ensures edits { IfOk result (λ entry. Edits (F.files folder.old) units.now (project_of loader.old kept.old readings.old) change entry
         (project_of loader.new kept.new readings.new)) }
     ensures good { OnOk result (AreGood units.now kept.new) }
+    ensures known { OnOk result (AreKnown kept.new known.new.items) }
     ensures stops { IfErr result (λ stop. is_seen_of_source stop ≡ false) }
     ensures leaves { LeavesProject (F.files folder.old) (F.files folder.new) (F.room folder.old) (F.room folder.new) (F.faults folder.old) (F.faults folder.new) loader.old loader.new (stop_of result) }
 {
@@ -55,7 +61,7 @@ pub(crate) fn edit_one<F: Folder, L: Ledger>(
     if !hold_edited(alloc, loader, &change)? {
         return Ok(kept_entry(change));
     }
-    if read_edited(alloc, folder, loader, units, kept, &change, readings)? {
+    if read_edited(alloc, folder, loader, units, kept, known, &change, readings)? {
         return Ok(rewritten_entry(change));
     }
     put_back(loader, file, before)?;
@@ -92,26 +98,31 @@ fn read_edited<F: Folder, L: Ledger>(
     loader: &mut Loader,
     units: &[Unit],
     kept: &mut List<Reading>,
+    known: &mut Vec<Tables>,
     change: &Change,
     readings: &mut Steps<L>,
 ) -> Result<bool, Stop>
     requires room { length loader.old.names < most_names }
     requires short { All HasShortDefines units.now }
     requires good { AreGood units.now kept.old }
+    requires known { AreKnown kept.old known.old.items }
     ensures rereads { IfOk result (λ stands. RereadsTo (F.files folder.old) units.now change.now kept.old loader.old stands kept.new loader.new) }
     ensures counted { OnOk result (readings.new ≡ readings.old + reader_count (file_of change.now) kept.old) }
     ensures good { OnOk result (AreGood units.now kept.new) }
+    ensures known { OnOk result (AreKnown kept.new known.new.items) }
     ensures stops { IfErr result (λ stop. is_seen_of_source stop ≡ false) }
     ensures leaves { LeavesProject (F.files folder.old) (F.files folder.new) (F.room folder.old) (F.room folder.new) (F.faults folder.old) (F.faults folder.new) loader.old loader.new (stop_of result) }
 {
     let file = change.definition.place.file;
     match read_again(alloc, folder, loader, file, units, kept.items(), readings) {
         Ok(news) => {
-            let are_aligned = are_all_aligned(alloc, kept.items(), news.items(), change)?;
-            if are_aligned {
-                put_in(alloc, kept, news);
-            }
-            Ok(are_aligned)
+            let found = new_tables(alloc, kept.items(), known, news.items(), change)?;
+            let Some(tables) = found else {
+                return Ok(false);
+            };
+            put_over(known, tables);
+            put_in(alloc, kept, news);
+            Ok(true)
         }
         Err(stop) => {
             if is_of_source(&stop) {
@@ -130,18 +141,48 @@ fn is_of_source(stop: &Stop) -> bool
     matches!(stop, Stop::Refused(_) | Stop::Limit(_))
 }
 
+/// What indexes know of new readings, if each unit that has one is aligned with its old one. What is known of the old ones stays.
+fn new_tables(
+    alloc: Global,
+    kept: &[Reading],
+    known: &mut Vec<Tables>,
+    news: &[Option<Reading>],
+    change: &Change,
+) -> Result<Option<Vec<Option<Tables>>>, Memory>
+    requires typed { All IsTyped kept.now }
+    requires known { AreKnown kept.now known.old.items }
+    requires news { All (λ (new : Maybe Read). IfSome new IsTyped) news.now }
+    ensures aligned { IfOk result (λ found. IfSome found (λ _. AreAllAligned change.now kept.now news.now)) }
+    ensures tables { IfOk result (λ found. IfSome found (λ tables. AreNew news.now tables.items)) }
+    ensures differs { IfOk result (λ found. IfNone found (¬ AreAllAligned change.now kept.now news.now)) }
+    ensures known { OnOk result (AreKnown kept.now known.new.items) }
+{
+    let indexes = indexes_with(alloc, kept, mem::replace(known, Vec::new(alloc)))?;
+    let found = aligned_tables(alloc, indexes.as_slice(), news, change)?;
+    *known = tables_of(alloc, indexes)?;
+    Ok(found)
+}
+
+/// Puts new items in place of the old ones.
+fn put_over<T: Drop>(items: &mut Vec<T>, news: Vec<Option<T>>)
+    requires { length news.items ≤ length items.old.items }
+    ensures { items.new.items ≡ items_with items.old.items news.items }
+{
+    let mut left = news;
+    while let Some(new) = left.pop() {
+        if let Some(item) = new {
+            items[left.len()] = item;
+        }
+    }
+}
+
 /// Puts new readings in place of the old ones.
 fn put_in(alloc: Global, kept: &mut List<Reading>, news: List<Option<Reading>>)
     requires { length news ≤ length kept.old }
     ensures { kept.new ≡ readings_with kept.old news }
 {
     let mut readings = mem::replace(kept, List::new(alloc)).into_vec();
-    let mut left = news.into_vec();
-    while let Some(new) = left.pop() {
-        if let Some(reading) = new {
-            readings[left.len()] = reading;
-        }
-    }
+    put_over(&mut readings, news.into_vec());
     *kept = List::from_vec(readings);
 }
 

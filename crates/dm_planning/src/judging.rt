@@ -7,27 +7,30 @@ ghost use Rattle.dm_unit.specs.Loaders.{most_names};
 ghost use Rattle.dm_unit.specs.Views.{stop_of};
 ghost use Rattle.dm_judge.specs.Units.{AreTyped};
 ghost use Rattle.dm_rules.specs.Indexes.{readings_of};
-ghost use Rattle.dm_project.specs.Units.{HasShortDefines};
-ghost use Rattle.dm_planning.specs.Judging.{JudgesAll, Project, definition_over, entry_with};
+ghost use Rattle.dm_subjects.specs.Tables.{AreKnown};
+ghost use Rattle.dm_readings.specs.Units.{HasShortDefines};
+ghost use Rattle.dm_planning.specs.Judging.{JudgesAll, Project, entry_with, reread_rule};
 ghost use Rattle.dm_planning.specs.Steps.{AreGood, HasJudged, IsNext, LeavesProject, is_of_source, project_of};
 ghost use Rattle.dm_edit.specs.declared.plan.Fate.TheVariants.{Kept};
 
-use crate::editing::edit_one;
+use crate::editing::{REREAD_RULE, edit_one};
 use dm_edit::{Change, Entry, Fate};
 use dm_io::Folder;
 use dm_judge::{Proposal, Units, indexes_of, propose_in};
-use dm_read::Steps;
+use dm_project::Steps;
 use dm_reading::{Reading, copy_of_definition};
-use dm_rules::Index;
+use dm_rules::{Index, Tables};
 use dm_search::Loader;
-use dm_subjects::{Lines, Subject, definition_by};
+use dm_subjects::{Lines, Subject, definition_by, indexes_with, tables_of};
 use dm_token::{Definition, List, Memory, Place, Stop, Unit};
 use std::alloc::Global;
+use std::mem;
 use std::sync::ledger::Ledger;
 
 /// What becomes of each definition, in their order. The last is judged first, and each in the project as edited so far.
 ///
-/// What is looked up of the readings is made anew behind each edit, also of units that no edit changed. A definition is found by its line.
+/// What indexes know of a reading is made once, and kept until an edit changes the unit. What is looked up of types and names is made anew
+/// behind each edit, also of units that no edit changed. A definition is found by its line.
 pub(crate) fn judge_all<F: Folder, L: Ledger>(
     alloc: Global,
     folder: &mut F,
@@ -47,9 +50,19 @@ pub(crate) fn judge_all<F: Folder, L: Ledger>(
     ensures stops { IfErr result (λ stop. is_of_source stop ≡ false) }
     ensures leaves { LeavesProject (F.files folder.old) (F.files folder.new) (F.room folder.old) (F.room folder.new) (F.faults folder.old) (F.faults folder.new) loader.old loader.new (stop_of result) }
 {
+    let mut known = known_of(alloc, kept.items())?;
     let mut entries = List::new(alloc);
-    while let Some(change) = next_change(alloc, loader, kept.items(), subjects, &mut entries)? {
-        let entry = edit_one(alloc, folder, loader, units, kept, change, readings)?;
+    while let Some(change) = next_change(
+        alloc,
+        loader,
+        kept.items(),
+        &mut known,
+        subjects,
+        &mut entries,
+    )? {
+        let entry = edit_one(
+            alloc, folder, loader, units, kept, &mut known, change, readings,
+        )?;
         entries.push(entry)?;
     }
     Ok(reversed(entries))
@@ -64,31 +77,66 @@ fn reversed(entries: List<Entry>) -> List<Entry>
     List::from_vec(items)
 }
 
+/// What indexes know of some readings, each gone through once.
+fn known_of(alloc: Global, readings: &[Reading]) -> Result<Vec<Tables>, Memory>
+    ensures { IfOk result (λ known. AreKnown readings.now known.items) }
+{
+    let indexes = indexes_of(alloc, readings)?;
+    tables_of(alloc, indexes)
+}
+
 /// Judges definitions in a project that stays as it is, from the last one without an outcome on, up to the first that is to be edited.
 fn next_change(
     alloc: Global,
     loader: &Loader,
     kept: &[Reading],
+    known: &mut Vec<Tables>,
     subjects: &[Subject],
     entries: &mut List<Entry>,
 ) -> Result<Option<Change>, Memory>
     requires typed { AreTyped kept.now }
+    requires known { AreKnown kept.now known.old.items }
     requires few { length entries.old ≤ length subjects.now }
     ensures judged { OnOk result ((told : Maybe Files) (units : Sequence Source) (first : Project) (count : ℕ) →
         HasJudged told units first subjects.now entries.old (project_of loader.now kept.now count) →
         HasJudged told units first subjects.now entries.new (project_of loader.now kept.now count)) }
     ensures next { IfOk result (λ change. IsNext loader.now kept.now subjects.now entries.new change) }
+    ensures known { OnOk result (AreKnown kept.now known.new.items) }
     ensures more { OnOk result (length entries.old ≤ length entries.new) }
 {
-    let indexes = indexes_of(alloc, kept)?;
-    let by_unit = indexes.as_slice();
+    let indexes = indexes_with(alloc, kept, mem::replace(known, Vec::new(alloc)))?;
+    let change = next_among(alloc, loader, indexes.as_slice(), subjects, entries)?;
+    *known = tables_of(alloc, indexes)?;
+    Ok(change)
+}
+
+/// The same by the indexes of the units.
+fn next_among(
+    alloc: Global,
+    loader: &Loader,
+    by_unit: &[Index],
+    subjects: &[Subject],
+    entries: &mut List<Entry>,
+) -> Result<Option<Change>, Memory>
+    requires typed { AreTyped (readings_of by_unit.now) }
+    requires few { length entries.old ≤ length subjects.now }
+    ensures judged { OnOk result ((told : Maybe Files) (units : Sequence Source) (first : Project) (count : ℕ) →
+        HasJudged told units first subjects.now entries.old (project_of loader.now (readings_of by_unit.now) count) →
+        HasJudged told units first subjects.now entries.new (project_of loader.now (readings_of by_unit.now) count)) }
+    ensures next { IfOk result (λ change. IsNext loader.now (readings_of by_unit.now) subjects.now entries.new change) }
+    ensures more { OnOk result (length entries.old ≤ length entries.new) }
+{
     let project = Units::of(alloc, by_unit)?;
     let mut lines = Lines::of(alloc, loader, 0)?;
     for judged in entries.len()..subjects.len() {
         let subject = &subjects[subjects.len() - 1 - judged];
         let here = lines.at(alloc, subject.key.file)?;
-        let definition = definition_in(&here, by_unit, subject);
+        let found = definition_by(&here, by_unit, subject.key);
         lines = here;
+        let Some(definition) = found else {
+            entries.push(unread_entry(alloc, &subject.definition)?)?;
+            continue;
+        };
         match propose_in(alloc, &project, definition)? {
             Proposal::Broken { rule, place } => {
                 entries.push(kept_entry(alloc, definition, rule, place)?)?;
@@ -99,15 +147,11 @@ fn next_change(
     Ok(None)
 }
 
-/// The definition as the first unit that reads it has it, or as it was where none does, by the lines of its file.
-fn definition_in<'a>(lines: &Lines, units: &'a [Index], subject: &'a Subject) -> &'a Definition
-    requires { lines.now.file ≡ subject.now.key.file }
-    ensures { result.now ≡ definition_over lines.now.loader.now (readings_of units.now) subject.now }
+/// A definition that stays, since no unit reads it any more.
+fn unread_entry(alloc: Global, definition: &Definition) -> Result<Entry, Memory>
+    ensures { IfOk result (λ entry. entry ≡ entry_with definition.now (Kept reread_rule definition.now.place)) }
 {
-    match definition_by(lines, units, subject.key) {
-        Some(definition) => definition,
-        None => &subject.definition,
-    }
+    kept_entry(alloc, definition, REREAD_RULE, definition.place)
 }
 
 /// A definition that stays by a rule.

@@ -11,7 +11,7 @@ ghost use Rattle.dm_edit.specs.declared.plan.Entry.{Entry};
 ghost use Rattle.dm_edit.specs.declared.plan.Fate.TheVariants.{Kept, Rewritten};
 ghost use Rattle.dm_edit.specs.Edits.{IsEdited};
 ghost use Rattle.dm_judge.specs.declared.proposal.Proposal.TheVariants.{Broken};
-ghost use Rattle.dm_project.specs.Again.{reader_count};
+ghost use Rattle.dm_readings.specs.Again.{reader_count};
 ghost use Rattle.dm_subjects.specs.declared.subject.Subject.{Subject};
 ghost use Rattle.dm_subjects.specs.Subjects.{bytes_at};
 ghost use Rattle.dm_planning.specs.Judging.{Project, Edits, JudgesAll, JudgesBy, file_of, reread_rule};

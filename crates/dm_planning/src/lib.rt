@@ -7,6 +7,7 @@ mod judging;
 mod laws;
 mod planning;
 
+pub use dm_project::Steps;
 pub use laws::{
     a_broken_rule_costs_no_reading, each_definition_has_one_outcome, edits_cost_readings,
     edits_stand_or_are_taken_back, other_files_stay,

@@ -214,6 +214,9 @@ module _ {A : Type 0} (test : A → Bool) (xs : List A) (i : ℕ) (whole : Bool)
     pub some-in : true ≡ test (get_or xs i d) → whole ≡ true
     some-in here = sym next-in ∙ ap (λ b. b || list_any test (drop (i + 1) xs)) (sym here)
 
+    pub later-in : false ≡ test (get_or xs i d) → list_any test (drop (i + 1) xs) ≡ whole
+    later-in here = ap (λ b. b || list_any test (drop (i + 1) xs)) here ∙ next-in
+
 -- ---- what passes among the first items
 
 pub more-filtered : {A : Type 0} (test : A → Bool) (xs : List A) (i : ℕ) (d : A) → i < length xs

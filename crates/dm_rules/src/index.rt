@@ -282,13 +282,6 @@ impl<'a> Index<'a> {
         }
     }
 
-    /// Whether the unit reads a definition of a name.
-    pub(crate) fn defines(&self, name: &Text) -> bool
-        ensures { result ≡ rules.defines_in name.now self.now.reading.now }
-    {
-        self.mentions.defines(name)
-    }
-
     /// Whether the reading at a position is inside an external declaration.
     fn is_read_inside(&self, number: u32) -> bool
         ensures { let reading = self.now.reading.now in result ≡ passes_if (λ (one : SeenRead). is_inside reading.core.externals (position reading.pp one.before)) (slice_get reading.pp.read number) }

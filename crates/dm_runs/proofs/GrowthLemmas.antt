@@ -1,6 +1,7 @@
 -- Lists of beginnings that grow: what is new, and what is covered.
-use Rattle.std.proofs.Common.{◌≡◌, ℕ, zero, suc, ◌+◌, ◌<◌, ◌≤◌, Bool, true, false, cond, ◌||◌, ◌⊎◌, inl, inr, List, [], ◌∷◌, ◌++◌, length, take, min, Some, None, slice_get, refl, sym, ap, ◌∙◌, subst, arith, fold, append_assoc}
+use Rattle.std.proofs.Common.{◌≡◌, ℕ, zero, suc, ◌+◌, ◌<◌, ◌≤◌, Bool, true, false, cond, ◌||◌, ◌⊎◌, inl, inr, List, [], ◌∷◌, ◌++◌, length, take, min, Option, Some, None, IfSome, MatchOption, slice_get, get_or, refl, sym, ap, ◌∙◌, subst, arith, fold, append_assoc}
 use Rattle.std.specs.List.{list_any}
+use Rattle.std.proofs.lemmas.Bool.{cond-true}
 use Rattle.std.proofs.lemmas.Option.{slice_get_within}
 use Rattle.std.proofs.lemmas.List.{append-nil, length-take}
 use Rattle.std.proofs.lemmas.List.Folds.{list_any-append}
@@ -8,6 +9,7 @@ use Rattle.dm_token.specs.declared.expansion.Mark.{Mark}
 use Rattle.dm_token.specs.Equal.{equal}
 use Rattle.dm_token.proofs.MarkLemmas.{equal-same, same-equal}
 use Rattle.dm_runs.specs.Beginnings.{begins, beginnings_of, once_more}
+use Rattle.dm_runs.specs.Trees.{AreNumbers}
 use Rattle.dm_runs.proofs.ItemLemmas.{some-same, slice_get-push, any-at, at-any}
 use Rattle.dm_runs.proofs.BeginningLemmas.{beginning-at, length-beginnings}
 
@@ -122,3 +124,27 @@ covers-step found seen t root covers p k s is h =
         | inr one ↦ added found (beginnings_of t) p one
       ]
     ]
+
+-- ---- a trail that is walked again
+
+all-there : (found ps : List (List Mark)) → ((k : ℕ) (p : List Mark) → slice_get ps k ≡ Some p → list_any (equal p) found ≡ true) → fold once_more found ps ≡ found
+all-there found [] there = refl
+all-there found (p ∷ ps) there =
+    ap (λ more. fold once_more more ps) (cond-true (list_any (equal p) found) found (found ++ p ∷ []) (there 0 p refl)) ∙ all-there found ps (λ k q is. there (suc k) q is)
+
+-- nothing is added where its numbers are known
+pub walked-again : (found : List (List Mark)) (t : List Mark) (numbers : List ℕ) → AreNumbers found t numbers → found ≡ fold once_more found (beginnings_of t)
+walked-again found t numbers are =
+    sym (all-there found (beginnings_of t) (λ k p is.
+    let inside = slice_get_within (beginnings_of t) k p is in
+    let lt : k < length t = omega (arith, inside, length-beginnings t) in
+    let item : p ≡ take (suc k) t = some-same p (take (suc k) t) (sym is ∙ beginning-at t k lt) in
+    any-at (equal p) found (get_or numbers (suc k) 0) (take (suc k) t) (are.known (suc k) (omega (arith, are.counted, lt))) (same-equal p (take (suc k) t) item)))
+
+pub last-numbers : {A : Type 0} (now : A → List Mark) (last : Option A) (found : List (List Mark)) (t : List Mark) (numbers : List ℕ) → IfSome last (λ one. AreNumbers found (now one) numbers)
+    → MatchOption last ⊥ (λ one. now one ≡ t) → AreNumbers found t numbers
+last-numbers now None found t numbers are same = absurd same
+last-numbers now (Some one) found t numbers are same = subst (λ marks. AreNumbers found marks numbers) same are
+
+pub no-numbers : {A : Type 0} (now : A → List Mark) (last : Option A) (found : List (List Mark)) (numbers : List ℕ) → last ≡ None → IfSome last (λ one. AreNumbers found (now one) numbers)
+no-numbers now last found numbers none = subst (λ (one : Option _). IfSome one (λ trail. AreNumbers found (now trail) numbers)) (sym none) tt

@@ -1,6 +1,6 @@
 //! The beginnings of trails by number.
 
-ghost use Rattle.std.specs.Prelude.{◌≡◌, [], ◌∷◌, ◌++◌, Some, List as Sequence, map, fold, IfOk, OnOk, slice_get};
+ghost use Rattle.std.specs.Prelude.{◌≡◌, [], ◌∷◌, ◌++◌, None, Some, List as Sequence, map, fold, IfOk, IfSome, IsTrue, MatchOption, OnOk, slice_get};
 ghost use Rattle.dm_token.specs.declared.expansion.Mark.{Mark as SeenMark};
 ghost use Rattle.dm_runs.specs.Beginnings.{beginnings_of, once_more};
 ghost use Rattle.dm_runs.specs.Trees.{AreLinked, AreNumbers, IsBelow, IsLonger, link_of};
@@ -43,11 +43,12 @@ fn link_to(above: usize, mark: Mark) -> Link
     }
 }
 
-/// The beginnings of a trail, the shortest first.
-fn lineage<'a>(alloc: Global, trail: &'a Trail) -> Result<Vec<&'a Trail>, Memory>
+/// The beginnings of a trail, the shortest first, in the room of others.
+fn lineage<'a>(room: Vec<&'a Trail>, trail: &'a Trail) -> Result<Vec<&'a Trail>, Memory>
     ensures { IfOk result (λ found. map (λ one. one.now) found.items ≡ beginnings_of trail.now) }
 {
-    let mut found = Vec::new(alloc);
+    let mut found = room;
+    found.clear();
     let mut rest = trail;
     while let Some(outer) = rest.parent() {
         found.push(rest)?;
@@ -55,6 +56,37 @@ fn lineage<'a>(alloc: Global, trail: &'a Trail) -> Result<Vec<&'a Trail>, Memory
     }
     found.reverse();
     Ok(found)
+}
+
+/// The trail that was walked last, if one was, with the numbers of its first marks, and the room in which the next one is walked.
+#[derive(Drop)]
+pub(crate) struct Path<'a> {
+    trail: Option<&'a Trail>,
+    pub(crate) numbers: Vec<usize>,
+    lineage: Vec<&'a Trail>,
+}
+
+impl<'a> Path<'a> {
+    /// Before the first trail.
+    pub(crate) fn new(alloc: Global) -> Path<'a>
+        ensures { result.trail ≡ None }
+    {
+        Path {
+            trail: None,
+            numbers: Vec::new(alloc),
+            lineage: Vec::new(alloc),
+        }
+    }
+
+    /// Whether the trail that was walked last is this one.
+    fn is_of(&self, trail: &Trail) -> bool
+        ensures { IsTrue result → MatchOption self.now.trail ⊥ (λ last. last.now ≡ trail.now) }
+    {
+        match self.trail {
+            Some(last) => *last == *trail,
+            None => false,
+        }
+    }
 }
 
 /// The beginnings of the trails that were met, in the order in which each was first met. Their numbers are their
@@ -97,21 +129,46 @@ impl Beginnings {
     }
 
     /// The numbers of the first marks of a trail, of none on. What wasn't met before is added.
-    pub(crate) fn walk(&mut self, alloc: Global, trail: &Trail) -> Result<Vec<usize>, Memory>
+    fn follow<'a>(&mut self, path: Path<'a>, trail: &'a Trail) -> Result<Path<'a>, Memory>
         requires linked { AreLinked self.old.links.keys self.old.trails.items }
         ensures linked { OnOk result (AreLinked self.new.links.keys self.new.trails.items) }
         ensures trails { OnOk result (self.new.trails.items ≡ fold once_more self.old.trails.items (beginnings_of trail.now)) }
-        ensures numbers { IfOk result (λ numbers. AreNumbers self.new.trails.items trail.now numbers.items) }
+        ensures numbers { IfOk result (λ path. AreNumbers self.new.trails.items trail.now path.numbers.items) }
+        ensures path { IfOk result (λ path. IfSome path.trail (λ last. last.now ≡ trail.now)) }
     {
-        let lineage = lineage(alloc, trail)?;
-        let mut numbers = Vec::new(alloc);
+        let Path {
+            trail: _,
+            mut numbers,
+            lineage: room,
+        } = path;
+        let lineage = lineage(room, trail)?;
         let mut above = 0;
+        numbers.clear();
         numbers.push(above)?;
         for beginning in &lineage {
             above = self.add(above, beginning)?;
             numbers.push(above)?;
         }
-        Ok(numbers)
+        Ok(Path {
+            trail: Some(trail),
+            numbers,
+            lineage,
+        })
+    }
+
+    /// The same, where nothing is looked up if the trail that was walked last is the same.
+    pub(crate) fn walk<'a>(&mut self, path: Path<'a>, trail: &'a Trail) -> Result<Path<'a>, Memory>
+        requires linked { AreLinked self.old.links.keys self.old.trails.items }
+        requires path { IfSome path.trail (λ last. AreNumbers self.old.trails.items last.now path.numbers.items) }
+        ensures linked { OnOk result (AreLinked self.new.links.keys self.new.trails.items) }
+        ensures trails { OnOk result (self.new.trails.items ≡ fold once_more self.old.trails.items (beginnings_of trail.now)) }
+        ensures numbers { IfOk result (λ path. AreNumbers self.new.trails.items trail.now path.numbers.items) }
+        ensures path { IfOk result (λ path. IfSome path.trail (λ last. AreNumbers self.new.trails.items last.now path.numbers.items)) }
+    {
+        if path.is_of(trail) {
+            return Ok(path);
+        }
+        self.follow(path, trail)
     }
 
     /// The number of the trail that is one mark longer than the one with a number, if it was met.

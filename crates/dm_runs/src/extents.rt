@@ -8,7 +8,7 @@ ghost use Rattle.dm_runs.specs.Beginnings.{beginnings_of, once_more};
 ghost use Rattle.dm_runs.specs.Trees.{AreLinked, AreNumbers};
 ghost use Rattle.dm_runs.specs.Extents.{IsShape, extended, extended_at, span_from};
 
-use crate::beginnings::Beginnings;
+use crate::beginnings::{Beginnings, Path};
 use dm_token::{CToken, Memory, Span};
 use std::alloc::Global;
 
@@ -83,10 +83,11 @@ pub(crate) fn extents(
 {
     let mut extents = Vec::new(alloc);
     extents.resize(beginnings.trails.len(), None)?;
+    let mut path = Path::new(alloc);
     for (position, token) in tokens.iter().enumerate() {
-        let numbers = beginnings.walk(alloc, &token.trail)?;
+        path = beginnings.walk(path, &token.trail)?;
         extents.resize(beginnings.trails.len(), None)?;
-        extend_all(&mut extents, &numbers, position as u32);
+        extend_all(&mut extents, &path.numbers, position as u32);
     }
     Ok(extents)
 }

@@ -9,7 +9,7 @@ ghost use Rattle.dm_runs.specs.Spans as spans;
 ghost use Rattle.dm_runs.specs.Spans.{is_literal as stands_for_literal};
 ghost use Rattle.dm_runs.specs.Trees.{AreLinked};
 
-use crate::beginnings::Beginnings;
+use crate::beginnings::{Beginnings, Path};
 use dm_token::{Memory, PpKind, Token};
 use std::alloc::Global;
 
@@ -48,11 +48,12 @@ pub(crate) fn first_parts(
     parts.push(0)?;
     let mut begun = 0;
     let mut is_behind_literal = false;
+    let mut path = Path::new(alloc);
     for token in tokens {
         let is_literal = is_literal(token.pp.kind);
         begun = with_one_more(begun, is_behind_literal, is_literal);
         is_behind_literal = is_literal;
-        beginnings.walk(alloc, &token.trail)?;
+        path = beginnings.walk(path, &token.trail)?;
         parts.resize(beginnings.trails.len(), begun - 1)?;
     }
     Ok(parts)

@@ -9,8 +9,8 @@ use Rattle.dm_token.specs.declared.expansion.Definition.{Definition}
 use Rattle.dm_definitions.specs.Counts.{is_in_file}
 use Rattle.dm_search.specs.Loaded.{Loaded, held_at}
 use Rattle.dm_reading.specs.declared.reading.Reading.{Reading}
-use Rattle.dm_project.specs.declared.distinct.Key.{Key}
-use Rattle.dm_project.specs.Definitions.{key_of}
+use Rattle.dm_readings.specs.declared.distinct.Key.{Key}
+use Rattle.dm_readings.specs.Definitions.{key_of}
 use Rattle.dm_judge.specs.Proposals.{definitions_in}
 use Rattle.dm_subjects.specs.declared.subject.Subject.{Subject}
 

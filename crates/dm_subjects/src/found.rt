@@ -10,8 +10,8 @@ ghost use Rattle.dm_subjects.specs.Subjects as seen;
 
 use crate::held::bytes_at;
 use crate::lines::{Line, Lines};
-use dm_project::Key;
 use dm_reading::Reading;
+use dm_readings::Key;
 use dm_rules::Index;
 use dm_search::Loader;
 use dm_token::{Definition, Origin};

@@ -12,7 +12,7 @@ mod newlines;
 mod subject;
 mod tables;
 
-pub use alignments::{aligned_tables, are_all_aligned};
+pub use alignments::aligned_tables;
 pub use files::changed_files;
 pub use found::{definition_at, definition_by};
 pub use held::bytes_at;

@@ -1,15 +1,15 @@
 //! The definitions that are judged.
 
 ghost use Rattle.std.specs.Prelude.{◌≡◌, ◌<◌, IfOk, length, map};
-ghost use Rattle.dm_project.specs.Definitions.{definitions_in};
+ghost use Rattle.dm_readings.specs.Definitions.{definitions_in};
 ghost use Rattle.dm_search.specs.Loaded.{Loaded};
 ghost use Rattle.dm_subjects.specs.Newlines.{newlines_of};
 ghost use Rattle.dm_subjects.specs.Subjects as seen;
 
 use crate::newlines::{line_in, newlines_of_files};
 use crate::subject::Subject;
-use dm_project::{Key, definitions};
 use dm_reading::{Reading, copy_of_definition};
+use dm_readings::{Key, definitions};
 use dm_search::Loader;
 use dm_token::{Definition, List, Memory};
 use std::alloc::Global;

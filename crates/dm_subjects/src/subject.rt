@@ -1,6 +1,6 @@
 //! What is judged.
 
-use dm_project::Key;
+use dm_readings::Key;
 use dm_token::Definition;
 
 /// A definition of a project as it was read first, with the key by which it is found again.

@@ -1,5 +1,5 @@
--- The answer at a node, and at some node of what is left.
-use Rattle.std.proofs.Common.{◌≡◌, ℕ, Bool, true, false, ◌&&◌, ◌||◌, ◌==◌, not, List, [], ◌∷◌, map, Option, Bor, ap, refl, sym, ◌∙◌, rules, arith}
+-- The answer at some node of what is left.
+use Rattle.std.proofs.Common.{◌≡◌, Bool, true, false, ◌||◌, List, [], ◌∷◌, map, Option, Bor, ap, refl, sym, ◌∙◌, rules, arith}
 use Rattle.std.specs.List.{list_any}
 use Rattle.std.specs.Option.{option_copied, option_map}
 use Rattle.std.proofs.lemmas.List.Folds.{list_any-append}
@@ -7,72 +7,20 @@ use denote.Param.Weighed.{most}
 use Rattle.dm_type.specs.Tables.{Table}
 use Rattle.dm_tree.specs.declared.tree.Core.{Core, out-Core, size-Core}
 use Rattle.dm_tree.specs.declared.tree.Core as q
-use Rattle.dm_tree.specs.declared.unit.CoreExternal.{CoreExternal}
-use Rattle.dm_tree.specs.declared.unit.CoreExternalForm.{CoreExternalForm}
 use Rattle.dm_tree.specs.declared.tree.Initial.{Initial, size-Initial}
 use Rattle.dm_tree.specs.declared.tree.Local.{Local, size-Local}
 use Rattle.dm_tree.specs.Paths.{all_in, all_in_trees}
 use Rattle.dm_tree.specs.Trees.{trees}
-use Rattle.dm_tree.specs.Views.{if_there, expressions_of_items, expressions_of_locals, opened_form, view, view_of_external, view_of_form, view_of_local}
+use Rattle.dm_tree.specs.Views.{if_there, expressions_of_items, expressions_of_locals, opened_form, view, view_of_local}
 use Rattle.dm_meaning.specs.Wholes.{view_of_initial}
 use Rattle.dm_effect.specs.declared.parts.Parts.{Parts}
 use Rattle.dm_effect.specs.declared.question.Question.{Question}
-use Rattle.dm_effect.specs.Entities.{passes}
 use Rattle.dm_effect.specs.Parts.{parts_in}
-use Rattle.dm_effect.specs.Questions.{answer, is_asked, is_quiet_since}
-use Rattle.dm_effect.specs.Quiet.{alone_returned, is_one_of, is_quiet_with, quiet_functions}
-use Rattle.dm_effect.specs.Walks.{joins}
+use Rattle.dm_effect.specs.Questions.{answer, is_asked}
 use Rattle.dm_effect.proofs.DeclaratorLemmas.{value-expressions, parts-expressions}
 use Rattle.dm_effect.proofs.PartLemmas.{local-with, local-without}
-use Rattle.dm_effect.proofs.QuietLemmas.{weights-last, quiet-last}
 use Rattle.dm_effect.proofs.WalkLemmas.{any-yes, any-no, any-none, stops, skips, second-stops, second-skips, nodes-append, node-asked, comma-asked, parts-asked}
 use Rattle.dm_effect.proofs.walk.+walk.Goals as goal
-
--- ---- at a node
-
-abbrev at_node : Table → Core → Question → Bool
-at_node types node question = answer types question (view types node)
-
-pub answers-returns-in-Acts : goal.answers-returns-in-Acts
-answers-returns-in-Acts t c types = sym (ap (at_node types c.args.node.now) c.in-Acts.is ∙ (c.effect_of.ensures.acts types ∙ sym c.acts.ensures))
-
-pub answers-returns-in-Writes : goal.answers-returns-in-Writes
-answers-returns-in-Writes t c types = sym (ap (at_node types c.args.node.now) c.in-Writes.is ∙ c.writes.ensures types)
-
-pub answers-returns-in-Addresses : goal.answers-returns-in-Addresses
-answers-returns-in-Addresses t c types = sym (ap (at_node types c.args.node.now) c.in-Addresses.is ∙ c.addresses.ensures types)
-
-pub answers-returns-in-Defines : goal.answers-returns-in-Defines
-answers-returns-in-Defines t c types = sym (ap (at_node types c.args.node.now) c.in-Defines.is ∙ c.defines.ensures types)
-
-pub answers-returns-in-Initialises : goal.answers-returns-in-Initialises
-answers-returns-in-Initialises t c types = sym (ap (at_node types c.args.node.now) c.in-Initialises.is ∙ c.initialises.ensures types)
-
-pub answers-returns-in-Nothing : goal.answers-returns-in-Nothing
-answers-returns-in-Nothing t c types =
-    sym (ap (at_node types c.args.node.now) c.in-Disturbs.is ∙ c.in-Nothing.ensures.disturbs types (is_one_of (quiet_functions (map (view_of_external types) c.in-Disturbs.before.now))))
-
-pub answers-returns-in-Disturbs-effect_of : goal.answers-returns-in-Disturbs-effect_of
-answers-returns-in-Disturbs-effect_of t c types =
-    sym (ap (at_node types c.args.node.now) c.in-Disturbs.is ∙ c.in-Disturbs-effect_of.ensures.disturbs types (is_one_of (quiet_functions (map (view_of_external types) c.in-Disturbs.before.now))))
-
-pub answers-returns-in-Calls : goal.answers-returns-in-Calls
-answers-returns-in-Calls t c types =
-    sym (ap (at_node types c.args.node.now) c.in-Disturbs.is
-    ∙ (c.in-Calls.ensures.disturbs types (is_one_of (quiet_functions (map (view_of_external types) c.in-Disturbs.before.now))) ∙ ap not (sym (c.is_quiet_function.ensures types))))
-
-pub answers-returns-in-Nothing-effect_of : goal.answers-returns-in-Nothing-effect_of
-answers-returns-in-Nothing-effect_of t c types =
-    sym (ap (at_node types c.args.node.now) c.in-DisturbsSince.is ∙ c.in-Nothing-effect_of.ensures.disturbs types (is_quiet_since c.in-DisturbsSince.since.now c.in-DisturbsSince.count))
-
-pub answers-returns-in-Disturbs-effect_of-2 : goal.answers-returns-in-Disturbs-effect_of-2
-answers-returns-in-Disturbs-effect_of-2 t c types =
-    sym (ap (at_node types c.args.node.now) c.in-DisturbsSince.is ∙ c.in-Disturbs-effect_of-2.ensures.disturbs types (is_quiet_since c.in-DisturbsSince.since.now c.in-DisturbsSince.count))
-
-pub answers-returns-in-Calls-effect_of : goal.answers-returns-in-Calls-effect_of
-answers-returns-in-Calls-effect_of t c types =
-    sym (ap (at_node types c.args.node.now) c.in-DisturbsSince.is
-    ∙ (c.in-Calls-effect_of.ensures.disturbs types (is_quiet_since c.in-DisturbsSince.since.now c.in-DisturbsSince.count) ∙ ap not (sym c.is_quiet_by.ensures)))
 
 -- ---- trees
 
@@ -305,55 +253,3 @@ any_part-returns t c types =
     ∙ (skips (in_optional types c.args.question c.args.parts.third) _ (sym (c.any_optional-3.ensures types) ∙ c.if-any_optional-3.false)
     ∙ (skips (in_optional types c.args.question c.args.parts.fourth) _ (sym (c.any_optional-4.ensures types) ∙ c.if-any_optional-4.false)
     ∙ skips (in_trees types c.args.question c.args.parts.items.now) _ (sym (c.any_tree.ensures types) ∙ c.if-any_tree.false))))))
-
--- ---- functions
-
-abbrev quiet_behind : Table → List CoreExternal → ℕ → Bool
-quiet_behind types externals d = is_one_of (quiet_functions (map (view_of_external types) externals)) d
-
-abbrev joined_by : Table → List CoreExternal → ℕ → CoreExternalForm → Bool
-joined_by types before d form = joins (quiet_behind types before) d (view_of_form types form)
-
-pub defines_quietly-returns-in-Declaration : goal.defines_quietly-returns-in-Declaration
-defines_quietly-returns-in-Declaration t c types = sym (ap (joined_by types c.args.before.now c.args.function) c.in-Declaration.is)
-
-pub defines_quietly-returns-in-Some : goal.defines_quietly-returns-in-Some
-defines_quietly-returns-in-Some t c types =
-    let quiet : ℕ → Bool = quiet_behind types c.args.before.now in
-    let this : (c.in-Function.number == c.args.function) ≡ true = search rules in
-    ap not (c.any_node.ensures types)
-    ∙ sym (ap (joined_by types c.args.before.now c.args.function) c.in-Function.is
-    ∙ (ap (λ b. b && passes (is_quiet_with quiet) (alone_returned (view types c.in-Function.body))) this
-    ∙ ap (passes (is_quiet_with quiet)) (c.in-Some.ensures.same types)))
-
-pub defines_quietly-returns-in-None : goal.defines_quietly-returns-in-None
-defines_quietly-returns-in-None t c types =
-    let quiet : ℕ → Bool = quiet_behind types c.args.before.now in
-    let this : (c.in-Function.number == c.args.function) ≡ true = search rules in
-    sym (ap (joined_by types c.args.before.now c.args.function) c.in-Function.is
-    ∙ (ap (λ b. b && passes (is_quiet_with quiet) (alone_returned (view types c.in-Function.body))) this
-    ∙ ap (passes (is_quiet_with quiet)) (c.in-None.ensures.same types)))
-
-pub is_quiet_function-defines_quietly-requires : goal.is_quiet_function-defines_quietly-requires
-is_quiet_function-defines_quietly-requires t c =
-    let split = weights-last c.loop-last.left.now c.in-Some.before.now c.in-Some.last.now c.in-Some.ensures.cases.0 in
-    let below = c.loop-last.invariant.0 in
-    let here = c.decreases in
-    (omega (arith, split, below, here), tt)
-
-pub is_quiet_function-returns-then-defines_quietly : goal.is_quiet_function-returns-then-defines_quietly
-is_quiet_function-returns-then-defines_quietly t c types =
-    sym (sym (c.loop-last.invariant.1 types)
-    ∙ (quiet-last types c.loop-last.left.now c.in-Some.before.now c.in-Some.last.now c.args.function c.in-Some.ensures.cases.0
-    ∙ stops _ (quiet_behind types c.in-Some.before.now c.args.function) (sym (c.defines_quietly.ensures types) ∙ c.if-defines_quietly.true)))
-
-pub is_quiet_function-loop-last-preserved : goal.is_quiet_function-loop-last-preserved
-is_quiet_function-loop-last-preserved t c =
-    let split = weights-last c.loop-last.left.now c.in-Some.before.now c.in-Some.last.now c.in-Some.ensures.cases.0 in
-    let below = c.loop-last.invariant.0 in (
-      omega (arith, split, below),
-      λ types.
-          sym (quiet-last types c.loop-last.left.now c.in-Some.before.now c.in-Some.last.now c.args.function c.in-Some.ensures.cases.0
-          ∙ skips _ (quiet_behind types c.in-Some.before.now c.args.function) (sym (c.defines_quietly.ensures types) ∙ c.if-defines_quietly.false))
-          ∙ c.loop-last.invariant.1 types,
-    )

@@ -1,5 +1,4 @@
--- The answer is yes where it is at what is left. A tree's depth measures the walk, and a walk goes on from a call only to external
--- declarations before those that the question has.
+-- The answer is yes where it is at what is left. A tree's depth measures the walk.
 use Rattle.std.proofs.Common.{◌≡◌, map, ◌+◌, ◌*◌, ◌≤◌, length}
 use Rattle.std.specs.List.{list_any}
 use Rattle.std.specs.Option.{option_copied, option_map_or}
@@ -9,43 +8,32 @@ use Rattle.dm_tree.specs.declared.tree.Core.{size-Core}
 use Rattle.dm_tree.specs.declared.tree.Initial.{size-Initial}
 use Rattle.dm_tree.specs.declared.tree.Local.{size-Local}
 use Rattle.dm_tree.specs.Paths.{all_in}
-use Rattle.dm_tree.specs.Views.{expressions_of_items, expressions_of_locals, view, view_of_external, view_of_local}
+use Rattle.dm_tree.specs.Views.{expressions_of_items, expressions_of_locals, view, view_of_local}
 use Rattle.dm_meaning.specs.Wholes.{view_of_initial}
 use Rattle.dm_effect.specs.Questions.{answer, is_asked}
-use Rattle.dm_effect.specs.Quiet.{is_one_of, quiet_functions}
-use Rattle.dm_effect.specs.Walks.{weight_of, weight_of_form, weight_of_externals}
 use Rattle.dm_effect.proofs.WalkLemmas.{depth_of}
 use Rattle.dm_effect.proofs.walk.+walk.Given as goal
 
 abbrev pub decreases-any_node : goal.decreases-any_node
-decreases-any_node l = weight_of l.question + (8 * size-Core l.tree.now + 3)
-
-abbrev pub decreases-answers : goal.decreases-answers
-decreases-answers l = weight_of l.question + 2
+decreases-any_node l = 8 * size-Core l.tree.now + 3
 
 abbrev pub decreases-any_part : goal.decreases-any_part
-decreases-any_part l = weight_of l.question + (8 * depth_of l.parts + 7)
+decreases-any_part l = 8 * depth_of l.parts + 7
 
 abbrev pub decreases-any_optional : goal.decreases-any_optional
-decreases-any_optional l = weight_of l.question + (8 * option_map_or size-Core (option_copied l.tree) 0 + 4)
+decreases-any_optional l = 8 * option_map_or size-Core (option_copied l.tree) 0 + 4
 
 abbrev pub decreases-any_tree : goal.decreases-any_tree
-decreases-any_tree l = weight_of l.question + (8 * most size-Core l.trees.now + 4)
+decreases-any_tree l = 8 * most size-Core l.trees.now + 4
 
 abbrev pub decreases-any_local : goal.decreases-any_local
-decreases-any_local l = weight_of l.question + (8 * most size-Local l.locals.now + 6)
+decreases-any_local l = 8 * most size-Local l.locals.now + 6
 
 abbrev pub decreases-in_initial : goal.decreases-in_initial
-decreases-in_initial l = weight_of l.question + (8 * size-Initial l.initial.now + 4)
+decreases-in_initial l = 8 * size-Initial l.initial.now + 4
 
 abbrev pub decreases-any_initial : goal.decreases-any_initial
-decreases-any_initial l = weight_of l.question + (8 * most size-Initial l.initials.now + 5)
-
-abbrev pub decreases-is_quiet_function : goal.decreases-is_quiet_function
-decreases-is_quiet_function l = weight_of_externals l.externals.now + 1
-
-abbrev pub decreases-defines_quietly : goal.decreases-defines_quietly
-decreases-defines_quietly l = weight_of_externals l.before.now + weight_of_form l.external.now.form
+decreases-any_initial l = 8 * most size-Initial l.initials.now + 5
 
 abbrev pub invariant-any_node-loop-at : goal.invariant-any_node-loop-at
 invariant-any_node-loop-at l =
@@ -75,11 +63,3 @@ invariant-any_initial-loop-initial l =
 
 abbrev pub decreases-any_initial-loop-initial : goal.decreases-any_initial-loop-initial
 decreases-any_initial-loop-initial l = length l.left
-
-abbrev pub invariant-is_quiet_function-loop-last : goal.invariant-is_quiet_function-loop-last
-invariant-is_quiet_function-loop-last l =
-    (weight_of_externals l.left ≤ weight_of_externals l.fn.externals)
-    × ((types : Table) → is_one_of (quiet_functions (map (view_of_external types) l.left)) l.function ≡ is_one_of (quiet_functions (map (view_of_external types) l.fn.externals)) l.function)
-
-abbrev pub decreases-is_quiet_function-loop-last : goal.decreases-is_quiet_function-loop-last
-decreases-is_quiet_function-loop-last l = length l.left

@@ -17,12 +17,12 @@ loop-item-preserved c =
     let item : Item = c.item-item.result in
     let rest : List Item = drop (i + 1) argument in
     let same : c.item.inside.trail ≡ item.trail = ap (λ (x : Item). x.trail) c.item.view_is in (
-      ap (map (taken_by rest)) (c.take_along.ensures ∙ ap (λ (trail : List Mark). map (taken_along trail) made) same)
+      ap (map (taken_by rest)) (c.take_on.ensures ∙ ap (λ (trail : List Mark). map (taken_along trail) made) same)
           ∙ sym (taken-more item rest made)
           ∙ ap (λ (x : Item). map (taken_by (x ∷ rest)) made) c.item-item.is
           ∙ sym (at_drop_more (λ (xs : List Item). map (taken_by xs) made) argument i item c.loop-item-test.true)
           ∙ c.loop-item.invariant.0,
-      (c.loop-item.invariant.1.0, subst (λ (es : List Expansion). AreNumbered c.args.first es c.loop-item.invariant.1.0) (sym c.take_along.ensures) (along-numbered c.item.inside.trail c.args.first made c.loop-item.invariant.1.0 c.loop-item.invariant.1.1)),
+      (c.loop-item.invariant.1.0, subst (λ (es : List Expansion). AreNumbered c.args.first es c.loop-item.invariant.1.0) (sym c.take_on.ensures) (along-numbered c.item.inside.trail c.args.first made c.loop-item.invariant.1.0 c.loop-item.invariant.1.1)),
     )
 
 pub returns : goal.returns

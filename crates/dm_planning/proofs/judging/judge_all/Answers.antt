@@ -33,16 +33,17 @@ loop-entries-preserved g c =
     let entry = c.in_ok-entry.entry in
     let inv = c.loop-entries.invariant in
     let judged : HasJudged told units first subjects passed now =
-    subst (λ kept. HasJudged told units first subjects passed (project_of loader kept readings)) c.items.ensures
+    subst (λ kept. HasJudged told units first subjects passed (project_of loader kept readings)) c.items-in-loop-entries.ensures
     (c.in_ok-change.ensures.judged told units first readings
-    (subst (λ kept. HasJudged told units first subjects c.loop-entries.entries (project_of loader kept readings)) (sym c.items.ensures) inv.judged)) in
+    (subst (λ kept. HasJudged told units first subjects c.loop-entries.entries (project_of loader kept readings)) (sym c.items-in-loop-entries.ensures) inv.judged)) in
     let next : IsNext loader c.loop-entries.kept subjects passed (Some change) =
-    subst (λ kept. IsNext loader kept subjects passed (Some change)) c.items.ensures
-    (subst (IsNext loader c.items.result.now subjects passed) c.in-Some.is c.in_ok-change.ensures.next) in
+    subst (λ kept. IsNext loader kept subjects passed (Some change)) c.items-in-loop-entries.ensures
+    (subst (IsNext loader c.items-in-loop-entries.result.now subjects passed) c.in-Some.is c.in_ok-change.ensures.next) in
     let edits = subst (λ files. Edits files units now change entry after) inv.leaves.files_stay c.in_ok-entry.ensures.edits in
     record {
       judged = subst (λ entries. HasJudged told units first subjects entries after) (sym c.in_ok-push.ensures.ok) (judged-next told units first now after subjects passed change entry judged next edits);
       good = c.in_ok-entry.ensures.good;
+      known = c.in_ok-entry.ensures.known;
       leaves =
           leaves-trans (g.F.Folder.files c.args.folder.now) (g.F.Folder.files c.loop-entries.folder) (g.F.Folder.files c.edit_one.new.folder)
           (g.F.Folder.room c.args.folder.now) (g.F.Folder.room c.loop-entries.folder) (g.F.Folder.room c.edit_one.new.folder)

@@ -2,8 +2,8 @@
 use Rattle.std.proofs.Common.{◌≡◌, List, ◌++◌, map, IsPermutation, refl, sym, ap, ◌∙◌, subst, append_assoc}
 use Rattle.dm_reading.specs.declared.reading.Reading.{Reading}
 use Rattle.dm_edit.specs.declared.plan.Entry.{Entry}
-use Rattle.dm_project.specs.Definitions.{definitions_in}
-use Rattle.dm_project.specs.Leaves.{AreThere}
+use Rattle.dm_readings.specs.Definitions.{definitions_in}
+use Rattle.dm_readings.specs.Leaves.{AreThere}
 use Rattle.dm_subjects.specs.Files.{changed_file, edited_files}
 use Rattle.dm_subjects.specs.Subjects.{subject_of}
 use Rattle.dm_subjects.specs.declared.subject.Subject.{Subject}

@@ -8,14 +8,14 @@ use Rattle.dm_token.specs.declared.token.CToken.{CToken}
 use Rattle.dm_runs.specs.declared.extents.Extent.{Extent}
 use Rattle.dm_runs.specs.Beginnings.{beginnings_of, once_more}
 use Rattle.dm_runs.specs.Extents.{extended_at}
-use Rattle.dm_runs.proofs.GrowthLemmas.{Covers}
+use Rattle.dm_runs.proofs.GrowthLemmas.{Covers, no-numbers}
 use Rattle.dm_runs.proofs.ExtentLemmas.{extent_in, trails_of, flat-fold, extents-step, covers-more}
 use Rattle.dm_runs.proofs.extents.extents.Goals as goal
 
 pub extend_all-requires-clause-within : goal.extend_all-requires-clause-within
 extend_all-requires-clause-within c = λ i inside.
-    let are = c.in_ok-numbers.ensures.numbers in
-    let numbers = c.in_ok-numbers.numbers.items in
+    let are = c.in_ok-path.ensures.numbers in
+    let numbers = c.in_ok-path.path.numbers.items in
     let known = are.known i (omega (arith, inside, c.deref.ensures.len, ap length c.deref.ensures.value)) in
     let within = slice_get_within c.walk.new.self.trails.items (get_or numbers i 0) (take i c.index-tokens-position.result.trail) known in
     omega (arith, within, ap (λ ns. get_or ns i 0) c.deref.ensures.value, c.deref_mut.ensures.len, c.in_ok-resize-2.ensures.len, c.len-in-loop-position.ensures, c.walk.new.self.trails.ok.0, c.resize-in-loop-position.new.self.ok.0)
@@ -29,13 +29,13 @@ loop-position-preserved c =
     let token : CToken = c.index-tokens-position.result in
     let found = c.loop-position.beginnings.trails.items in
     let whole = c.walk.new.self.trails.items in
-    let walked = c.in_ok-numbers.ensures in
+    let walked = c.in_ok-path.ensures in
     let count : length tokens ≡ p = length-take-le p all (omega (arith, c.loop-position-test.true)) in
     let more : tokens ++ token ∷ [] ≡ take (p + 1) all = ap (λ (t : CToken). tokens ++ t ∷ []) c.index-tokens-position.is ∙ sym (take_more all p token c.loop-position-test.true) in
     let n = c.len-in-loop-position.result in
     let old = c.loop-position.extents in
     let seen : List Mark → Option Extent = extent_in tokens in
-    let numbers = c.in_ok-numbers.numbers.items in
+    let numbers = c.in_ok-path.path.numbers.items in
     let size : n ≡ length whole = omega (arith, c.len-in-loop-position.ensures, c.walk.new.self.trails.ok.0) in
     let before : vec_len old ≡ length (map seen found) = omega (arith, old.ok.0, ap length inv.extents) in
     let resized : c.deref_mut.result.now ≡ take (length whole) (map seen found) ++ replicate (length whole - length (map seen found)) None =
@@ -54,6 +54,7 @@ loop-position-preserved c =
           ∙ flat-fold (λ (one : CToken). beginnings_of one.trail) c.args.beginnings.now.trails.items tokens token
           ∙ ap (λ (ts : List CToken). fold once_more c.args.beginnings.now.trails.items (flat_map (λ (one : CToken). beginnings_of one.trail) ts)) more;
       covers = subst (λ (ts : List CToken). Covers whole (trails_of ts)) more (covers-more found whole tokens token inv.linked.root walked.trails inv.covers);
+      path = walked.path;
       extents = take_at c.extend_all.new.extents _ _ (omega (arith, ap length after, length-map whole (extent_in (take (p + 1) all)), size, c.in_ok-resize-2.ensures.len)) ∙ after;
     }
 
@@ -66,6 +67,7 @@ loop-position-init c =
       linked = c.requires.linked;
       trails = refl;
       covers = λ p k t e h. cc;
+      path = no-numbers (λ trail. trail.now) c.new-path.result.trail found c.new-path.result.numbers.items c.new-path.ensures;
       extents = c.in_ok-resize.ensures.items ∙ ap (λ (es : List (Option Extent)). take n es ++ replicate (n - vec_len c.new-extents.result) None) c.new-extents.ensures.items
           ∙ ap (λ (es : List (Option Extent)). es ++ replicate (n - vec_len c.new-extents.result) None) (take_all n [] (omega arith)) ∙ ap (λ m. replicate m None) (omega (arith, c.new-extents.ensures.len)) ∙ splat_is_map found n None (sym size);
     }

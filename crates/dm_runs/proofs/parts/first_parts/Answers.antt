@@ -41,7 +41,7 @@ loop-token-preserved c =
     let token : Token = c.token-item.result in
     let found = c.loop-token.beginnings.trails.items in
     let whole = c.walk.new.self.trails.items in
-    let walked = c.in_ok-walk.ensures in
+    let walked = c.in_ok-path.ensures in
     let more : tokens ++ token ∷ [] ≡ take (i + 1) all = ap (λ (t : Token). tokens ++ t ∷ []) c.token-item.is ∙ sym (take_more all i token c.loop-token-test.true) in
     let one : c.with_one_more-begun.result ≡ begun_among false (tokens ++ token ∷ []) =
     c.with_one_more-begun.ensures ∙ ap (λ n. n + cond (c.loop-token.is_behind_literal && c.is_literal-is_literal.result) 0 1) inv.begun
@@ -63,6 +63,7 @@ loop-token-preserved c =
       stand = subst (λ (ts : List Token). Stand whole ts) more (stand-step found whole tokens token walked.trails inv.covers inv.stand);
       begun = one ∙ ap (begun_among false) more;
       behind = c.is_literal-is_literal.ensures ∙ sym (behind-push false tokens token) ∙ ap (behind false) more;
+      path = walked.path;
       parts = c.in_ok-resize.ensures.items
           ∙ ap (λ m. take m old.items ++ replicate (m - vec_len old) (c.with_one_more-begun.result - 1)) size
           ∙ ap (λ (es : List ℕ). take (length whole) es ++ replicate (length whole - vec_len old) (c.with_one_more-begun.result - 1)) inv.parts

@@ -3,7 +3,7 @@ use Rattle.std.proofs.Common.{rules, ◌≡◌, ◌<◌, ◌≤◌, ◌+◌, ◌
 use Rattle.std.proofs.lemmas.Bool.{false≢true}
 use Rattle.std.proofs.lemmas.Option.{slice_get_read}
 use Rattle.dm_reading.specs.declared.reading.Reading.{Reading}
-use Rattle.dm_project.specs.Units.{IsTyped}
+use Rattle.dm_readings.specs.Units.{IsTyped}
 use Rattle.dm_rules.specs.declared.index.Index.{Index}
 use Rattle.dm_rules.specs.Indexes.{readings_of}
 use Rattle.dm_rules.specs.declared.tables.Tables.{Tables}

@@ -1,10 +1,7 @@
--- The table is that of the external declarations before the next one.
-use Rattle.std.proofs.Common.{◌≤◌, ◌-◌, length}
-use Rattle.dm_effect.specs.Tables.{IsBehind}
+-- The table is that of the external declarations so far, and the token is behind all of them.
+use Rattle.std.proofs.Common.{◌≡◌, take}
+use Rattle.dm_effect.specs.Tables.{end_of, AreSince}
 use Rattle.dm_effect.proofs.quieting.QuietFunctions.of.Given as goal
 
-abbrev pub invariant-loop-done : goal.invariant-loop-done
-invariant-loop-done l = (l.done ≤ length l.externals) × IsBehind l.externals l.done l.since.items
-
-abbrev pub decreases-loop-done : goal.decreases-loop-done
-decreases-loop-done l = length l.externals - l.done
+abbrev pub invariant-loop-external : goal.invariant-loop-external
+invariant-loop-external l = (l.end ≡ end_of (take l.external-index l.externals)) × AreSince (take l.external-index l.externals) l.since.items

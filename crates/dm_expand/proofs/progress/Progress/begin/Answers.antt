@@ -30,7 +30,7 @@ returns-clause-ok c =
     let inside : Progress = record { instance = c.self.inside.instance; spent = c.self.inside.spent; expansions = c.self.inside.expansions.items } in
     let expansions =
     c.in_ok-push.ensures.items
-    ∙ ap (λ (trail : List Mark). pushed c.args.definition c.args.foreign inside c.name.inside.pp.place trail) c.in_ok-copy.ensures
+    ∙ ap (λ (trail : List Mark). pushed c.args.definition c.args.foreign inside c.name.inside.pp.place trail) c.in_ok-trail.ensures
     ∙ ap (λ (x : Item). pushed c.args.definition c.args.foreign inside x.pp.place x.trail) c.name.view_is
     ∙ ap (λ (q : Progress). pushed c.args.definition c.args.foreign q name.pp.place name.trail) c.self.view_is in
     begin-counted c.args.definition name c.args.foreign c.args.self.now counted
@@ -41,6 +41,6 @@ returns-clause-ok c =
 pub invariant_of-self-2 : goal.invariant_of-self-2
 invariant_of-self-2 c =
     let more : suc c.self.inside.instance ≡ c.self.inside.instance + 1 = omega arith in
-    let made : Expansion = record { definition = c.args.definition; instance = c.self.inside.instance; name = c.name.inside.pp.place; trail = c.in_ok-copy.field-0; taken = false; foreign = c.args.foreign } in
+    let made : Expansion = record { definition = c.args.definition; instance = c.self.inside.instance; name = c.name.inside.pp.place; trail = c.in_ok-trail.field-0; taken = false; foreign = c.args.foreign } in
     subst (λ n. AreNumbered c.self.inside.first c.push.new.self.items n) more
     (subst (λ (es : List Expansion). AreNumbered c.self.inside.first es (suc c.self.inside.instance)) (sym c.in_ok-push.ensures.items) (push-numbered made c.self.inside.first c.self.inside.expansions.items c.self.invariant))

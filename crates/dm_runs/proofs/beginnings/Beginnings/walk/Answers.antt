@@ -1,58 +1,14 @@
-use Rattle.std.proofs.Common.{◌≡◌, ℕ, ◌<◌, List, [], ◌∷◌, length, slice_get, get_or, Some, sym, ap, ◌∙◌, subst, arith, length-append}
-use Rattle.dm_token.specs.declared.expansion.Mark.{Mark}
-use Rattle.dm_token.specs.declared.expansion.Mark.TheVariants.{Expansion}
-use Rattle.dm_runs.specs.Beginnings.{beginnings_of, once_more}
-use Rattle.dm_runs.specs.Trees.{IsLonger}
-use Rattle.dm_runs.proofs.BeginningLemmas.{count-is, item-at, item-is, next-longer, walked, numbers-step, slice_get-once_more, length-beginnings}
+-- Nothing is added where the last trail is walked again.
+use Rattle.dm_runs.proofs.GrowthLemmas.{last-numbers, walked-again}
 use Rattle.dm_runs.proofs.beginnings.Beginnings.walk.Goals as goal
 
-pub add-requires-clause-longer : goal.add-requires-clause-longer
-add-requires-clause-longer c =
-    let trail = c.args.trail.now in
-    let i = c.loop-beginning.beginning-index in
-    let found = c.loop-beginning.self.trails.items in
-    let items = c.in_ok-lineage.lineage.items in
-    let count = count-is _ items trail c.in_ok-lineage.ensures in
-    let inside : i < length items = omega (arith, c.loop-beginning-test.true, c.deref-beginning-items.ensures.len) in
-    let item : c.beginning-item.result ≡ get_or items i c.beginning-item.result = c.beginning-item.is ∙ ap (λ xs. get_or xs i c.beginning-item.result) c.deref-beginning-items.ensures.value in
-    let is = item-is _ items trail i c.beginning-item.result c.in_ok-lineage.ensures inside item in
-    subst (IsLonger found c.loop-beginning.above) (sym is)
-    (next-longer found c.loop-beginning.above trail i (omega (arith, count, inside)) c.loop-beginning.invariant.above (Expansion 0 0))
+pub returns-then-is_of-clause-trails : goal.returns-then-is_of-clause-trails
+returns-then-is_of-clause-trails c =
+    let found = c.args.self.now.trails.items in
+    let numbers = c.args.path.numbers.items in
+    walked-again found c.args.trail.now numbers
+    (last-numbers (λ last. last.now) c.args.path.trail found c.args.trail.now numbers c.requires.path (c.is_of.ensures c.if-is_of.true))
 
-pub loop-beginning-preserved : goal.loop-beginning-preserved
-loop-beginning-preserved c =
-    let trail = c.args.trail.now in
-    let i = c.loop-beginning.beginning-index in
-    let found = c.loop-beginning.self.trails.items in
-    let numbers = c.loop-beginning.numbers.items in
-    let items = c.in_ok-lineage.lineage.items in
-    let before = c.args.self.now.trails.items in
-    let inv = c.loop-beginning.invariant in
-    let count = count-is _ items trail c.in_ok-lineage.ensures in
-    let inside : i < length items = omega (arith, c.loop-beginning-test.true, c.deref-beginning-items.ensures.len) in
-    let item : c.beginning-item.result ≡ get_or items i c.beginning-item.result = c.beginning-item.is ∙ ap (λ xs. get_or xs i c.beginning-item.result) c.deref-beginning-items.ensures.value in
-    let one = c.beginning-item.result.now in
-    let here = item-at _ items trail i c.beginning-item.result c.in_ok-lineage.ensures inside item in
-    let is = item-is _ items trail i c.beginning-item.result c.in_ok-lineage.ensures inside item in
-    let added = c.in_ok-above.ensures in
-    let pushed = c.in_ok-push-2.ensures.items in
-    record {
-      linked = added.linked;
-      trails = added.trails ∙ ap (λ ts. once_more ts one) inv.trails ∙ walked before (beginnings_of trail) i one (omega (arith, count, length-beginnings trail, inside)) here;
-      above = added.number ∙ ap Some is;
-      counted = omega (arith, ap length pushed, length-append numbers (c.in_ok-above.above ∷ []), inv.counted);
-      numbers = λ j below.
-          ap (λ (ns : List ℕ). slice_get c.add.new.self.trails.items (get_or ns j 0)) pushed
-          ∙ numbers-step found c.add.new.self.trails.items trail i numbers c.in_ok-above.above inv.counted
-          (λ k t e. ap (λ (ts : List (List Mark)). slice_get ts k) added.trails ∙ slice_get-once_more found one k t e)
-          inv.numbers (added.number ∙ ap Some is) j below;
-    }
-
-pub returns-clause-numbers : goal.returns-clause-numbers
-returns-clause-numbers c =
-    let inv = c.loop-beginning.invariant in
-    let count = count-is _ c.in_ok-lineage.lineage.items c.args.trail.now c.in_ok-lineage.ensures in
-    record {
-      counted = omega (arith, inv.counted, count, c.loop-beginning-test.false, c.loop-beginning.auto.beginning-index-end, c.deref-beginning-items.ensures.len);
-      known = λ i below. inv.numbers i (omega (arith, inv.counted, below));
-    }
+pub returns-then-is_of-clause-numbers : goal.returns-then-is_of-clause-numbers
+returns-then-is_of-clause-numbers c =
+    last-numbers (λ last. last.now) c.args.path.trail c.args.self.now.trails.items c.args.trail.now c.args.path.numbers.items c.requires.path (c.is_of.ensures c.if-is_of.true)

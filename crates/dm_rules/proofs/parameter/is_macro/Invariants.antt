@@ -1,9 +1,0 @@
--- No unit up to here passes.
-use Rattle.std.proofs.Common.{◌≡◌, drop}
-use Rattle.std.specs.List.{list_any}
-use Rattle.dm_rules.specs.Indexes.{readings_of}
-use Rattle.dm_rules.specs.Rules.{defines_in}
-use Rattle.dm_rules.proofs.parameter.is_macro.Given as goal
-
-abbrev pub invariant-loop-unit : goal.invariant-loop-unit
-invariant-loop-unit l = list_any (defines_in l.fn.name) (readings_of (drop l.unit-index l.units)) ≡ list_any (defines_in l.fn.name) (readings_of l.units)
