@@ -7,6 +7,7 @@ use std::io::{self, ErrorKind};
 use std::process::{Abort, ExitCode};
 use std::test::Fail;
 
+mod behaviours;
 mod calls;
 mod expanding;
 mod limits;
@@ -22,7 +23,7 @@ const LETTER: &str =
 
 const DONE: &str = "rewritten a.c:2 N enumerator\nrewritten 1 kept 0\n";
 
-pub fn texts(alloc: Global, words: &[&str]) -> Result<Vec<String>, Fail> {
+fn texts(alloc: Global, words: &[&str]) -> Result<Vec<String>, Fail> {
     let mut texts = Vec::new(alloc);
     for word in words {
         texts.push(String::from_str(alloc, word)?)?;
@@ -46,25 +47,25 @@ fn folder_with(
     Ok(folder)
 }
 
+const WORDS: &str = r#"
+frob
+frob a.c
+apply
+plan
+gen
+gen 1001
+gen -1
+apply a.c a.c
+apply a.c --json --json
+plan a.c --order 1
+gen 1 --json
+apply --
+apply a.c --help
+plan -j a.c"#;
+
 #[test]
 fn other_words_are_refused(rt: HostRuntime) -> Result<(), Fail> {
-    for line in [
-        "",
-        "frob",
-        "frob a.c",
-        "apply",
-        "plan",
-        "gen",
-        "gen 1001",
-        "gen -1",
-        "apply a.c a.c",
-        "apply a.c --json --json",
-        "plan a.c --order 1",
-        "gen 1 --json",
-        "apply --",
-        "apply a.c --help",
-        "plan -j a.c",
-    ] {
+    for line in WORDS.split('\n') {
         calls::expect_failing(&rt, line, "== a.c\nint a;\n", &[0, 1], &[], 1, USAGE)?;
     }
     Ok(())

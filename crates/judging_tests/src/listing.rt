@@ -3,8 +3,8 @@
 
 use crate::projects::{Project, project_of};
 use dm_edit::{As, Changed, Entry, Fate};
-use dm_project::Key;
 use dm_reading::copy_of_definition;
+use dm_readings::Key;
 use dm_search::Loader;
 use dm_subjects::{Subject, changed_files, definition_at, subjects};
 use dm_token::{Definition, List};

@@ -5,7 +5,7 @@ ghost use Rattle.dm_judge.specs.Units.{AreTyped, AreWhole};
 
 use crate::projects::{Project, project_of};
 use dm_judge::{Proposal, Units, indexes_of, propose_in};
-use dm_project::definitions;
+use dm_readings::definitions;
 use dm_token::{Definition, Place, Text};
 use std::alloc::Global;
 use std::fmt::Write;

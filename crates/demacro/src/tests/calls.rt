@@ -70,6 +70,27 @@ fn expect_files<R: Abort + AllocGlobal>(
     Ok(())
 }
 
+/// What came of a call.
+#[derive(Drop)]
+pub struct Ended {
+    pub status: u8,
+    pub output: Vec<u8>,
+}
+
+/// Makes a call on a folder, in which these calls of the sink fail.
+pub fn call(
+    alloc: Global,
+    line: &str,
+    folder: &mut MemoryFolder,
+    failing_puts: &[u32],
+) -> Result<Ended, Fail> {
+    let mut out = MemorySink::new(alloc, numbers(alloc, failing_puts)?);
+    let words = words_of(alloc, line)?;
+    let status = run(alloc, &words, folder, &mut out);
+    let output = Vec::from_slice(alloc, out.bytes())?;
+    Ok(Ended { status, output })
+}
+
 /// Makes a call on a folder, in which these calls of the sink fail, and compares the status and the output.
 fn call_on<R: Abort + AllocGlobal>(
     rt: &R,
@@ -79,12 +100,9 @@ fn call_on<R: Abort + AllocGlobal>(
     status: u8,
     output: &str,
 ) -> Result<(), Fail> {
-    let alloc = rt.alloc();
-    let mut out = MemorySink::new(alloc, numbers(alloc, failing_puts)?);
-    let words = words_of(alloc, line)?;
-    let ended = run(alloc, &words, folder, &mut out);
-    assert_eq!(rt; ended, status, "{line}");
-    assert_eq!(rt; out.bytes(), output.as_bytes(), "{line}");
+    let ended = call(rt.alloc(), line, folder, failing_puts)?;
+    assert_eq!(rt; ended.status, status, "{line}");
+    assert_eq!(rt; ended.output.as_slice(), output.as_bytes(), "{line}");
     Ok(())
 }
 
@@ -92,13 +110,11 @@ fn call_on<R: Abort + AllocGlobal>(
 pub fn status_of<R: Abort + AllocGlobal>(rt: &R, line: &str, files: &str) -> Result<u8, Fail> {
     let alloc = rt.alloc();
     let mut folder = folder_of(alloc, numbers(alloc, &[])?, files)?;
-    let mut out = MemorySink::new(alloc, numbers(alloc, &[])?);
-    let words = words_of(alloc, line)?;
-    let status = run(alloc, &words, &mut folder, &mut out);
-    if status != 0 {
+    let ended = call(alloc, line, &mut folder, &[])?;
+    if ended.status != 0 {
         expect_files(rt, line, &folder, files, "")?;
     }
-    Ok(status)
+    Ok(ended.status)
 }
 
 /// Compares status and output of a call on a folder that isn't used any more.
@@ -163,4 +179,19 @@ pub fn expect<R: Abort + AllocGlobal>(
     output: &str,
 ) -> Result<(), Fail> {
     expect_failing(rt, line, files, &[], &[], status, output)
+}
+
+/// Makes the calls of rows, which end with this status. A row has the call, the line that is put, and files; a line `%%` stands between two.
+pub fn expect_stops<R: Abort + AllocGlobal>(rt: &R, status: u8, rows: &str) -> Result<(), Fail> {
+    for row in rows.split("\n%%\n") {
+        let Some((line, rest)) = row.split_once('\n') else {
+            return Err("a row has no call".into());
+        };
+        let Some((put, files)) = rest.split_once('\n') else {
+            return Err("a row has no files".into());
+        };
+        let output = format!(in rt.alloc(); "{put}\n")?;
+        expect(rt, line, files, status, output.as_str())?;
+    }
+    Ok(())
 }

@@ -1,26 +1,62 @@
 //! Calls of `expand` on small projects.
 
 use super::USAGE;
-use super::calls::{expect, expect_failing};
+use super::calls::{expect, expect_failing, expect_stops};
 use std::test::Fail;
+
+/// The file `a.c`, and behind an arrow its tokens.
+const LISTED: &str = r#"=>
+%%
+#define f(a) a*g
+#define g(a) f(a)
+f(2)(9)
+=>
+2 * 9 * g
+%%
+#define SQ(x) ((x)*(x))
+#define STR(x) #x
+#define XSTR(x) STR(x)
+const char *s = XSTR(SQ(3));
+=>
+const char * s = "((3)*(3))" ;
+%%
+#if 0
+don't
+#else
+int a;
+#endif
+=>
+int a ;
+%%
+#define P x y
+P
+z P
+=>
+x y
+z x y
+%%
+#define F(a) a b
+F(1
+)
+c
+=>
+1 b
+c
+%%
+
+__LINE__ __FILE__
+__STDC__
+=>
+2 "a.c"
+1
+"#;
 
 #[test]
 fn lists_the_tokens_of_one_file(rt: HostRuntime) -> Result<(), Fail> {
-    for (lines, output) in [
-        ("", ""),
-        (
-            "#define f(a) a*g\n#define g(a) f(a)\nf(2)(9)\n",
-            "2 * 9 * g\n",
-        ),
-        (
-            "#define SQ(x) ((x)*(x))\n#define STR(x) #x\n#define XSTR(x) STR(x)\nconst char *s = XSTR(SQ(3));\n",
-            "const char * s = \"((3)*(3))\" ;\n",
-        ),
-        ("#if 0\ndon't\n#else\nint a;\n#endif\n", "int a ;\n"),
-        ("#define P x y\nP\nz P\n", "x y\nz x y\n"),
-        ("#define F(a) a b\nF(1\n)\nc\n", "1 b\nc\n"),
-        ("\n__LINE__ __FILE__\n__STDC__\n", "2 \"a.c\"\n1\n"),
-    ] {
+    for row in LISTED.split("%%\n") {
+        let Some((lines, output)) = row.split_once("=>\n") else {
+            return Err("a row has no arrow".into());
+        };
         let files = format!(in rt.alloc(); "== a.c\n{lines}")?;
         expect(&rt, "expand a.c a.c", files.as_str(), 0, output)?;
     }
@@ -44,35 +80,90 @@ fn lists_a_unit_of_a_project(rt: HostRuntime) -> Result<(), Fail> {
     expect(&rt, "expand m.json s/a.c", set, 0, "int 1 = 3 ;\nend\n")
 }
 
+const REFUSED: &str = r#"expand a.c a.c
+a.c:1:8: refusal 2 Comment
+== a.c
+int a; /* x
+%%
+expand a.c a.c
+a.c:1:1: refusal 4 Directive
+== a.c
+#foo
+
+%%
+expand a.c a.c
+a.c:1:1: refusal 5 Form
+== a.c
+#define F(a,a) a
+
+%%
+expand a.c a.c
+a.c:1:1: refusal 6 Conditionals
+== a.c
+#endif
+
+%%
+expand a.c a.c
+a.c:2:1: refusal 7 NotFound
+== a.c
+
+#include "h.h"
+
+%%
+expand a.c a.c
+a.c:1:2: refusal 8 Splice
+== a.c
+a\
+
+%%
+expand a.c a.c
+a.c:2:9: refusal 9 Arguments
+== a.c
+#define F(x) x
+int a = F(1
+%%
+expand a.c a.c
+a.c:2:1: refusal 10 Paste
+== a.c
+#define P(a,b) a##b
+P(+,x)
+
+%%
+expand a.c a.c
+a.c:1:14: refusal 11 HashOperand
+== a.c
+#define G(a) #b
+
+%%
+expand a.c a.c
+a.c:2:9: refusal 12 Redefinition
+== a.c
+#define N 1
+#define N 2
+
+%%
+expand a.c a.c
+a.c:1:1: refusal 13 Condition
+== a.c
+#if 1/0
+#endif
+
+%%
+expand a.c a.c
+a.c:1:1: refusal 14 Error
+== a.c
+#error no
+
+%%
+expand a.c a.c
+a.c:1:1: refusal 18 OutOfSubset
+== a.c
+#line 3
+"#;
+
 #[test]
 fn says_why_a_unit_is_refused(rt: HostRuntime) -> Result<(), Fail> {
-    for (lines, output) in [
-        ("int a; /* x", "a.c:1:8: refusal 2 Comment\n"),
-        ("#foo\n", "a.c:1:1: refusal 4 Directive\n"),
-        ("#define F(a,a) a\n", "a.c:1:1: refusal 5 Form\n"),
-        ("#endif\n", "a.c:1:1: refusal 6 Conditionals\n"),
-        ("\n#include \"h.h\"\n", "a.c:2:1: refusal 7 NotFound\n"),
-        ("a\\\n", "a.c:1:2: refusal 8 Splice\n"),
-        (
-            "#define F(x) x\nint a = F(1",
-            "a.c:2:9: refusal 9 Arguments\n",
-        ),
-        (
-            "#define P(a,b) a##b\nP(+,x)\n",
-            "a.c:2:1: refusal 10 Paste\n",
-        ),
-        ("#define G(a) #b\n", "a.c:1:14: refusal 11 HashOperand\n"),
-        (
-            "#define N 1\n#define N 2\n",
-            "a.c:2:9: refusal 12 Redefinition\n",
-        ),
-        ("#if 1/0\n#endif\n", "a.c:1:1: refusal 13 Condition\n"),
-        ("#error no\n", "a.c:1:1: refusal 14 Error\n"),
-        ("#line 3\n", "a.c:1:1: refusal 18 OutOfSubset\n"),
-    ] {
-        let files = format!(in rt.alloc(); "== a.c\n{lines}")?;
-        expect(&rt, "expand a.c a.c", files.as_str(), 3, output)?;
-    }
+    expect_stops(&rt, 3, REFUSED)?;
     let open = "== a.c\n#include \"h.h\"\n== h.h\n\n#if 1\n";
     expect(
         &rt,
@@ -92,32 +183,44 @@ fn says_why_a_unit_is_refused(rt: HostRuntime) -> Result<(), Fail> {
     expect(&rt, "expand a.c a.c", itself, 4, "limit L4 a.c\n")
 }
 
+const FAULTY: &str = r#"expand m.json a.c
+manifest M2 m.json
+== m.json
+{"units":[
+%%
+expand m.json a.c
+manifest M3 units/0/x
+== m.json
+{"units":[{"file":"a.c","x":1}]}
+%%
+expand m.json a.c
+manifest M3 /
+== m.json
+[]
+%%
+expand m.json a.c
+manifest M4 units/0/file
+== m.json
+{"units":[{"file":"../a.c"}]}
+%%
+expand m.json a.c
+manifest M5 units/0/define/0
+== m.json
+{"units":[{"file":"a.c","define":["1N"]}]}
+%%
+expand m.json a.c
+manifest M6 units/1
+== m.json
+{"units":[{"file":"a.c"},{"file":"a.c"}]}
+%%
+expand m.json a.c
+manifest M7 a.c
+== m.json
+{"units":[{"file":"b.c"}]}"#;
+
 #[test]
 fn says_what_is_wrong_with_a_manifest(rt: HostRuntime) -> Result<(), Fail> {
-    for (manifest, output) in [
-        ("{\"units\":[", "manifest M2 m.json\n"),
-        (
-            "{\"units\":[{\"file\":\"a.c\",\"x\":1}]}",
-            "manifest M3 units/0/x\n",
-        ),
-        ("[]", "manifest M3 /\n"),
-        (
-            "{\"units\":[{\"file\":\"../a.c\"}]}",
-            "manifest M4 units/0/file\n",
-        ),
-        (
-            "{\"units\":[{\"file\":\"a.c\",\"define\":[\"1N\"]}]}",
-            "manifest M5 units/0/define/0\n",
-        ),
-        (
-            "{\"units\":[{\"file\":\"a.c\"},{\"file\":\"a.c\"}]}",
-            "manifest M6 units/1\n",
-        ),
-        ("{\"units\":[{\"file\":\"b.c\"}]}", "manifest M7 a.c\n"),
-    ] {
-        let files = format!(in rt.alloc(); "== m.json\n{manifest}")?;
-        expect(&rt, "expand m.json a.c", files.as_str(), 2, output)?;
-    }
+    expect_stops(&rt, 2, FAULTY)?;
     expect(&rt, "expand m.json a.c", "", 2, "manifest M1 m.json\n")?;
     expect(
         &rt,

@@ -1,6 +1,6 @@
 //! Calls of `plan`, `apply` and `gen`. What has to come of them was worked out by hand from the rules and ISO/IEC 9899:2011.
 
-use super::calls::{Outcome, expect, expect_outcome};
+use super::calls::{Outcome, expect, expect_outcome, expect_stops};
 use std::process::Abort;
 use std::test::Fail;
 
@@ -32,144 +32,277 @@ fn expect_done<R: Abort + AllocGlobal>(
     expect_outcome(rt, line, files, &[], &[], &outcome)
 }
 
-#[test]
-fn function_like_macros_become_functions(rt: HostRuntime) -> Result<(), Fail> {
-    for (before, report, after) in [
-        (
-            "#include <stdio.h>\n#define SQ(x) ((x)*(x))\nint main(void) { putchar(SQ(6)+29); return 0; }\n",
-            "rewritten a.c:2 SQ function\nrewritten 1 kept 0\n",
-            "#include <stdio.h>\nstatic inline int SQ(int x) { return ((x)*(x)); }\nint main(void) { putchar(SQ(6)+29); return 0; }\n",
-        ),
-        (
-            "struct S { int n; };\n#define AND(a,b) ((a)&&(b))\nint main(void) { int k = 1; return AND(1, k); }\n",
-            "rewritten a.c:2 AND function\nrewritten 1 kept 0\n",
-            "struct S { int n; };\nstatic inline int AND(int a, int b) { return ((a)&&(b)); }\nint main(void) { int k = 1; return AND(1, k); }\n",
-        ),
-        (
-            "int x, y;\nint f(void) { x = 9; return 1; }\n#define MAX(a,b) ((a)>(b)?(a):(b))\nint main(void) { int x = 1, y = 2; return MAX(x,y)+f(); }\n",
-            "rewritten a.c:3 MAX function\nrewritten 1 kept 0\n",
-            "int x, y;\nint f(void) { x = 9; return 1; }\nstatic inline int MAX(int a, int b) { return ((a)>(b)?(a):(b)); }\nint main(void) { int x = 1, y = 2; return MAX(x,y)+f(); }\n",
-        ),
-        (
-            "int x, y;\nint f(void) { x = 9; return 1; }\n#define MAX(a,b) ((a)>(b)?(a):(b))\nint main(void) { int t[2] = {3, 4}, i = 1, b = 2, y; y = MAX(t[i], b); return y; }\n",
-            "rewritten a.c:3 MAX function\nrewritten 1 kept 0\n",
-            "int x, y;\nint f(void) { x = 9; return 1; }\nstatic inline int MAX(int a, int b) { return ((a)>(b)?(a):(b)); }\nint main(void) { int t[2] = {3, 4}, i = 1, b = 2, y; y = MAX(t[i], b); return y; }\n",
-        ),
-        (
-            "#define MAX(a,b) ((a)>(b)?(a):(b))\nint f(int a, int b, int c) { return MAX(MAX(a,b),c); }\n",
-            "rewritten a.c:1 MAX function\nrewritten 1 kept 0\n",
-            "static inline int MAX(int a, int b) { return ((a)>(b)?(a):(b)); }\nint f(int a, int b, int c) { return MAX(MAX(a,b),c); }\n",
-        ),
-        (
-            "#include <stdio.h>\n#define CLAMP(x) ((x) < 0 ? \\\n  0 : ??/\n  (x)) // keep\nint main(void) { int v = 70; putchar(CLAMP(v)); return 0; }\n",
-            "rewritten a.c:2 CLAMP function\nrewritten 1 kept 0\n",
-            "#include <stdio.h>\nstatic inline int CLAMP(int x) { return ((x) < 0 ? \\\n  0 : ??/\n  (x)); } // keep\nint main(void) { int v = 70; putchar(CLAMP(v)); return 0; }\n",
-        ),
-    ] {
-        expect_applied(&rt, before, report, after)?;
+/// Applies the projects of rows, each a file, and behind arrows the report and what becomes of the file.
+fn expect_rewritten<R: Abort + AllocGlobal>(rt: &R, rows: &str) -> Result<(), Fail> {
+    for row in rows.split("%%\n") {
+        let Some((before, rest)) = row.split_once("=>\n") else {
+            return Err("a row has no arrow".into());
+        };
+        let Some((report, after)) = rest.split_once("=>\n") else {
+            return Err("a row has no second arrow".into());
+        };
+        expect_applied(rt, before, report, after)?;
     }
     Ok(())
 }
+
+/// Applies the project of a row, a file that stays, and behind an arrow the report.
+fn expect_kept<R: Abort + AllocGlobal>(rt: &R, row: &str) -> Result<(), Fail> {
+    let Some((before, report)) = row.split_once("=>\n") else {
+        return Err("a row has no arrow".into());
+    };
+    expect_applied(rt, before, report, before)
+}
+
+const FUNCTIONS: &str = r#"#include <stdio.h>
+#define SQ(x) ((x)*(x))
+int main(void) { putchar(SQ(6)+29); return 0; }
+=>
+rewritten a.c:2 SQ function
+rewritten 1 kept 0
+=>
+#include <stdio.h>
+static inline int SQ(int x) { return ((x)*(x)); }
+int main(void) { putchar(SQ(6)+29); return 0; }
+%%
+struct S { int n; };
+#define AND(a,b) ((a)&&(b))
+int main(void) { int k = 1; return AND(1, k); }
+=>
+rewritten a.c:2 AND function
+rewritten 1 kept 0
+=>
+struct S { int n; };
+static inline int AND(int a, int b) { return ((a)&&(b)); }
+int main(void) { int k = 1; return AND(1, k); }
+%%
+int x, y;
+int f(void) { x = 9; return 1; }
+#define MAX(a,b) ((a)>(b)?(a):(b))
+int main(void) { int x = 1, y = 2; return MAX(x,y)+f(); }
+=>
+rewritten a.c:3 MAX function
+rewritten 1 kept 0
+=>
+int x, y;
+int f(void) { x = 9; return 1; }
+static inline int MAX(int a, int b) { return ((a)>(b)?(a):(b)); }
+int main(void) { int x = 1, y = 2; return MAX(x,y)+f(); }
+%%
+int x, y;
+int f(void) { x = 9; return 1; }
+#define MAX(a,b) ((a)>(b)?(a):(b))
+int main(void) { int t[2] = {3, 4}, i = 1, b = 2, y; y = MAX(t[i], b); return y; }
+=>
+rewritten a.c:3 MAX function
+rewritten 1 kept 0
+=>
+int x, y;
+int f(void) { x = 9; return 1; }
+static inline int MAX(int a, int b) { return ((a)>(b)?(a):(b)); }
+int main(void) { int t[2] = {3, 4}, i = 1, b = 2, y; y = MAX(t[i], b); return y; }
+%%
+#define MAX(a,b) ((a)>(b)?(a):(b))
+int f(int a, int b, int c) { return MAX(MAX(a,b),c); }
+=>
+rewritten a.c:1 MAX function
+rewritten 1 kept 0
+=>
+static inline int MAX(int a, int b) { return ((a)>(b)?(a):(b)); }
+int f(int a, int b, int c) { return MAX(MAX(a,b),c); }
+%%
+#include <stdio.h>
+#define CLAMP(x) ((x) < 0 ? \
+  0 : ??/
+  (x)) // keep
+int main(void) { int v = 70; putchar(CLAMP(v)); return 0; }
+=>
+rewritten a.c:2 CLAMP function
+rewritten 1 kept 0
+=>
+#include <stdio.h>
+static inline int CLAMP(int x) { return ((x) < 0 ? \
+  0 : ??/
+  (x)); } // keep
+int main(void) { int v = 70; putchar(CLAMP(v)); return 0; }
+"#;
+
+#[test]
+fn function_like_macros_become_functions(rt: HostRuntime) -> Result<(), Fail> {
+    expect_rewritten(&rt, FUNCTIONS)
+}
+
+const CONSTANTS: &str = r#"int putchar(int c);
+#define N 65
+int main(void) { putchar(N + 1); return 0; }
+=>
+rewritten a.c:2 N enumerator
+rewritten 1 kept 0
+=>
+int putchar(int c);
+enum { N = 65 };
+int main(void) { putchar(N + 1); return 0; }
+%%
+int putchar(int c);
+#define N 65
+#define M 7
+int main(void) { putchar(N + 1); return 0; }
+=>
+rewritten a.c:2 N enumerator
+kept a.c:3 M rule 4 Unused a.c:3:9
+rewritten 1 kept 1
+=>
+int putchar(int c);
+enum { N = 65 };
+#define M 7
+int main(void) { putchar(N + 1); return 0; }
+%%
+#define N 100
+int t[N];
+int f(int k) { switch (k) { case N: return 1; default: return N + 2; } }
+=>
+rewritten a.c:1 N enumerator
+rewritten 1 kept 0
+=>
+enum { N = 100 };
+int t[N];
+int f(int k) { switch (k) { case N: return 1; default: return N + 2; } }
+%%
+#define U 10u
+unsigned int f(void) { return U; }
+=>
+rewritten a.c:1 U constant
+rewritten 1 kept 0
+=>
+static const unsigned int U = 10u;
+unsigned int f(void) { return U; }
+"#;
 
 #[test]
 fn constants_become_declarations(rt: HostRuntime) -> Result<(), Fail> {
-    for (before, report, after) in [
-        (
-            "int putchar(int c);\n#define N 65\nint main(void) { putchar(N + 1); return 0; }\n",
-            "rewritten a.c:2 N enumerator\nrewritten 1 kept 0\n",
-            "int putchar(int c);\nenum { N = 65 };\nint main(void) { putchar(N + 1); return 0; }\n",
-        ),
-        (
-            "int putchar(int c);\n#define N 65\n#define M 7\nint main(void) { putchar(N + 1); return 0; }\n",
-            "rewritten a.c:2 N enumerator\nkept a.c:3 M rule 4 Unused a.c:3:9\nrewritten 1 kept 1\n",
-            "int putchar(int c);\nenum { N = 65 };\n#define M 7\nint main(void) { putchar(N + 1); return 0; }\n",
-        ),
-        (
-            "#define N 100\nint t[N];\nint f(int k) { switch (k) { case N: return 1; default: return N + 2; } }\n",
-            "rewritten a.c:1 N enumerator\nrewritten 1 kept 0\n",
-            "enum { N = 100 };\nint t[N];\nint f(int k) { switch (k) { case N: return 1; default: return N + 2; } }\n",
-        ),
-        (
-            "#define U 10u\nunsigned int f(void) { return U; }\n",
-            "rewritten a.c:1 U constant\nrewritten 1 kept 0\n",
-            "static const unsigned int U = 10u;\nunsigned int f(void) { return U; }\n",
-        ),
-    ] {
-        expect_applied(&rt, before, report, after)?;
-    }
-    Ok(())
+    expect_rewritten(&rt, CONSTANTS)
 }
+
+const KEPT: &str = r#"#define SQ(x) ((x)*(x))
+int main(void) { int i = 3; return SQ(i++); }
+=>
+kept a.c:1 SQ rule 14 Evaluation a.c:2:36
+rewritten 0 kept 1
+%%
+#define ADD(a,b) a+b
+int main(void) { return ADD(1,2)*3; }
+=>
+kept a.c:1 ADD rule 9 Subtree a.c:2:25
+rewritten 0 kept 1
+%%
+struct S { int n; };
+#define AND(a,b) ((a)&&(b))
+int f(struct S *p) { return AND(p, p->n); }
+=>
+kept a.c:2 AND rule 14 Evaluation a.c:3:29
+rewritten 0 kept 1
+%%
+int x, y;
+int f(void) { x = 9; return 1; }
+#define MAX(a,b) ((a)>(b)?(a):(b))
+int main(void) { return MAX(x,y)+f(); }
+=>
+kept a.c:3 MAX rule 14 Evaluation a.c:4:25
+rewritten 0 kept 1
+%%
+int x, y;
+int f(void) { x = 9; return 1; }
+#define MAX(a,b) ((a)>(b)?(a):(b))
+int main(void) { int *p = &x, *q = &y; return MAX(*p,*q)+f(); }
+=>
+kept a.c:3 MAX rule 14 Evaluation a.c:4:47
+rewritten 0 kept 1
+%%
+#define U 10u
+int f(int k) { switch (k) { case U: return 1; } return 0; }
+=>
+kept a.c:1 U rule 10 Constant a.c:2:34
+rewritten 0 kept 1
+%%
+#define SQ(x) ((x)*(x))
+#define STR(x) #x
+#define XSTR(x) STR(x)
+const char *s = XSTR(SQ(3));
+=>
+kept a.c:1 SQ rule 5 Gone a.c:4:22
+kept a.c:2 STR rule 1 Body a.c:2:9
+kept a.c:3 XSTR rule 5 Gone a.c:4:17
+rewritten 0 kept 3
+%%
+int g = 1;
+#define INC(x) ((x) + g)
+int f(int a) { return INC(a); }
+int h(int a) { int g = 2; return INC(a) + g; }
+=>
+kept a.c:2 INC rule 13 Capture a.c:4:34
+rewritten 0 kept 1
+%%
+#define N 4
+#if N > 3
+int a = N;
+#endif
+=>
+kept a.c:1 N rule 3 Directive a.c:2:5
+rewritten 0 kept 1
+%%
+#ifndef H_H
+#define H_H
+int a;
+#endif
+=>
+kept a.c:2 H_H rule 1 Body a.c:2:9
+rewritten 0 kept 1
+%%
+#define A 1
+int x = A;
+#undef A
+=>
+kept a.c:1 A rule 2 Again a.c:3:8
+rewritten 0 kept 1
+%%
+#define A 1
+int x;
+=>
+kept a.c:1 A rule 4 Unused a.c:1:9
+rewritten 0 kept 1
+%%
+int main(void) {
+#define K 5
+return K; }
+=>
+kept a.c:2 K rule 6 Place a.c:2:9
+rewritten 0 kept 1
+%%
+struct P { int N; };
+#define N 3
+int a = N;
+=>
+kept a.c:2 N rule 7 Name a.c:1:16
+rewritten 0 kept 1
+%%
+#define Z(a) 5
+int b = Z(1);
+=>
+kept a.c:1 Z rule 8 Parameter a.c:1:9
+rewritten 0 kept 1
+%%
+#define SET(v) ((v) = 1)
+int f(int a) { SET(a); return a; }
+=>
+kept a.c:1 SET rule 11 Lvalue a.c:2:16
+rewritten 0 kept 1
+"#;
 
 #[test]
 fn a_macro_that_breaks_a_rule_is_kept(rt: HostRuntime) -> Result<(), Fail> {
-    for (before, report) in [
-        (
-            "#define SQ(x) ((x)*(x))\nint main(void) { int i = 3; return SQ(i++); }\n",
-            "kept a.c:1 SQ rule 14 Evaluation a.c:2:36\nrewritten 0 kept 1\n",
-        ),
-        (
-            "#define ADD(a,b) a+b\nint main(void) { return ADD(1,2)*3; }\n",
-            "kept a.c:1 ADD rule 9 Subtree a.c:2:25\nrewritten 0 kept 1\n",
-        ),
-        (
-            "struct S { int n; };\n#define AND(a,b) ((a)&&(b))\nint f(struct S *p) { return AND(p, p->n); }\n",
-            "kept a.c:2 AND rule 14 Evaluation a.c:3:29\nrewritten 0 kept 1\n",
-        ),
-        (
-            "int x, y;\nint f(void) { x = 9; return 1; }\n#define MAX(a,b) ((a)>(b)?(a):(b))\nint main(void) { return MAX(x,y)+f(); }\n",
-            "kept a.c:3 MAX rule 14 Evaluation a.c:4:25\nrewritten 0 kept 1\n",
-        ),
-        (
-            "int x, y;\nint f(void) { x = 9; return 1; }\n#define MAX(a,b) ((a)>(b)?(a):(b))\nint main(void) { int *p = &x, *q = &y; return MAX(*p,*q)+f(); }\n",
-            "kept a.c:3 MAX rule 14 Evaluation a.c:4:47\nrewritten 0 kept 1\n",
-        ),
-        (
-            "#define U 10u\nint f(int k) { switch (k) { case U: return 1; } return 0; }\n",
-            "kept a.c:1 U rule 10 Constant a.c:2:34\nrewritten 0 kept 1\n",
-        ),
-        (
-            "#define SQ(x) ((x)*(x))\n#define STR(x) #x\n#define XSTR(x) STR(x)\nconst char *s = XSTR(SQ(3));\n",
-            "kept a.c:1 SQ rule 5 Gone a.c:4:22\nkept a.c:2 STR rule 1 Body a.c:2:9\nkept a.c:3 XSTR rule 5 Gone a.c:4:17\nrewritten 0 kept 3\n",
-        ),
-        (
-            "int g = 1;\n#define INC(x) ((x) + g)\nint f(int a) { return INC(a); }\nint h(int a) { int g = 2; return INC(a) + g; }\n",
-            "kept a.c:2 INC rule 13 Capture a.c:4:34\nrewritten 0 kept 1\n",
-        ),
-        (
-            "#define N 4\n#if N > 3\nint a = N;\n#endif\n",
-            "kept a.c:1 N rule 3 Directive a.c:2:5\nrewritten 0 kept 1\n",
-        ),
-        (
-            "#ifndef H_H\n#define H_H\nint a;\n#endif\n",
-            "kept a.c:2 H_H rule 1 Body a.c:2:9\nrewritten 0 kept 1\n",
-        ),
-        ("", "rewritten 0 kept 0\n"),
-        (
-            "#define A 1\nint x = A;\n#undef A\n",
-            "kept a.c:1 A rule 2 Again a.c:3:8\nrewritten 0 kept 1\n",
-        ),
-        (
-            "#define A 1\nint x;\n",
-            "kept a.c:1 A rule 4 Unused a.c:1:9\nrewritten 0 kept 1\n",
-        ),
-        (
-            "int main(void) {\n#define K 5\nreturn K; }\n",
-            "kept a.c:2 K rule 6 Place a.c:2:9\nrewritten 0 kept 1\n",
-        ),
-        (
-            "struct P { int N; };\n#define N 3\nint a = N;\n",
-            "kept a.c:2 N rule 7 Name a.c:1:16\nrewritten 0 kept 1\n",
-        ),
-        (
-            "#define Z(a) 5\nint b = Z(1);\n",
-            "kept a.c:1 Z rule 8 Parameter a.c:1:9\nrewritten 0 kept 1\n",
-        ),
-        (
-            "#define SET(v) ((v) = 1)\nint f(int a) { SET(a); return a; }\n",
-            "kept a.c:1 SET rule 11 Lvalue a.c:2:16\nrewritten 0 kept 1\n",
-        ),
-    ] {
-        expect_applied(&rt, before, report, before)?;
+    expect_applied(&rt, "", "rewritten 0 kept 0\n", "")?;
+    for row in KEPT.split("%%\n") {
+        expect_kept(&rt, row)?;
     }
     Ok(())
 }
@@ -270,90 +403,104 @@ fn generated_projects_are_summed_up(rt: HostRuntime) -> Result<(), Fail> {
     Ok(())
 }
 
+/// Each with the call and what is put, in front of the files.
+const REFUSED: &str = r#"apply a.c
+a.c:1:1: refusal 7 NotFound
+
+%%
+plan a.c
+a.c:1:1: refusal 7 NotFound
+
+%%
+apply a.c
+a.c:2:9: refusal 9 Arguments
+== a.c
+#define F(x) x
+int a = F(1
+%%
+plan a.c
+a.c:2:9: refusal 9 Arguments
+== a.c
+#define F(x) x
+int a = F(1
+%%
+apply a.c
+a.c:1:8: refusal 2 Comment
+== a.c
+int a; /* x
+%%
+plan a.c
+a.c:1:8: refusal 2 Comment
+== a.c
+int a; /* x
+%%
+apply a.c
+a.c:1:1: refusal 16 Syntax
+== a.c
+int a = ;
+
+%%
+apply a.c
+a.c:1:13: refusal 17 Type C2
+== a.c
+int a; long a;
+
+%%
+apply m.json
+b.c:1:1: refusal 6 Conditionals
+== m.json
+{"units":[{"file":"a.c"},{"file":"b.c"}]}== a.c
+#define N 1
+int a = N;
+== b.c
+#endif
+"#;
+
+/// Each with the call and what is put, in front of the files.
+const FAULTY: &str = r#"apply m.json
+manifest M3 units/0/x
+== m.json
+{"units":[{"file":"a.c","x":1}]}
+%%
+apply m.json
+manifest M4 units/0/file
+== m.json
+{"units":[{"file":"../a.c"}]}
+%%
+apply m.json
+manifest M5 units/0/define/0
+== m.json
+{"units":[{"file":"a.c","define":["1N"]}]}
+%%
+apply m.json
+manifest M6 units/1
+== m.json
+{"units":[{"file":"a.c"},{"file":"a.c"}]}
+%%
+apply m.json
+manifest M1 m.json
+
+%%
+apply m.json
+manifest M2 m.json
+== m.json
+{
+%%
+plan ../a.c
+manifest M4 ../a.c
+"#;
+
 #[test]
 fn there_is_no_plan_of_what_cannot_be_read(rt: HostRuntime) -> Result<(), Fail> {
-    for (line, files, status, output) in [
-        ("apply a.c", "", 3, "a.c:1:1: refusal 7 NotFound\n"),
-        ("plan a.c", "", 3, "a.c:1:1: refusal 7 NotFound\n"),
-        (
-            "apply a.c",
-            "== a.c\n#define F(x) x\nint a = F(1",
-            3,
-            "a.c:2:9: refusal 9 Arguments\n",
-        ),
-        (
-            "plan a.c",
-            "== a.c\n#define F(x) x\nint a = F(1",
-            3,
-            "a.c:2:9: refusal 9 Arguments\n",
-        ),
-        (
-            "apply a.c",
-            "== a.c\nint a; /* x",
-            3,
-            "a.c:1:8: refusal 2 Comment\n",
-        ),
-        (
-            "plan a.c",
-            "== a.c\nint a; /* x",
-            3,
-            "a.c:1:8: refusal 2 Comment\n",
-        ),
-        (
-            "apply a.c",
-            "== a.c\nint a = ;\n",
-            3,
-            "a.c:1:1: refusal 16 Syntax\n",
-        ),
-        (
-            "apply a.c",
-            "== a.c\nint a; long a;\n",
-            3,
-            "a.c:1:13: refusal 17 Type C2\n",
-        ),
-        (
-            "apply m.json",
-            "== m.json\n{\"units\":[{\"file\":\"a.c\"},{\"file\":\"b.c\"}]}== a.c\n#define N 1\nint a = N;\n== b.c\n#endif\n",
-            3,
-            "b.c:1:1: refusal 6 Conditionals\n",
-        ),
-        (
-            "apply a.c",
-            "== a.c\n#include \"a.c\"\n",
-            4,
-            "limit L4 a.c\n",
-        ),
-        (
-            "apply m.json",
-            "== m.json\n{\"units\":[{\"file\":\"a.c\",\"x\":1}]}",
-            2,
-            "manifest M3 units/0/x\n",
-        ),
-        (
-            "apply m.json",
-            "== m.json\n{\"units\":[{\"file\":\"../a.c\"}]}",
-            2,
-            "manifest M4 units/0/file\n",
-        ),
-        (
-            "apply m.json",
-            "== m.json\n{\"units\":[{\"file\":\"a.c\",\"define\":[\"1N\"]}]}",
-            2,
-            "manifest M5 units/0/define/0\n",
-        ),
-        (
-            "apply m.json",
-            "== m.json\n{\"units\":[{\"file\":\"a.c\"},{\"file\":\"a.c\"}]}",
-            2,
-            "manifest M6 units/1\n",
-        ),
-        ("apply m.json", "", 2, "manifest M1 m.json\n"),
-        ("apply m.json", "== m.json\n{", 2, "manifest M2 m.json\n"),
-        ("plan ../a.c", "", 2, "manifest M4 ../a.c\n"),
-    ] {
-        expect(&rt, line, files, status, output)?;
-    }
-    Ok(())
+    expect_stops(&rt, 3, REFUSED)?;
+    expect_stops(&rt, 2, FAULTY)?;
+    expect(
+        &rt,
+        "apply a.c",
+        "== a.c\n#include \"a.c\"\n",
+        4,
+        "limit L4 a.c\n",
+    )
 }
 
 /// Three units that each have a macro. Their project's files are read first, by the calls 0 to 3 of the folder, and then written.

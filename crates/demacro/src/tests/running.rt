@@ -1,7 +1,7 @@
 //! Calls of `run` on small programs.
 
 use super::USAGE;
-use super::calls::{expect, expect_failing};
+use super::calls::{expect, expect_failing, expect_stops};
 use std::test::Fail;
 
 #[test]
@@ -74,33 +74,59 @@ fn reads_its_input(rt: HostRuntime) -> Result<(), Fail> {
     )
 }
 
+const REFUSED: &str = r#"run a.c a.c
+a.c:1:1: refusal 19 NoMain
+== a.c
+int a;
+
+%%
+run a.c a.c
+a.c:1:1: refusal 19 NoMain
+== a.c
+
+
+int main(void);
+
+%%
+run a.c a.c
+a.c:1:1: refusal 19 NoMain
+== a.c
+
+%%
+run a.c a.c
+a.c:2:25: refusal 17 Type C1
+== a.c
+int a;
+int main(void) { return b; }
+
+%%
+run a.c a.c
+a.c:1:25: refusal 15 Constant
+== a.c
+int main(void) { return 08; }
+
+%%
+run a.c a.c
+a.c:1:1: refusal 16 Syntax
+== a.c
+int main(void) { return 0 }
+
+%%
+run a.c a.c
+a.c:1:6: refusal 17 Type C36
+== a.c
+long main(void) { return 0; }
+
+%%
+run a.c a.c
+a.c:1:1: refusal 13 Condition
+== a.c
+#if
+"#;
+
 #[test]
 fn refuses_units_without_a_program(rt: HostRuntime) -> Result<(), Fail> {
-    for (lines, output) in [
-        ("int a;\n", "a.c:1:1: refusal 19 NoMain\n"),
-        ("\n\nint main(void);\n", "a.c:1:1: refusal 19 NoMain\n"),
-        ("", "a.c:1:1: refusal 19 NoMain\n"),
-        (
-            "int a;\nint main(void) { return b; }\n",
-            "a.c:2:25: refusal 17 Type C1\n",
-        ),
-        (
-            "int main(void) { return 08; }\n",
-            "a.c:1:25: refusal 15 Constant\n",
-        ),
-        (
-            "int main(void) { return 0 }\n",
-            "a.c:1:1: refusal 16 Syntax\n",
-        ),
-        (
-            "long main(void) { return 0; }\n",
-            "a.c:1:6: refusal 17 Type C36\n",
-        ),
-        ("#if\n", "a.c:1:1: refusal 13 Condition\n"),
-    ] {
-        let files = format!(in rt.alloc(); "== a.c\n{lines}")?;
-        expect(&rt, "run a.c a.c", files.as_str(), 3, output)?;
-    }
+    expect_stops(&rt, 3, REFUSED)?;
     expect(&rt, "run a.c a.c", "", 3, "a.c:1:1: refusal 7 NotFound\n")
 }
 
@@ -112,30 +138,30 @@ fn tells_faults_of_the_sink(rt: HostRuntime) -> Result<(), Fail> {
     expect_failing(&rt, "run b.c b.c", files, &[], &[0], 3, "")
 }
 
+const WORDS: &str = r#"run
+run a.c
+run a.c a.c a.c
+run a.c -a.c
+run a.c a.c --order
+run a.c a.c --order=
+run a.c a.c --order x
+run a.c a.c --order -1
+run a.c a.c --order 1 --order 1
+run a.c a.c --steps 000000000000000000001
+run a.c a.c --steps 18446744073709551616
+run a.c a.c --steps=1 --steps=2
+run a.c a.c --input
+run a.c a.c --input=
+run a.c a.c --input -
+run a.c a.c --in a.c
+run a.c a.c --
+run a.c a.c --help
+run  a.c a.c
+Run a.c a.c"#;
+
 #[test]
 fn refuses_words_that_ask_for_no_run(rt: HostRuntime) -> Result<(), Fail> {
-    for line in [
-        "run",
-        "run a.c",
-        "run a.c a.c a.c",
-        "run a.c -a.c",
-        "run a.c a.c --order",
-        "run a.c a.c --order=",
-        "run a.c a.c --order x",
-        "run a.c a.c --order -1",
-        "run a.c a.c --order 1 --order 1",
-        "run a.c a.c --steps 000000000000000000001",
-        "run a.c a.c --steps 18446744073709551616",
-        "run a.c a.c --steps=1 --steps=2",
-        "run a.c a.c --input",
-        "run a.c a.c --input=",
-        "run a.c a.c --input -",
-        "run a.c a.c --in a.c",
-        "run a.c a.c --",
-        "run a.c a.c --help",
-        "run  a.c a.c",
-        "Run a.c a.c",
-    ] {
+    for line in WORDS.split('\n') {
         expect(
             &rt,
             line,

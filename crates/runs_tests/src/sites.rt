@@ -8,6 +8,7 @@ use dm_tree::{
 };
 use dm_type::{Shape, TypeId, Types};
 use std::alloc::Global;
+use std::process::Abort;
 use std::test::Fail;
 
 /// Some tokens.
@@ -108,46 +109,79 @@ fn unit(alloc: Global, int: TypeId, value: Core) -> Result<CoreUnit, Memory> {
     })
 }
 
-#[test]
-fn places_are_found_by_their_tokens(rt: HostRuntime) -> Result<(), Fail> {
-    let mut types = Types::new(rt.alloc())?;
+/// A unit whose function returns `1 + (x)`, where `1` is the token 11 and `x` the token 14 inside its parentheses.
+fn sum(alloc: Global) -> Result<CoreUnit, Memory> {
+    let mut types = Types::new(alloc)?;
     let int = types.intern(Shape::Integer(Kind::Int))?;
-    let one = Boxed::new(rt.alloc(), node(Form::Number(1), int, 11, 12))?;
-    let read = enclosed_read(rt.alloc(), int, 14, tokens(13, 16))?;
-    let read = Boxed::new(rt.alloc(), read)?;
-    let sum = node(Form::Binary(Op::Add, one, read), int, 11, 16);
-    let unit = unit(rt.alloc(), int, sum)?;
-    let sites = Sites::of(rt.alloc(), &unit)?;
-    assert_eq!(rt; sites.find(tokens(3, 4)), Some(0));
-    assert_eq!(rt; sites.find(tokens(11, 16)), Some(1));
-    assert_eq!(rt; sites.find(tokens(11, 12)), Some(2));
-    assert_eq!(rt; sites.find(tokens(14, 15)), Some(3));
-    assert_eq!(rt; sites.find(tokens(13, 16)), Some(3));
-    assert_eq!(rt; sites.find(tokens(13, 15)), None);
-    let way = sites.path(rt.alloc(), 4)?;
-    assert!(rt; way.items() == [1usize, 0].as_slice());
+    let one = Boxed::new(alloc, node(Form::Number(1), int, 11, 12))?;
+    let read = enclosed_read(alloc, int, 14, tokens(13, 16))?;
+    let read = Boxed::new(alloc, read)?;
+    unit(
+        alloc,
+        int,
+        node(Form::Binary(Op::Add, one, read), int, 11, 16),
+    )
+}
+
+/// Checks which places are found by which tokens.
+fn expect_found<R: Abort>(rt: &R, sites: &Sites) {
+    let rows = [
+        (tokens(3, 4), Some(0)),
+        (tokens(11, 16), Some(1)),
+        (tokens(11, 12), Some(2)),
+        (tokens(14, 15), Some(3)),
+        (tokens(13, 16), Some(3)),
+        (tokens(13, 15), None),
+    ];
+    for (span, wanted) in rows {
+        assert_eq!(rt; sites.find(span), wanted);
+    }
+}
+
+/// Checks what stands round the first place, and that there are five.
+fn expect_initialiser<R: Abort>(rt: &R, sites: &Sites) {
     let Some(site) = sites.get(0) else {
         panic!(rt; "no place");
     };
     assert!(rt; site.fixed && !site.constant && !site.unevaluated);
     assert!(rt; sites.get(5).is_none());
+}
+
+#[test]
+fn places_are_found_by_their_tokens(rt: HostRuntime) -> Result<(), Fail> {
+    let unit = sum(rt.alloc())?;
+    let sites = Sites::of(rt.alloc(), &unit)?;
+    expect_found(&rt, &sites);
+    expect_initialiser(&rt, &sites);
+    let way = sites.path(rt.alloc(), 4)?;
+    assert!(rt; way.items() == [1usize, 0].as_slice());
     Ok(())
+}
+
+/// A unit whose function returns 100,001 numbers behind one another, with commas between them.
+fn commas(alloc: Global) -> Result<CoreUnit, Memory> {
+    let mut types = Types::new(alloc)?;
+    let int = types.intern(Shape::Integer(Kind::Int))?;
+    let mut tree = node(Form::Number(0), int, 20, 21);
+    for _part in 0..100000u32 {
+        let last = Boxed::new(alloc, node(Form::Number(1), int, 22, 23))?;
+        let first = Boxed::new(alloc, tree)?;
+        tree = node(Form::Comma(first, last), int, 20, 30);
+    }
+    unit(alloc, int, tree)
+}
+
+/// Checks where the whole and its first number are found.
+fn expect_ends<R: Abort>(rt: &R, sites: &Sites) {
+    assert_eq!(rt; sites.find(tokens(20, 30)), Some(1));
+    assert_eq!(rt; sites.find(tokens(20, 21)), Some(100001));
 }
 
 #[test]
 fn a_hundred_thousand_commas_are_walked_over(rt: HostRuntime) -> Result<(), Fail> {
-    let mut types = Types::new(rt.alloc())?;
-    let int = types.intern(Shape::Integer(Kind::Int))?;
-    let mut tree = node(Form::Number(0), int, 20, 21);
-    for _part in 0..100000u32 {
-        let last = Boxed::new(rt.alloc(), node(Form::Number(1), int, 22, 23))?;
-        let first = Boxed::new(rt.alloc(), tree)?;
-        tree = node(Form::Comma(first, last), int, 20, 30);
-    }
-    let unit = unit(rt.alloc(), int, tree)?;
+    let unit = commas(rt.alloc())?;
     let sites = Sites::of(rt.alloc(), &unit)?;
-    assert_eq!(rt; sites.find(tokens(20, 30)), Some(1));
-    assert_eq!(rt; sites.find(tokens(20, 21)), Some(100001));
+    expect_ends(&rt, &sites);
     let way = sites.path(rt.alloc(), 100001)?;
     assert_eq!(rt; way.items().len(), 100000);
     Ok(())

@@ -1,5 +1,0 @@
-//! Tests of the calls of `dm_sites`.
-#![tactic(auto)]
-
-#[cfg(test)]
-mod sites;
