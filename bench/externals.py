@@ -8,7 +8,7 @@ import sys
 from compare import best
 
 PAIRS = {
-    "external_tests": [
+    "syntax_tests": [
         ("reads_100_000_statements", "reads_200_000_statements"),
         ("reads_100_000_labels", "reads_200_000_labels"),
         ("reads_150_000_initialisers", "reads_300_000_initialisers"),

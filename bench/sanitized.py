@@ -133,6 +133,9 @@ def differences(program, body, cause):
 
 
 def main():
+    if len(sys.argv) != 2:
+        print(__doc__)
+        sys.exit(2)
     program = os.path.realpath(sys.argv[1])
     programs = [(body, cause) for cause, bodies in UNDEFINED.items() for body in bodies] + [(body, None) for body in DEFINED]
     count = 0
