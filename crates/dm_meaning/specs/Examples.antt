@@ -400,43 +400,43 @@ put_elsewhere =
     (external 3 (Some one_expression) (tree 0 convert text (tree 0 decay (pointer (integer Char)) (named (array (integer Char) (Some 3)) 2 ∷ []) ∷ []) ∷ []) ∷
     defined 0 [] (statement (called 7 1 int (value_at 0 text (named text 3) ∷ [])) ∷ returned (constant 0) ∷ []) ∷ [])
 
--- a row of two, and an element of one: pointer[index]
-abbrev row : CType
-row = array int (Some 2)
+-- an array of two, and an element of such a one: pointer[index]
+abbrev pair : CType
+pair = array int (Some 2)
 
-abbrev rows : CType
-rows = array row (Some 2)
+abbrev pairs : CType
+pairs = array pair (Some 2)
 
-abbrev in_row : CType → ℕ → Tree → ℕ → Tree
-in_row kind n pointed index = tree 0 follow kind (tree 0 (binary Add) (pointer kind) (tree n decay (pointer kind) (pointed ∷ []) ∷ constant index ∷ []) ∷ [])
+abbrev element_at : CType → ℕ → Tree → ℕ → Tree
+element_at kind n pointed index = tree 0 follow kind (tree 0 (binary Add) (pointer kind) (tree n decay (pointer kind) (pointed ∷ []) ∷ constant index ∷ []) ∷ [])
 
-abbrev cell : ℕ → ℕ → ℕ → Tree
-cell d m n = in_row int 0 (in_row row 0 (named rows d) m) n
+abbrev element_of : ℕ → ℕ → ℕ → Tree
+element_of matrix outer inner = element_at int 0 (element_at pair 0 (named pairs matrix) outer) inner
 
 -- int m[2][2] = { { m[1][0] = 3, 5 }, { m[1][0] } }; return m[1][n];
 abbrev pub listed_again : ℕ → Program
-listed_again n = alone (local (codes "m") rows ∷ [])
+listed_again n = alone (local (codes "m") pairs ∷ [])
     (declared_with 1 (Some (in_braces (more_items (in_braces (more_items one_expression (more_items one_expression no_items))) (more_items (in_braces (more_items one_expression no_items)) no_items))))
-    (assigned 0 int (cell 1 1 0) (constant 3) ∷ constant 5 ∷ value_at 0 int (cell 1 1 0) ∷ []) ∷
-    returned (value_at 0 int (cell 1 1 n)) ∷ [])
+    (assigned 0 int (element_of 1 1 0) (constant 3) ∷ constant 5 ∷ value_at 0 int (element_of 1 1 0) ∷ []) ∷
+    returned (value_at 0 int (element_of 1 1 n)) ∷ [])
 
 -- int m[2][2] = { { 1, 2 }, { 3, 4 } }; const int (*p)[2] = (const int (*)[2])m; return (*(p + 1))[0];
 abbrev const_row : CType
 const_row = array (const int) (Some 2)
 
 abbrev pub const_rows : Program
-const_rows = alone (local (codes "m") rows ∷ local (codes "p") (pointer const_row) ∷ [])
+const_rows = alone (local (codes "m") pairs ∷ local (codes "p") (pointer const_row) ∷ [])
     (declared_with 1 (Some (in_braces (more_items (in_braces (more_items one_expression (more_items one_expression no_items))) (more_items (in_braces (more_items one_expression (more_items one_expression no_items))) no_items))))
     (constant 1 ∷ constant 2 ∷ constant 3 ∷ constant 4 ∷ []) ∷
-    declared_as 2 (tree 0 convert (pointer const_row) (tree 0 decay (pointer row) (named rows 1 ∷ []) ∷ [])) ∷
-    returned (value_at 0 int (in_row (const int) 0 (tree 0 follow const_row (tree 0 (binary Add) (pointer const_row) (value_at 0 (pointer const_row) (named (pointer const_row) 2) ∷ constant 1 ∷ []) ∷ [])) 0)) ∷ [])
+    declared_as 2 (tree 0 convert (pointer const_row) (tree 0 decay (pointer pair) (named pairs 1 ∷ []) ∷ [])) ∷
+    returned (value_at 0 int (element_at (const int) 0 (tree 0 follow const_row (tree 0 (binary Add) (pointer const_row) (value_at 0 (pointer const_row) (named (pointer const_row) 2) ∷ constant 1 ∷ []) ∷ [])) 0)) ∷ [])
 
 -- int i = 1; int (*p)[2] = (void *)&i; return (*p)[0];
 abbrev pub array_over_int : Program
-array_over_int = alone (local (codes "i") int ∷ local (codes "p") (pointer row) ∷ [])
+array_over_int = alone (local (codes "i") int ∷ local (codes "p") (pointer pair) ∷ [])
     (declared_as 1 (constant 1) ∷
-    declared_as 2 (tree 0 convert (pointer row) (tree 0 convert (pointer void) (tree 0 address (pointer int) (named int 1 ∷ []) ∷ []) ∷ [])) ∷
-    returned (value_at 0 int (in_row int 7 (tree 0 follow row (value_at 0 (pointer row) (named (pointer row) 2) ∷ [])) 0)) ∷ [])
+    declared_as 2 (tree 0 convert (pointer pair) (tree 0 convert (pointer void) (tree 0 address (pointer int) (named int 1 ∷ []) ∷ []) ∷ [])) ∷
+    returned (value_at 0 int (element_at int 7 (tree 0 follow pair (value_at 0 (pointer pair) (named (pointer pair) 2) ∷ [])) 0)) ∷ [])
 
 -- enum { SIX = 6 }; int main(void) { return SIX; }
 abbrev pub six : Tree

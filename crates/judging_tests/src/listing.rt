@@ -49,25 +49,25 @@ const CHANGED: &str = r#"a.c
 #include "b.h"
 #include "B.h"
 #include "k.h"
-#define K1 1
-int x = R1 + R2 + R3 + R4 + K1 + K2;
+#define KIND 1
+int x = RATE + ROOM + RANK + REST + KIND + KNOT;
 @z.h
-#define R1 1
-#define R2 2
+#define RATE 1
+#define ROOM 2
 @b.h
-#define R3 3
+#define RANK 3
 @B.h
-#define R4 4
+#define REST 4
 @k.h
-#define K2 5
+#define KNOT 5
 =>
 B.h
-#define R4 4
+#define REST 4
 @b.h
-#define R3 3
+#define RANK 3
 @z.h
-#define R1 1
-#define R2 2"#;
+#define RATE 1
+#define ROOM 2"#;
 
 /// Puts a definition's name, its file and the line of its `#`.
 fn put_subject(out: &mut String, loader: &Loader, subject: &Subject) -> Result<(), Fail> {
