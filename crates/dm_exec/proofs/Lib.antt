@@ -5,3 +5,4 @@ pub mod DueLemmas
 pub mod BeginLemmas
 pub mod EvaluatedLemmas
 pub mod TakeLemmas
+pub mod BesideLemmas

@@ -89,14 +89,6 @@ module _ (table : Table) (program : Program) (choice : ℕ) (old new : Running) 
   unfolding chosen_step
   took-value next value did is left = subst (λ (next : Next). IsLeft table did new (taken next)) (sym is) left
 
-  -- the step of an expression
-  pub advanced : (ongoing : Ongoing) (did : Turn)
-      → IsLeft table did new (chosen (state_with table tasks old) choice (expression_steps program (in_order (memory_of table old)) (state_with table tasks old) (tasks_of table old.frame)
-      ongoing.place (view_of_use table ongoing.use_of) (run_of table ongoing.expression)))
-      → IsLeft table did new (chosen_step program choice (state_with table tasks old) (view_of_full table (Goes ongoing) ∷ tasks_of table old.frame))
-  unfolding chosen_step
-  advanced ongoing did left = left
-
   -- its end
   pub ended-left : (ongoing : Ongoing) (did : Turn) (row : List (Item Operand Waiting)) (run : Run) (given : Evaluation) (found : IsResult table row run) → run_of table ongoing.expression ≡ run
       → given ≡ found.operand.result

@@ -27,8 +27,26 @@ pub(crate) enum Due<'a> {
     Closes,
 }
 
-/// Takes out what comes next where no full expression is under evaluation. Loops go on to it without a step.
-pub(crate) fn task_due<'a>(
+/// Takes out what comes next.
+pub(crate) fn next_due<'a>(
+    alloc: Global,
+    program: &Program<'a>,
+    running: &mut Running<'a>,
+) -> Result<Due<'a>, Memory>
+    requires { RunningFits program.now.table running.old }
+    ensures { IfOk result (λ due. IsDue program.now.table (tasks_with program.now.table running.old.full running.old.frame) due running.old running.new) }
+{
+    if running.full.is_some() {
+        let due = expression_due(alloc, program, running)?;
+        Ok(due)
+    } else {
+        let due = task_due(alloc, program, running)?;
+        Ok(due)
+    }
+}
+
+/// The same where no full expression is under evaluation. Loops go on to it without a step.
+fn task_due<'a>(
     alloc: Global,
     program: &Program<'a>,
     running: &mut Running<'a>,
@@ -104,11 +122,7 @@ fn under_evaluation<'a>(
 }
 
 /// A full expression begins (6.8p4).
-pub(crate) fn begin<'a>(
-    alloc: Global,
-    program: &Program<'a>,
-    begun: Begun<'a>,
-) -> Result<Ongoing<'a>, Memory>
+fn begin<'a>(alloc: Global, program: &Program<'a>, begun: Begun<'a>) -> Result<Ongoing<'a>, Memory>
     requires { FullFits program.now.table (Some (Begins begun)) }
     ensures same { IfOk result (λ one. view_of_full program.now.table (Goes one) ≡ view_of_full program.now.table (Begins begun.entry)) }
     ensures fits { IfOk result (OngoingFits program.now.table) }

@@ -10,7 +10,7 @@ ghost use Rattle.dm_exec.specs.Runs.{after_seen};
 
 use crate::order::Choices;
 use crate::outcome::Outcome;
-use crate::state::State;
+use crate::state::{Going, State};
 use crate::steps::{start, step};
 use dm_meaning::chosen_runs;
 use dm_primitive::Streams;
@@ -63,7 +63,12 @@ fn take_steps<'a>(
 fn outcome_of(state: State) -> Result<Outcome, Memory>
     ensures { (table : Table) → IfOk result (λ outcome. option_map outcome_seen (shown table state.entry) ≡ Some outcome) }
 {
-    let State { running, turn } = state;
+    let State { going, turn } = state;
+    let Going {
+        running,
+        ongoing: _ongoing,
+        goes: _,
+    } = going;
     let output = output_of(running);
     match turn {
         Some(Turn::Went) => Ok(Outcome::Running { output }),

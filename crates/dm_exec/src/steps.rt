@@ -5,10 +5,11 @@ ghost use Rattle.dm_program.specs.Sources.{meant};
 ghost use Rattle.dm_state.specs.Fits.{RunningFits};
 ghost use Rattle.dm_state.specs.Views.{view_of_running};
 ghost use Rattle.dm_exec.specs.Outcomes.{IsStart, IsStep, IsStepOf};
-ghost use Rattle.dm_exec.specs.Shown.{shown, StateFits};
+ghost use Rattle.dm_exec.specs.Shown.{running_in, shown, IsApart, StateFits};
 
-use crate::state::State;
+use crate::state::{Going, State};
 use crate::taking::take_step;
+use dm_move::no_expression;
 use dm_program::Program;
 use dm_state::Turn;
 use dm_token::Memory;
@@ -20,8 +21,13 @@ pub fn start<'a>(alloc: Global, program: &Program<'a>, input: &'a [u8]) -> Resul
     ensures fits { IfOk result (StateFits program.now.table) }
 {
     let running = dm_start::start(alloc, program, input)?;
-    Ok(State {
+    let going = Going {
         running,
+        ongoing: no_expression(alloc),
+        goes: false,
+    };
+    Ok(State {
+        going,
         turn: Some(Turn::Went),
     })
 }
@@ -56,12 +62,13 @@ fn next_step<'a>(
     state: &mut State<'a>,
     choice: usize,
 ) -> Result<Turn, Memory>
-    requires { RunningFits program.now.table state.old.running }
-    ensures step { IsStepOf (meant program.now) choice (view_of_running program.now.table state.old.running) result (shown program.now.table state.new) }
+    requires fits { RunningFits program.now.table (running_in state.old.going) }
+    requires apart { IsApart state.old.going }
+    ensures step { IsStepOf (meant program.now) choice (view_of_running program.now.table (running_in state.old.going)) result (shown program.now.table state.new) }
     ensures fits { StateFits program.now.table state.new }
 {
     state.turn = None;
-    let turn = take_step(alloc, program, &mut state.running, choice)?;
+    let turn = take_step(alloc, program, &mut state.going, choice)?;
     state.turn = Some(turn);
     Ok(turn)
 }

@@ -1,6 +1,6 @@
 //! Steps of a run that goes on (5.1.2.3).
 
-ghost use Rattle.std.specs.Prelude.{◌≡◌, ◌∷◌, ◌++◌, ℕ, List, [], None, Some, length, IfOk, IsSome};
+ghost use Rattle.std.specs.Prelude.{◌≡◌, ◌∷◌, ◌++◌, ℕ, List, [], None, Some, false, length, IfOk};
 ghost use Rattle.dm_meaning.specs.States.{Task};
 ghost use Rattle.dm_frame.specs.Frames.{tasks_of};
 ghost use Rattle.dm_frame.specs.Nexts.{next_task, NextFits};
@@ -16,110 +16,111 @@ ghost use Rattle.dm_state.specs.Turns.{state_with, IsLeft};
 ghost use Rattle.dm_state.specs.Views.{view_of_full, view_of_running};
 ghost use Rattle.dm_exec.specs.Due.{chosen_step, TakesStep};
 ghost use Rattle.dm_exec.specs.Runs.{next_state};
+ghost use Rattle.dm_exec.specs.Shown.{running_in, HasLeft, IsApart};
 
-use crate::due::{Due, begin, task_due};
-use dm_expression::{Expression, Waiting};
+use crate::due::{Due, next_due};
+use crate::state::Going;
+use dm_expression::Waiting;
 use dm_frame::Next;
-use dm_move::advance;
+use dm_move::{Progress, advance};
 use dm_operate::{Evaluation, Operand};
 use dm_program::Program;
 use dm_row::{Item, Row};
-use dm_state::{Full, Ongoing, Running, Turn};
+use dm_state::{Ongoing, Running, Turn};
 use dm_token::Memory;
-use dm_value::At;
 use std::alloc::Global;
+use std::mem;
 
 /// The step of a number, counted from 0 from the left, or the last.
 pub(crate) fn take_step<'a>(
     alloc: Global,
     program: &Program<'a>,
-    running: &mut Running<'a>,
+    going: &mut Going<'a>,
     choice: usize,
 ) -> Result<Turn, Memory>
-    requires { RunningFits program.now.table running.old }
-    ensures { IfOk result (λ turn. IsLeft program.now.table turn running.new (next_state (meant program.now) choice (view_of_running program.now.table running.old))) }
+    requires fits { RunningFits program.now.table (running_in going.old) }
+    requires apart { IsApart going.old }
+    ensures { IfOk result (λ turn. HasLeft program.now.table turn going.new (next_state (meant program.now) choice (view_of_running program.now.table (running_in going.old)))) }
 {
-    if running.full.is_some() {
-        let turn = go_on(alloc, program, running, choice)?;
+    if going.goes {
+        let turn = evaluate(alloc, program, going, choice)?;
         Ok(turn)
     } else {
-        let turn = go_to(alloc, program, running, choice)?;
+        let turn = go_to(alloc, program, going, choice)?;
         Ok(turn)
     }
 }
 
-/// The same where a full expression is under evaluation, of which maybe nothing is evaluated.
-fn go_on<'a>(
-    alloc: Global,
-    program: &Program<'a>,
-    running: &mut Running<'a>,
-    choice: usize,
-) -> Result<Turn, Memory>
-    requires some { IsSome running.old.full }
-    requires fits { RunningFits program.now.table running.old }
-    ensures { IfOk result (λ turn. IsLeft program.now.table turn running.new (next_state (meant program.now) choice (view_of_running program.now.table running.old))) }
-{
-    match running.full.take() {
-        Some(Full::Goes(ongoing)) => {
-            let turn = evaluate(alloc, program, running, ongoing, choice)?;
-            Ok(turn)
-        }
-        Some(Full::Begins(begun)) => {
-            let ongoing = begin(alloc, program, begun)?;
-            let turn = evaluate(alloc, program, running, ongoing, choice)?;
-            Ok(turn)
-        }
-        None => unreachable!(),
-    }
-}
-
-/// The same where no full expression is under evaluation.
+/// The same where no full expression goes on beside the rest.
 fn go_to<'a>(
     alloc: Global,
     program: &Program<'a>,
-    running: &mut Running<'a>,
+    going: &mut Going<'a>,
     choice: usize,
 ) -> Result<Turn, Memory>
-    requires none { running.old.full ≡ None }
-    requires fits { RunningFits program.now.table running.old }
-    ensures { IfOk result (λ turn. IsLeft program.now.table turn running.new (next_state (meant program.now) choice (view_of_running program.now.table running.old))) }
+    requires goes { going.old.goes ≡ false }
+    requires fits { RunningFits program.now.table going.old.running }
+    ensures { IfOk result (λ turn. HasLeft program.now.table turn going.new (next_state (meant program.now) choice (view_of_running program.now.table going.old.running))) }
 {
-    match task_due(alloc, program, running)? {
+    match next_due(alloc, program, &mut going.running)? {
         Due::Evaluates(ongoing) => {
-            let turn = evaluate(alloc, program, running, ongoing, choice)?;
+            hold(going, ongoing);
+            let turn = evaluate(alloc, program, going, choice)?;
             Ok(turn)
         }
         Due::Takes(next) => {
-            let turn = take(alloc, program, running, next)?;
+            let turn = take(alloc, program, &mut going.running, next)?;
             Ok(turn)
         }
         Due::Closes => {
-            let turn = running.close(program)?;
+            let turn = going.running.close(program)?;
             Ok(turn)
         }
     }
 }
 
-/// The step of a full expression, or its end where it is evaluated (6.8p4).
+/// A full expression stands beside the rest.
+fn hold<'a>(going: &mut Going<'a>, ongoing: Ongoing<'a>)
+    ensures running { going.new.running ≡ going.old.running }
+    ensures ongoing { going.new.ongoing ≡ ongoing.entry }
+{
+    drop(mem::replace(&mut going.ongoing, ongoing));
+}
+
+/// The step of a full expression that stands beside the rest, or its end where it is evaluated (6.8p4).
 fn evaluate<'a>(
     alloc: Global,
     program: &Program<'a>,
-    running: &mut Running<'a>,
-    ongoing: Ongoing<'a>,
+    going: &mut Going<'a>,
     choice: usize,
 ) -> Result<Turn, Memory>
-    requires none { running.old.full ≡ None }
-    requires fits { RunningFits program.now.table running.old }
-    requires ongoing { OngoingFits program.now.table ongoing }
-    ensures { (tasks : List Task) → IfOk result (λ turn. IsLeft program.now.table turn running.new
-        (chosen_step (meant program.now) choice (state_with program.now.table tasks running.old) (view_of_full program.now.table (Goes ongoing.entry) ∷ tasks_of program.now.table running.old.frame))) }
+    requires none { going.old.running.full ≡ None }
+    requires fits { RunningFits program.now.table going.old.running }
+    requires ongoing { OngoingFits program.now.table going.old.ongoing }
+    ensures { (tasks : List Task) → IfOk result (λ turn. HasLeft program.now.table turn going.new
+        (chosen_step (meant program.now) choice (state_with program.now.table tasks going.old.running) (view_of_full program.now.table (Goes going.old.ongoing) ∷ tasks_of program.now.table going.old.running.frame))) }
 {
-    if ongoing.expression.is_evaluated() {
-        let turn = conclude(alloc, program, running, ongoing)?;
+    if going.ongoing.expression.is_evaluated() {
+        going.goes = false;
+        let turn = conclude(alloc, program, &mut going.running, &mut going.ongoing)?;
         Ok(turn)
     } else {
-        let turn = advance(running, alloc, program, ongoing, choice)?;
-        Ok(turn)
+        match advance(
+            &mut going.running,
+            alloc,
+            program,
+            &mut going.ongoing,
+            choice,
+        )? {
+            Progress::GoesOn => {
+                going.goes = true;
+                Ok(Turn::Went)
+            }
+            Progress::Left(turn) => {
+                going.goes = false;
+                Ok(turn)
+            }
+        }
     }
 }
 
@@ -128,35 +129,26 @@ fn conclude<'a>(
     alloc: Global,
     program: &Program<'a>,
     running: &mut Running<'a>,
-    ongoing: Ongoing<'a>,
+    ongoing: &mut Ongoing<'a>,
 ) -> Result<Turn, Memory>
     requires none { running.old.full ≡ None }
     requires fits { RunningFits program.now.table running.old }
-    requires ongoing { OngoingFits program.now.table ongoing }
-    requires evaluated { ready_in 0 (ongoing.expression.row.0 ++ ongoing.expression.row.1) ≡ 0 }
+    requires ongoing { OngoingFits program.now.table ongoing.old }
+    requires evaluated { ready_in 0 (ongoing.old.expression.row.0 ++ ongoing.old.expression.row.1) ≡ 0 }
     ensures { (tasks : List Task) (choice : ℕ) → IfOk result (λ turn. IsLeft program.now.table turn running.new
-        (chosen_step (meant program.now) choice (state_with program.now.table tasks running.old) (view_of_full program.now.table (Goes ongoing.entry) ∷ tasks_of program.now.table running.old.frame))) }
+        (chosen_step (meant program.now) choice (state_with program.now.table tasks running.old) (view_of_full program.now.table (Goes ongoing.old) ∷ tasks_of program.now.table running.old.frame))) }
 {
-    let Ongoing {
-        place,
-        expression,
-        use_of,
-    } = ongoing;
-    let result = result_of(expression);
-    let turn = running.conclude(alloc, program, place, &use_of, &result)?;
+    let result = result_of(&mut ongoing.expression.row);
+    let turn = running.conclude(alloc, program, ongoing.place, &ongoing.use_of, &result)?;
     Ok(turn)
 }
 
-/// What an expression gave that is evaluated: its row is one result.
-fn result_of(expression: Expression<'_, Operand, At>) -> Evaluation
-    requires { (operand : AnyOperand) × (weight : ℕ) × (expression.row.0 ++ expression.row.1 ≡ Done operand weight ∷ []) }
-    ensures { (operand : AnyOperand) (weight : ℕ) → expression.entry.row.0 ++ expression.entry.row.1 ≡ Done operand weight ∷ [] → result ≡ operand.result }
+/// What an expression gave that is evaluated: its row is one result, which is taken out.
+fn result_of(row: &mut Row<Operand, Waiting<'_>>) -> Evaluation
+    requires { (operand : AnyOperand) × (weight : ℕ) × (row.old.0 ++ row.old.1 ≡ Done operand weight ∷ []) }
+    ensures { (operand : AnyOperand) (weight : ℕ) → row.old.0 ++ row.old.1 ≡ Done operand weight ∷ [] → result ≡ operand.result }
 {
-    let Expression {
-        mut row,
-        locks: _locks,
-    } = expression;
-    match only_item(&mut row) {
+    match only_item(row) {
         Some(Item::Done(operand, _)) => operand.result,
         Some(Item::Waits(_, _)) | None => unreachable!(),
     }

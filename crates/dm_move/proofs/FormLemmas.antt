@@ -235,12 +235,6 @@ module _ (table : Table) (scene : Scene) (world : World) (held : List At) (kind 
 
 -- ---- operands that are evaluated next fit
 
-and-second : (a b : Bool) → IsTrue (a && b) → IsTrue b
-and-second a b h = (and_parts a b h).1
-
-and-first : (a b : Bool) → IsTrue (a && b) → IsTrue a
-and-first a b h = (and_parts a b h).0
-
 known-form : (n : ℕ) (core : Core) → IsTrue (are_known n core) → IsTrue (are_known_in_form n (out-Core core).form)
 known-form n core h = (and_parts _ _ (sym (are_known-core n core) ∙ h)).1
 

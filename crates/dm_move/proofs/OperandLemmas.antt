@@ -1,7 +1,6 @@
 -- Results of operands, and what names stand for.
-use Rattle.std.proofs.Common.{◌≡◌, ℕ, ◌==◌, Bool, true, false, List, [], ◌∷◌, ◌++◌, map, reverse, Option, Some, None, if◌then◌else◌, refl, sym, ap, ◌∙◌, append_assoc}
+use Rattle.std.proofs.Common.{◌≡◌, ℕ, ◌==◌, Bool, true, false, List, [], ◌∷◌, ◌++◌, map, Option, Some, None, if◌then◌else◌, refl, sym, ap, ◌∙◌}
 use Rattle.std.proofs.lemmas.Bool.{eqb-true}
-use Rattle.std.proofs.lemmas.List.{reverse-append}
 use Rattle.std.proofs.lemmas.Option.{none-some, same_Some}
 use Rattle.dm_type.specs.Tables.{Table}
 use Rattle.dm_meaning.specs.Expressions.{value_of}
@@ -50,11 +49,3 @@ given operand = value_of (view_of_evaluation operand.result)
 pub given-all : (table : Table) (operands : List Operand) → map (λ a. value_of a.result) (map (view_of_operand table) operands) ≡ map given operands
 given-all table [] = refl
 given-all table (one ∷ rest) = ap (λ (xs : List values.Value). given one ∷ xs) (given-all table rest)
-
--- one more is known, and one fewer is left
-pub one-given : (so_far : List values.Value) (left before : List Operand) (one : Operand) (value : values.Value) (all : List values.Value) → before ≡ left ++ one ∷ [] → value ≡ given one
-    → so_far ++ map given (reverse before) ≡ all → (so_far ++ value ∷ []) ++ map given (reverse left) ≡ all
-one-given so_far left before one value all is same h =
-    append_assoc so_far (value ∷ []) (map given (reverse left))
-    ∙ (ap (λ (v : values.Value). so_far ++ v ∷ map given (reverse left)) same
-    ∙ (ap (λ (xs : List Operand). so_far ++ map given xs) (sym (ap reverse is ∙ reverse-append left (one ∷ []))) ∙ h))

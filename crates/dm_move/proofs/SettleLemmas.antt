@@ -1,5 +1,5 @@
 -- Full expressions in which a node's step was put in its place.
-use Rattle.std.proofs.Common.{◌≡◌, ℕ, zero, suc, ◌+◌, ◌≤◌, List, [], ◌∷◌, ◌++◌, length, map, take, drop, Option, Some, None, IsTrue, refl, sym, ap, ap₂, subst, ◌∙◌, arith, ltb-true}
+use Rattle.std.proofs.Common.{◌≡◌, ℕ, ◌+◌, ◌≤◌, List, [], ◌∷◌, ◌++◌, length, map, Option, Some, None, IsTrue, refl, sym, ap, ap₂, subst, ◌∙◌, arith, ltb-true}
 use Rattle.std.proofs.lemmas.Bool.{and_parts}
 use Rattle.std.proofs.lemmas.List.{length-append, take-append-drop}
 use Rattle.std.specs.declared.alloc.Global.{Global}
@@ -66,18 +66,6 @@ goes-on table before expression run use_fits under fits = record {
 seen-lock : (lock : Option At) (own : List At) → map view_of_at (lock_list lock ++ own) ≡ view_of_lock lock ++ map view_of_at own
 seen-lock None own = refl
 seen-lock (Some at) own = refl
-
-take-front : {X : Type 0} (n : ℕ) (xs ys : List X) → length xs ≡ n → take n (xs ++ ys) ≡ xs
-take-front zero [] ys e = refl
-take-front zero (x ∷ xs) ys e = absurd (omega (arith, e))
-take-front (suc n) [] ys e = absurd (omega (arith, e))
-take-front (suc n) (x ∷ xs) ys e = ap (λ rest. x ∷ rest) (take-front n xs ys (omega (arith, e)))
-
-drop-front : {X : Type 0} (n : ℕ) (xs ys : List X) → length xs ≡ n → drop n (xs ++ ys) ≡ ys
-drop-front zero [] ys e = refl
-drop-front zero (x ∷ xs) ys e = absurd (omega (arith, e))
-drop-front (suc n) [] ys e = absurd (omega (arith, e))
-drop-front (suc n) (x ∷ xs) ys e = drop-front n xs ys (omega (arith, e))
 
 -- ---- nodes that were put fit
 
@@ -174,9 +162,6 @@ module _ (table : Table) (before : Expression Operand At) (locks : ℕ) (room : 
       whole put =
           ap₂ (λ (xs ys : List (Item Operand Waiting)). (xs, ys)) (put.in_front ∙ ap (λ (row : Both). row.0) middle_row)
           (put.behind ∙ ap (λ (row : Both). put.put ++ Waits outer 1 ∷ row.1) middle_row)
-
-  pub fits-left : (middle : Expression Operand At) → middle.row ≡ before.row → Fits table middle
-  fits-left middle row = subst (λ (row : Both). AreFit table (row.0 ++ row.1)) (sym row) lacking.fits
 
 -- ---- the nodes that wait for the operand that was chosen
 

@@ -42,13 +42,13 @@ pub(crate) fn call<'a>(
     blocks: &Blocks,
     streams: &mut Streams,
     function: &Core,
-    operands: Results<Operand>,
+    operands: &Results<Operand>,
 ) -> Result<Step<'a>, Memory>
     requires known { AreKnown program.now.table blocks.now }
     ensures step { (statics objects : Objects) (kind : CType) (place : Place) (locks : List values.At) → IfOk result (λ step.
         view_of_step program.now.table kind place locks (world_of program.now.table blocks.now streams.new) step
         ≡ expressions.call_step (scene_with program.now statics objects) (world_of program.now.table blocks.now streams.old) kind place
-        (map (λ a. expressions.value_of a.result) (map (view_of_operand program.now.table) (results_of operands))) (expressions.function_named (begun (view program.now.table function.now)))) }
+        (map (λ a. expressions.value_of a.result) (map (view_of_operand program.now.table) (results_of operands.now))) (expressions.function_named (begun (view program.now.table function.now)))) }
     ensures keeps { IfOk result (Keeps (world_of program.now.table blocks.now streams.old) (world_of program.now.table blocks.now streams.new)) }
     ensures fits { IfOk result (StepFits program.now) }
 {

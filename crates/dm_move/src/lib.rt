@@ -2,6 +2,7 @@
 #![tactic(auto)]
 
 mod calls;
+mod going;
 mod leaving;
 mod moving;
 mod names;
@@ -12,4 +13,5 @@ mod step;
 mod truths;
 mod way;
 
+pub use going::{Progress, no_expression};
 pub use moving::advance;

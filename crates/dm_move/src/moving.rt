@@ -10,13 +10,15 @@ ghost use Rattle.dm_row.specs.Counts.{ready_in};
 ghost use Rattle.dm_frame.specs.Frames.{tasks_of};
 ghost use Rattle.dm_frame.specs.Tasks.{view_of_use};
 ghost use Rattle.dm_state.specs.Fits.{OngoingFits, RunningFits};
-ghost use Rattle.dm_state.specs.Turns.{state_with, IsLeft};
+ghost use Rattle.dm_state.specs.Turns.{state_with};
 ghost use Rattle.dm_state.specs.Views.{run_of};
+ghost use Rattle.dm_move.specs.Progressing.{IsProgress};
 
+use crate::going::Progress;
 use crate::nodes::take_step;
 use crate::settling::settle;
 use dm_program::Program;
-use dm_state::{Ongoing, Running, Turn};
+use dm_state::{Ongoing, Running};
 use dm_token::Memory;
 use std::alloc::Global;
 
@@ -26,21 +28,19 @@ pub fn advance<'a>(
     running: &mut Running<'a>,
     alloc: Global,
     program: &Program<'a>,
-    ongoing: Ongoing<'a>,
+    ongoing: &mut Ongoing<'a>,
     choice: usize,
-) -> Result<Turn, Memory>
+) -> Result<Progress, Memory>
     requires none { running.old.full ≡ None }
     requires fits { RunningFits program.now.table running.old }
-    requires ongoing { OngoingFits program.now.table ongoing }
-    requires under_way { 0 < ready_in 0 (ongoing.expression.row.0 ++ ongoing.expression.row.1) }
-    ensures { (tasks : List states.Task) → IfOk result (λ turn. IsLeft program.now.table turn running.new
+    requires ongoing { OngoingFits program.now.table ongoing.old }
+    requires under_way { 0 < ready_in 0 (ongoing.old.expression.row.0 ++ ongoing.old.expression.row.1) }
+    ensures { (tasks : List states.Task) → IfOk result (λ progress. IsProgress program.now.table progress running.new ongoing.new
         (chosen (state_with program.now.table tasks running.old) choice
         (expression_steps (meant program.now) (in_order (view_of_blocks program.now.table running.old.blocks)) (state_with program.now.table tasks running.old)
-        (tasks_of program.now.table running.old.frame) ongoing.entry.place (view_of_use program.now.table ongoing.entry.use_of) (run_of program.now.table ongoing.entry.expression)))) }
+        (tasks_of program.now.table running.old.frame) ongoing.old.place (view_of_use program.now.table ongoing.old.use_of) (run_of program.now.table ongoing.old.expression)))) }
 {
-    let mut ongoing = ongoing;
     let taken = ongoing.expression.take(alloc, choice)?;
-    let node = taken.node;
     let step = take_step(
         alloc,
         program,
@@ -49,17 +49,17 @@ pub fn advance<'a>(
         &mut running.blocks,
         &mut running.streams,
         ongoing.expression.locks.as_slice(),
-        node,
-        taken.operands,
+        taken.node,
+        &taken.operands,
     )?;
-    let turn = settle(
+    let progress = settle(
         running,
         alloc,
         program,
         ongoing,
-        node.node,
+        taken.node.node,
         taken.locks,
         step,
     )?;
-    Ok(turn)
+    Ok(progress)
 }

@@ -56,12 +56,12 @@ pub(crate) fn take_step<'a>(
     streams: &mut Streams,
     locks: &[At],
     node: Waiting<'a>,
-    operands: Results<Operand>,
+    operands: &Results<Operand>,
 ) -> Result<Step<'a>, Memory>
     requires known { AreKnown program.now.table blocks.old }
     requires node { ExpressionFits program.now.table node.node.now }
-    requires operands { AreKnownResults program.now.table (results_of operands) }
-    ensures step { IfOk result (IsStep program.now statics.now objects.now (map view_of_at locks.now) node.entry (results_of operands)
+    requires operands { AreKnownResults program.now.table (results_of operands.now) }
+    ensures step { IfOk result (IsStep program.now statics.now objects.now (map view_of_at locks.now) node.entry (results_of operands.now)
         (world_of program.now.table blocks.old streams.old) (world_of program.now.table blocks.new streams.new)) }
     ensures keeps { IfOk result (Keeps (world_of program.now.table blocks.old streams.old) (world_of program.now.table blocks.new streams.new)) }
     ensures fits { IfOk result (StepFits program.now) }
@@ -79,20 +79,26 @@ pub(crate) fn take_step<'a>(
             node.node.kind,
             tested(blocks, operands),
         )),
-        Doing::GivesValue => Ok(as_value(operands)),
+        Doing::GivesValue => {
+            let step = as_value(operands)?;
+            Ok(step)
+        }
     }
 }
 
 /// `?:` or the comma gives the value of the operand that it has chosen (6.5.15p4, 6.5.17p2).
-fn as_value<'a>(operands: Results<Operand>) -> Step<'a>
-    ensures step { (table : Table) (kind : CType) (place : Place) (locks : List values.At) (world : World) → view_of_step table kind place locks world result
-        ≡ on_operand place (map (view_of_operand table) (results_of operands)) (λ a. goes world (done kind a.result locks)) }
-    ensures keeps { (world : World) → Keeps world world result }
-    ensures fits { (source : Source) → StepFits source result }
+fn as_value<'a>(operands: &Results<Operand>) -> Result<Step<'a>, Memory>
+    ensures step { (table : Table) (kind : CType) (place : Place) (locks : List values.At) (world : World) → IfOk result (λ step. view_of_step table kind place locks world step
+        ≡ on_operand place (map (view_of_operand table) (results_of operands.now)) (λ a. goes world (done kind a.result locks))) }
+    ensures keeps { (world : World) → IfOk result (Keeps world world) }
+    ensures fits { (source : Source) → IfOk result (StepFits source) }
 {
     match only(operands) {
-        Some(operand) => Step::Gives(operand.result, None),
-        None => Step::Fails(Cause::OtherType),
+        Some(operand) => {
+            let same = operand.result.copy()?;
+            Ok(Step::Gives(same, None))
+        }
+        None => Ok(Step::Fails(Cause::OtherType)),
     }
 }
 
@@ -106,12 +112,12 @@ fn evaluate<'a>(
     streams: &mut Streams,
     locks: &[At],
     node: &'a Core,
-    operands: Results<Operand>,
+    operands: &Results<Operand>,
 ) -> Result<Step<'a>, Memory>
     requires known { AreKnown program.now.table blocks.old }
     requires node { ExpressionFits program.now.table node.now }
-    requires operands { AreKnownResults program.now.table (results_of operands) }
-    ensures step { IfOk result (IsFormStep program.now statics.now objects.now (map view_of_at locks.now) node.now (results_of operands)
+    requires operands { AreKnownResults program.now.table (results_of operands.now) }
+    ensures step { IfOk result (IsFormStep program.now statics.now objects.now (map view_of_at locks.now) node.now (results_of operands.now)
         (world_of program.now.table blocks.old streams.old) (world_of program.now.table blocks.new streams.new)) }
     ensures keeps { IfOk result (Keeps (world_of program.now.table blocks.old streams.old) (world_of program.now.table blocks.new streams.new)) }
     ensures fits { IfOk result (StepFits program.now) }
@@ -122,26 +128,14 @@ fn evaluate<'a>(
         Way::Both(_, second) => Ok(both(layout, node.kind, second, tested(blocks, operands))),
         Way::Either(_, second) => Ok(either(layout, node.kind, second, tested(blocks, operands))),
         Way::Choose(_, second, third) => Ok(choice(second, third, tested(blocks, operands))),
-        Way::Comma(_, second) => {
-            drop(operands);
-            Ok(Step::Picks(second))
-        }
+        Way::Comma(_, second) => Ok(Step::Picks(second)),
         Way::Call(function, _) => {
             let step = call(alloc, program, blocks, streams, function, operands)?;
             Ok(step)
         }
-        Way::Measures(tree) => {
-            drop(operands);
-            Ok(Step::of_did(size(layout, node.kind, tree.kind)))
-        }
-        Way::Enumerator(declared) => {
-            drop(operands);
-            Ok(Step::of_did(enumerator(program, node.kind, declared)))
-        }
-        Way::Object(declared) => {
-            drop(operands);
-            Ok(Step::of_did(designated(named(statics, objects, declared))))
-        }
+        Way::Measures(tree) => Ok(Step::of_did(size(layout, node.kind, tree.kind))),
+        Way::Enumerator(declared) => { Ok(Step::of_did(enumerator(program, node.kind, declared))) }
+        Way::Object(declared) => { Ok(Step::of_did(designated(named(statics, objects, declared)))) }
         Way::Operates => {
             let step = operated(alloc, layout, blocks, locks, node, operands)?;
             Ok(step)
@@ -166,16 +160,16 @@ fn operated<'a>(
     blocks: &mut Blocks,
     locks: &[At],
     node: &Core,
-    operands: Results<Operand>,
+    operands: &Results<Operand>,
 ) -> Result<Step<'a>, Memory>
     requires known { AreKnown layout.now blocks.old }
     requires node { IsTrue (are_known (length layout.now.shapes) node.now) }
-    requires operands { AreKnownResults layout.now (results_of operands) }
+    requires operands { AreKnownResults layout.now (results_of operands.now) }
     requires names { asks_names (label_of (view layout.now node.now)) ≡ false }
-    ensures step { (beside : Beside) (place : Place) (own : List values.At) → length (results_of operands) ≤ 2
+    ensures step { (beside : Beside) (place : Place) (own : List values.At) → length (results_of operands.now) ≤ 2
         → IfOk result (λ step. view_of_step layout.now (type_of layout.now node.now.kind) place own (world_in (view_of_blocks layout.now blocks.new) beside) step
         ≡ as_move (type_of layout.now node.now.kind) place own (operations.operate (scene_in layout.now beside) (world_in (view_of_blocks layout.now blocks.old) beside)
-        (map view_of_at locks.now) (label_of (view layout.now node.now)) (type_of layout.now node.now.kind) (map (view_of_operand layout.now) (results_of operands)))) }
+        (map view_of_at locks.now) (label_of (view layout.now node.now)) (type_of layout.now node.now.kind) (map (view_of_operand layout.now) (results_of operands.now)))) }
     ensures keeps { (before after : World) → after.output ≡ before.output → IfOk result (Keeps before after) }
     ensures fits { (source : Source) → IfOk result (StepFits source) }
     ensures known { AreKnown layout.now blocks.new }

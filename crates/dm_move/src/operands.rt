@@ -15,97 +15,93 @@ use dm_value::Value;
 use std::alloc::Global;
 
 /// The operand, where there is one.
-pub(crate) fn only(operands: Results<Operand>) -> Option<Operand>
-    ensures { MatchOption result ((length (results_of operands) == 1) ≡ false) (λ one. results_of operands ≡ one ∷ []) }
+pub(crate) fn only(operands: &Results<Operand>) -> Option<&Operand>
+    ensures { MatchOption result ((length (results_of operands.now) == 1) ≡ false) (λ one. results_of operands.now ≡ one.now ∷ []) }
 {
     match operands {
         Results::One(one) => Some(one),
-        Results::Many(all) => only_of(all),
+        Results::Many(all) => only_of(all.as_slice()),
         Results::None | Results::Two(_, _) => None,
     }
 }
 
 /// The same of a list.
-fn only_of(mut all: Vec<Operand>) -> Option<Operand>
-    ensures { MatchOption result ((length all.items == 1) ≡ false) (λ one. all.items ≡ one ∷ []) }
+fn only_of(all: &[Operand]) -> Option<&Operand>
+    ensures { MatchOption result ((length all.now == 1) ≡ false) (λ one. all.now ≡ one.now ∷ []) }
 {
-    let one = all.pop()?;
-    if all.is_empty() { Some(one) } else { None }
+    match all {
+        [one] => Some(one),
+        _ => None,
+    }
 }
 
 /// The operands, where there are at most two.
-pub(crate) fn at_most_two(operands: Results<Operand>) -> Option<Operands>
-    ensures given { (table : Table) → MatchOption result (2 < length (results_of operands)) (λ given. view_of_operands table given ≡ map (view_of_operand table) (results_of operands)) }
-    ensures known { (table : Table) → AreKnownResults table (results_of operands) → IfSome result (AreKnownOperands table) }
+pub(crate) fn at_most_two(operands: &Results<Operand>) -> Option<Operands<'_>>
+    ensures given { (table : Table) → MatchOption result (2 < length (results_of operands.now)) (λ given. view_of_operands table given ≡ map (view_of_operand table) (results_of operands.now)) }
+    ensures known { (table : Table) → AreKnownResults table (results_of operands.now) → IfSome result (AreKnownOperands table) }
 {
     match operands {
         Results::None => Some(Operands::None),
         Results::One(a) => Some(Operands::One(a)),
         Results::Two(a, b) => Some(Operands::Two(a, b)),
-        Results::Many(all) => two_of(all),
+        Results::Many(all) => two_of(all.as_slice()),
     }
 }
 
 /// The same of a list.
-fn two_of(mut all: Vec<Operand>) -> Option<Operands>
-    ensures given { (table : Table) → MatchOption result (2 < length all.items) (λ given. view_of_operands table given ≡ map (view_of_operand table) all.items) }
-    ensures known { (table : Table) → AreKnownResults table all.items → IfSome result (AreKnownOperands table) }
+fn two_of(all: &[Operand]) -> Option<Operands<'_>>
+    ensures given { (table : Table) → MatchOption result (2 < length all.now) (λ given. view_of_operands table given ≡ map (view_of_operand table) all.now) }
+    ensures known { (table : Table) → AreKnownResults table all.now → IfSome result (AreKnownOperands table) }
 {
-    let Some(last) = all.pop() else {
-        return Some(Operands::None);
-    };
-    let Some(first) = all.pop() else {
-        return Some(Operands::One(last));
-    };
-    if all.is_empty() {
-        Some(Operands::Two(first, last))
-    } else {
-        None
+    match all {
+        [] => Some(Operands::None),
+        [a] => Some(Operands::One(a)),
+        [a, b] => Some(Operands::Two(a, b)),
+        _ => None,
     }
 }
 
 /// The values of arguments, from the left.
-pub(crate) fn values(alloc: Global, operands: Results<Operand>) -> Result<Vec<Value>, Memory>
-    ensures { (table : Table) → IfOk result (λ values. map view_of_value values.items ≡ map (λ a. value_of a.result) (map (view_of_operand table) (results_of operands))) }
+pub(crate) fn values(alloc: Global, operands: &Results<Operand>) -> Result<Vec<Value>, Memory>
+    ensures { (table : Table) → IfOk result (λ values. map view_of_value values.items ≡ map (λ a. value_of a.result) (map (view_of_operand table) (results_of operands.now))) }
 {
     match operands {
         Results::None => Ok(Vec::new(alloc)),
         Results::One(a) => {
             let mut values = Vec::new(alloc);
-            values.push(value_in(a))?;
+            values.push(value_in(a)?)?;
             Ok(values)
         }
         Results::Two(a, b) => {
             let mut values = Vec::new(alloc);
-            values.push(value_in(a))?;
-            values.push(value_in(b))?;
+            values.push(value_in(a)?)?;
+            values.push(value_in(b)?)?;
             Ok(values)
         }
         Results::Many(all) => {
-            let values = values_of(alloc, all)?;
+            let values = values_of(alloc, all.as_slice())?;
             Ok(values)
         }
     }
 }
 
 /// The same of a list.
-fn values_of(alloc: Global, mut left: Vec<Operand>) -> Result<Vec<Value>, Memory>
-    ensures { (table : Table) → IfOk result (λ values. map view_of_value values.items ≡ map (λ a. value_of a.result) (map (view_of_operand table) left.items)) }
+fn values_of(alloc: Global, all: &[Operand]) -> Result<Vec<Value>, Memory>
+    ensures { (table : Table) → IfOk result (λ values. map view_of_value values.items ≡ map (λ a. value_of a.result) (map (view_of_operand table) all.now)) }
 {
     let mut values = Vec::new(alloc);
-    left.reverse();
-    while let Some(operand) = left.pop() {
-        values.push(value_in(operand))?;
+    for operand in all {
+        values.push(value_in(operand)?)?;
     }
     Ok(values)
 }
 
 /// The value of an operand, unset for an lvalue.
-fn value_in(operand: Operand) -> Value
-    ensures { view_of_value result ≡ value_of (view_of_evaluation operand.result) }
+fn value_in(operand: &Operand) -> Result<Value, Memory>
+    ensures { IfOk result (λ value. view_of_value value ≡ value_of (view_of_evaluation operand.now.result)) }
 {
-    match operand.result {
-        Evaluation::Value(value) => value,
-        Evaluation::Object(_) => Value::Unset,
+    match &operand.result {
+        Evaluation::Value(value) => value.copy(),
+        Evaluation::Object(_) => Ok(Value::Unset),
     }
 }

@@ -16,44 +16,46 @@ ghost use Rattle.dm_frame.specs.Tasks.{view_of_use, ExpressionFits, UseFits};
 ghost use Rattle.dm_state.specs.declared.full.Ongoing.{Ongoing as AnyOngoing};
 ghost use Rattle.dm_state.specs.Fits.{RunningFits};
 ghost use Rattle.dm_state.specs.Standing.{world_of};
-ghost use Rattle.dm_state.specs.Turns.{IsLeft};
+ghost use Rattle.dm_move.specs.Progressing.{IsProgress};
 ghost use Rattle.dm_value.specs.Places.{view_of_at};
 ghost use Rattle.dm_move.specs.Settling.{gap, own_locks, state_before, GoesOn, IsLacking};
 ghost use Rattle.dm_move.specs.Steps.{view_of_step, Keeps, StepFits};
 
+use crate::going::{Progress, no_expression};
 use crate::leaving::{give, give_unlocked, leave, pick};
 use crate::step::Step;
 use dm_expression::{Doing, Waiting};
 use dm_operate::{Evaluation, Operand};
 use dm_program::Program;
-use dm_state::{Full, Ongoing, Running, Turn};
+use dm_state::{Ongoing, Running, Turn};
 use dm_token::Memory;
 use dm_tree::Core;
 use std::alloc::Global;
+use std::mem;
 
 /// What a node did is put in its place in a full expression that lacks it and the locks of its operands.
 pub(crate) fn settle<'a>(
     running: &mut Running<'a>,
     alloc: Global,
     program: &Program<'a>,
-    mut ongoing: Ongoing<'a>,
+    ongoing: &mut Ongoing<'a>,
     node: &'a Core,
     locks: usize,
     step: Step<'a>,
-) -> Result<Turn, Memory>
+) -> Result<Progress, Memory>
     requires none { running.old.full ≡ None }
     requires fits { RunningFits program.now.table running.old }
-    requires use_of { UseFits program.now.table ongoing.use_of }
-    requires room { weight_in ongoing.expression.row.0 + locks ≤ length ongoing.expression.locks.items }
-    requires lacking { IsLacking program.now.table ongoing.expression locks }
+    requires use_of { UseFits program.now.table ongoing.old.use_of }
+    requires room { weight_in ongoing.old.expression.row.0 + locks ≤ length ongoing.old.expression.locks.items }
+    requires lacking { IsLacking program.now.table ongoing.old.expression locks }
     requires node { ExpressionFits program.now.table node.now }
     requires step { StepFits program.now step }
     ensures { (tasks : List states.Task) (before : World) → Keeps before (world_of program.now.table running.old.blocks running.old.streams) step.entry
-        → IfOk result (λ turn. IsLeft program.now.table turn running.new
-        (moved (meant program.now) (in_order before.memory) (state_before program.now.table tasks before running.old) (tasks_of program.now.table running.old.frame) ongoing.entry.place
-        (view_of_use program.now.table ongoing.entry.use_of)
-        (lifted (filled_in (gap program.now.table ongoing.entry.expression locks)) (hole_in (gap program.now.table ongoing.entry.expression locks))
-        (view_of_step program.now.table (type_of program.now.table node.now.kind) node.now.place (map view_of_at (own_locks ongoing.entry.expression locks))
+        → IfOk result (λ progress. IsProgress program.now.table progress running.new ongoing.new
+        (moved (meant program.now) (in_order before.memory) (state_before program.now.table tasks before running.old) (tasks_of program.now.table running.old.frame) ongoing.old.place
+        (view_of_use program.now.table ongoing.old.use_of)
+        (lifted (filled_in (gap program.now.table ongoing.old.expression locks)) (hole_in (gap program.now.table ongoing.old.expression locks))
+        (view_of_step program.now.table (type_of program.now.table node.now.kind) node.now.place (map view_of_at (own_locks ongoing.old.expression locks))
         (world_of program.now.table running.old.blocks running.old.streams) step.entry)))) }
 {
     match step {
@@ -62,7 +64,7 @@ pub(crate) fn settle<'a>(
                 kind: node.kind,
                 result,
             };
-            give(&mut ongoing, locks, operand, lock)?;
+            give(ongoing, locks, operand, lock)?;
             Ok(go_on(running, ongoing))
         }
         Step::Releases(value) => {
@@ -70,7 +72,7 @@ pub(crate) fn settle<'a>(
                 kind: node.kind,
                 result: Evaluation::Value(value),
             };
-            give_unlocked(&mut ongoing, locks, operand)?;
+            give_unlocked(ongoing, locks, operand)?;
             Ok(go_on(running, ongoing))
         }
         Step::Tests(operand) => {
@@ -78,7 +80,7 @@ pub(crate) fn settle<'a>(
                 doing: Doing::GivesTruth,
                 node,
             };
-            pick(alloc, &mut ongoing, locks, waiting, operand)?;
+            pick(alloc, ongoing, locks, waiting, operand)?;
             Ok(go_on(running, ongoing))
         }
         Step::Picks(operand) => {
@@ -86,33 +88,36 @@ pub(crate) fn settle<'a>(
                 doing: Doing::GivesValue,
                 node,
             };
-            pick(alloc, &mut ongoing, locks, waiting, operand)?;
+            pick(alloc, ongoing, locks, waiting, operand)?;
             Ok(go_on(running, ongoing))
         }
         Step::Calls(function, arguments) => {
-            leave(&mut ongoing, locks)?;
+            leave(ongoing, locks)?;
+            let waiting = mem::replace(ongoing, no_expression(alloc));
             running.call(
                 alloc,
                 program,
                 function,
                 arguments.as_slice(),
                 node.kind,
-                ongoing,
+                waiting,
             )?;
-            Ok(Turn::Went)
+            Ok(Progress::Left(Turn::Went))
         }
-        Step::Fails(cause) => Ok(Turn::Undefined(cause, node.place)),
-        Step::Exits(status) => Ok(Turn::Exited(status)),
+        Step::Fails(cause) => Ok(Progress::Left(Turn::Undefined(cause, node.place))),
+        Step::Exits(status) => Ok(Progress::Left(Turn::Exited(status))),
     }
 }
 
 /// A full expression goes on.
-fn go_on<'a>(running: &mut Running<'a>, ongoing: Ongoing<'a>) -> Turn
+fn go_on(running: &Running, ongoing: &Ongoing) -> Progress
     ensures { (table : Table) (program : programs.Program) (names : ℕ → ℕ) (tasks : List states.Task) (before : World) (old : AnyOngoing) (run : Run)
-        → RunningFits table running.old → GoesOn table old ongoing.entry run → IsLeft table result running.new
-        (moved program names (state_before table tasks before running.old) (tasks_of table running.old.frame) old.place (view_of_use table old.use_of)
-        (goes (world_of table running.old.blocks running.old.streams) run)) }
+        → running.now.full ≡ None → RunningFits table running.now → GoesOn table old ongoing.now run → IsProgress table result running.now ongoing.now
+        (moved program names (state_before table tasks before running.now) (tasks_of table running.now.frame) old.place (view_of_use table old.use_of)
+        (goes (world_of table running.now.blocks running.now.streams) run)) }
 {
-    running.full = Some(Full::Goes(ongoing));
-    Turn::Went
+    // Only the contract speaks of them.
+    let _ = running;
+    let _ = ongoing;
+    Progress::GoesOn
 }

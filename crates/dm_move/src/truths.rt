@@ -31,9 +31,9 @@ use dm_type::TypeId;
 /// # Errors
 ///
 /// The cause why it can't be told.
-pub(crate) fn tested(blocks: &Blocks, operands: Results<Operand>) -> Result<bool, Cause>
+pub(crate) fn tested(blocks: &Blocks, operands: &Results<Operand>) -> Result<bool, Cause>
     ensures { (table : Table) (world : World) (place : Place) (next : Bool → Run) → by_truth world place (view_of_truth result) next
-        ≡ on_operand place (map (view_of_operand table) (results_of operands)) (λ a. by_truth world place (truth_of (view_of_blocks table blocks.now) (value_of a.result)) next) }
+        ≡ on_operand place (map (view_of_operand table) (results_of operands.now)) (λ a. by_truth world place (truth_of (view_of_blocks table blocks.now) (value_of a.result)) next) }
 {
     match only(operands) {
         Some(operand) => truth_in(blocks, &operand.result),

@@ -31,14 +31,14 @@ view_of_operand table operand = record { kind = type_of table operand.kind; resu
 
 abbrev pub view_of_operands : Table → Operands → List operations.Operand
 view_of_operands table operands.None = []
-view_of_operands table (operands.One a) = view_of_operand table a ∷ []
-view_of_operands table (operands.Two a b) = view_of_operand table a ∷ view_of_operand table b ∷ []
+view_of_operands table (operands.One a) = view_of_operand table a.now ∷ []
+view_of_operands table (operands.Two a b) = view_of_operand table a.now ∷ view_of_operand table b.now ∷ []
 
 -- their types are of the table
 abbrev pub AreKnownOperands : Table → Operands → Type 0
 AreKnownOperands table operands.None = Unit {0}
-AreKnownOperands table (operands.One a) = IsId table a.kind
-AreKnownOperands table (operands.Two a b) = IsId table a.kind × IsId table b.kind
+AreKnownOperands table (operands.One a) = IsId table a.now.kind
+AreKnownOperands table (operands.Two a b) = IsId table a.now.kind × IsId table b.now.kind
 
 abbrev pub view_of_lock : Option At → List values.At
 view_of_lock None = []

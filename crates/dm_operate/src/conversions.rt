@@ -1,13 +1,14 @@
 //! Conversions (6.3, 6.5.4).
 
-ghost use Rattle.std.specs.Prelude.{◌≡◌};
+ghost use Rattle.std.specs.Prelude.{◌≡◌, IfOk};
 ghost use Rattle.dm_type.specs.CTypes as ctypes;
 ghost use Rattle.dm_type.specs.CTypes.{CType};
 ghost use Rattle.dm_type.specs.Tables.{IsId, Table, type_of};
 ghost use Rattle.dm_meaning.specs.Operations as operations;
+ghost use Rattle.dm_meaning.specs.Operations.{World};
 ghost use Rattle.dm_meaning.specs.Values.{pointer_value};
 ghost use Rattle.dm_value.specs.Views.{view_of_pointer, view_of_value};
-ghost use Rattle.dm_operate.specs.Evaluations.{view_of_evaluation, Does};
+ghost use Rattle.dm_operate.specs.Evaluations.{view_of_did, view_of_evaluation, Does};
 ghost use Rattle.dm_operate.specs.Targets.{IsTarget};
 
 use crate::evaluation::{Did, Evaluation};
@@ -15,21 +16,30 @@ use crate::numbers::truth_of_kind;
 use dm_int::Kind;
 use dm_layout::{Layout, bare};
 use dm_memory::{Blocks, to_use};
+use dm_token::Memory;
 use dm_type::{Shape, TypeId};
 use dm_value::{Pointer, Value, converted};
 
 /// An operand converted to a type.
-pub(crate) fn convert(layout: &Layout, blocks: &Blocks, kind: TypeId, operand: Evaluation) -> Did
+pub(crate) fn convert(
+    layout: &Layout,
+    blocks: &Blocks,
+    kind: TypeId,
+    operand: &Evaluation,
+) -> Result<Did, Memory>
     requires { IsId layout.now kind }
-    ensures { Does layout.now blocks.now blocks.now result (λ scene world. operations.convert_to world (type_of layout.now kind) (view_of_evaluation operand)) }
+    ensures { IfOk result (λ did. Does layout.now blocks.now blocks.now did (λ scene world. operations.convert_to world (type_of layout.now kind) (view_of_evaluation operand.now))) }
 {
     let target = target_of(layout, kind);
     if let Target::Void = target {
-        return Did::plain(Value::Unset);
+        return Ok(Did::plain(Value::Unset));
     }
-    match operand.into_set() {
-        Some(value) => convert_value(blocks, target, value),
-        None => Did::ill(),
+    match operand.set() {
+        Some(value) => {
+            let did = convert_value(blocks, target, value)?;
+            Ok(did)
+        }
+        None => Ok(Did::ill()),
     }
 }
 
@@ -60,25 +70,33 @@ fn target_of(layout: &Layout, kind: TypeId) -> Target
 }
 
 /// A value that was set, converted.
-fn convert_value(blocks: &Blocks, target: Target, value: Value) -> Did
+fn convert_value(blocks: &Blocks, target: Target, value: &Value) -> Result<Did, Memory>
     ensures { (types : Table) (type : CType) → IsTarget target type
-        → Does types blocks.now blocks.now result (λ scene world. operations.converted world type (view_of_value value)) }
+        → IfOk result (λ did. Does types blocks.now blocks.now did (λ scene world. operations.converted world type (view_of_value value.now))) }
 {
     match target {
-        Target::Integer(kind) => to_integer(blocks, kind, value),
-        Target::Pointer => to_pointer(blocks, value),
-        Target::Void | Target::Whole => Did::plain(value),
+        Target::Integer(kind) => Ok(to_integer(blocks, kind, value)?),
+        Target::Pointer => Ok(to_pointer(blocks, value)?),
+        Target::Void | Target::Whole => Ok(unchanged(value)?),
     }
 }
 
-/// A value converted to an integer type (6.3.1.2, 6.3.1.3).
-fn to_integer(blocks: &Blocks, kind: Kind, value: Value) -> Did
-    ensures { (types : Table) → Does types blocks.now blocks.now result (λ scene world. operations.converted world (ctypes.integer kind) (view_of_value value)) }
+/// A value that stays as it is.
+fn unchanged(value: &Value) -> Result<Did, Memory>
+    ensures { (world : World) → IfOk result (λ did. view_of_did world did ≡ operations.plain world (view_of_value value.now)) }
 {
-    match &value {
-        Value::Integer(integer) => Did::plain(Value::Integer(converted(kind, *integer))),
-        Value::Pointer(pointer) => truth_of_pointer(blocks, kind, pointer),
-        Value::Parts(_) | Value::Unset => Did::plain(value),
+    let same = value.copy()?;
+    Ok(Did::plain(same))
+}
+
+/// A value converted to an integer type (6.3.1.2, 6.3.1.3).
+fn to_integer(blocks: &Blocks, kind: Kind, value: &Value) -> Result<Did, Memory>
+    ensures { (types : Table) → IfOk result (λ did. Does types blocks.now blocks.now did (λ scene world. operations.converted world (ctypes.integer kind) (view_of_value value.now))) }
+{
+    match value {
+        Value::Integer(integer) => Ok(Did::plain(Value::Integer(converted(kind, *integer)))),
+        Value::Pointer(pointer) => Ok(truth_of_pointer(blocks, kind, pointer)),
+        Value::Parts(_) | Value::Unset => Ok(unchanged(value)?),
     }
 }
 
@@ -92,20 +110,28 @@ fn truth_of_pointer(blocks: &Blocks, kind: Kind, pointer: &Pointer) -> Did
 }
 
 /// A value converted to a pointer type (6.3.2.3).
-fn to_pointer(blocks: &Blocks, value: Value) -> Did
-    ensures { (types : Table) (target : CType) → Does types blocks.now blocks.now result (λ scene world. operations.converted world (ctypes.pointer target) (view_of_value value)) }
+fn to_pointer(blocks: &Blocks, value: &Value) -> Result<Did, Memory>
+    ensures { (types : Table) (target : CType) → IfOk result (λ did. Does types blocks.now blocks.now did (λ scene world. operations.converted world (ctypes.pointer target) (view_of_value value.now))) }
 {
     match value {
-        Value::Integer(_) => Did::plain(Value::Pointer(Pointer::Null)),
-        Value::Pointer(pointer) => used(blocks, pointer),
-        Value::Parts(_) | Value::Unset => Did::plain(value),
+        Value::Integer(_) => Ok(Did::plain(Value::Pointer(Pointer::Null))),
+        Value::Pointer(pointer) => {
+            let did = used(blocks, pointer)?;
+            Ok(did)
+        }
+        Value::Parts(_) | Value::Unset => Ok(unchanged(value)?),
     }
 }
 
 /// A pointer, where it may be used.
-fn used(blocks: &Blocks, pointer: Pointer) -> Did
-    ensures { (types : Table) (target : CType) → Does types blocks.now blocks.now result (λ scene world. operations.converted world (ctypes.pointer target) (pointer_value (view_of_pointer pointer))) }
+fn used(blocks: &Blocks, pointer: &Pointer) -> Result<Did, Memory>
+    ensures { (types : Table) (target : CType) → IfOk result (λ did. Does types blocks.now blocks.now did (λ scene world. operations.converted world (ctypes.pointer target) (pointer_value (view_of_pointer pointer.now)))) }
 {
-    let cause = to_use(blocks, &pointer);
-    Did::unless(cause, Did::plain(Value::Pointer(pointer)))
+    match to_use(blocks, pointer) {
+        Some(cause) => Ok(Did::Breaks(cause)),
+        None => {
+            let same = pointer.copy()?;
+            Ok(Did::plain(Value::Pointer(same)))
+        }
+    }
 }

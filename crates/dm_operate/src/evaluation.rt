@@ -1,6 +1,6 @@
 //! What evaluating an expression gives (6.5p1), and what the step of a node does.
 
-ghost use Rattle.std.specs.Prelude.{◌≡◌, [], None, Some, IfSome, MatchOption};
+ghost use Rattle.std.specs.Prelude.{◌≡◌, [], None, Some, IfOk, IfSome, MatchOption};
 ghost use Rattle.dm_type.specs.Tables.{IsId, Table};
 ghost use Rattle.dm_meaning.specs.Operations as operations;
 ghost use Rattle.dm_meaning.specs.Operations.{World};
@@ -10,6 +10,7 @@ ghost use Rattle.dm_value.specs.Views.{view_of_value};
 ghost use Rattle.dm_operate.specs.Evaluations.{view_of_did, view_of_evaluation, view_of_operand, view_of_operands, AreKnownOperands};
 
 use dm_meaning::Cause;
+use dm_token::Memory;
 use dm_type::TypeId;
 use dm_value::{At, Value};
 
@@ -29,11 +30,11 @@ pub struct Operand {
 }
 
 /// The operands of a node that may be evaluated, from the left.
-#[derive(Drop)]
-pub enum Operands {
+#[derive(Clone, Copy)]
+pub enum Operands<'a> {
     None,
-    One(Operand),
-    Two(Operand, Operand),
+    One(&'a Operand),
+    Two(&'a Operand, &'a Operand),
 }
 
 /// What the step of a node does.
@@ -79,10 +80,20 @@ impl Did {
 }
 
 impl Evaluation {
+    /// The same evaluation. It fails only where a counter of owners is full.
+    pub fn copy(&self) -> Result<Evaluation, Memory>
+        ensures { IfOk result (λ evaluation. view_of_evaluation evaluation ≡ view_of_evaluation self.now) }
+    {
+        match self {
+            Evaluation::Value(value) => Ok(Evaluation::Value(value.copy()?)),
+            Evaluation::Object(at) => Ok(Evaluation::Object(at.copy()?)),
+        }
+    }
+
     /// The value that was set, if it is one.
-    pub(crate) fn into_set(self) -> Option<Value>
-        ensures { (next : values.Value → operations.Did) → MatchOption result (operations.on_set (view_of_evaluation self) next ≡ operations.ill)
-            (λ value. operations.on_set (view_of_evaluation self) next ≡ next (view_of_value value)) }
+    pub(crate) fn set(&self) -> Option<&Value>
+        ensures { (next : values.Value → operations.Did) → MatchOption result (operations.on_set (view_of_evaluation self.now) next ≡ operations.ill)
+            (λ value. operations.on_set (view_of_evaluation self.now) next ≡ next (view_of_value value.now)) }
     {
         match self {
             Evaluation::Value(Value::Unset) | Evaluation::Object(_) => None,
@@ -91,12 +102,12 @@ impl Evaluation {
     }
 }
 
-impl Operands {
+impl<'a> Operands<'a> {
     /// The operand, where there is one.
-    pub(crate) fn into_one(self) -> Option<Operand>
-        ensures given { (table : Table) (next : operations.Operand → operations.Did) → MatchOption result (operations.on_one (view_of_operands table self) next ≡ operations.ill)
-            (λ a. operations.on_one (view_of_operands table self) next ≡ next (view_of_operand table a)) }
-        ensures known { (table : Table) → AreKnownOperands table self → IfSome result (λ a. IsId table a.kind) }
+    pub(crate) fn one(self) -> Option<&'a Operand>
+        ensures given { (table : Table) (next : operations.Operand → operations.Did) → MatchOption result (operations.on_one (view_of_operands table self.entry) next ≡ operations.ill)
+            (λ a. operations.on_one (view_of_operands table self.entry) next ≡ next (view_of_operand table a.now)) }
+        ensures known { (table : Table) → AreKnownOperands table self.entry → IfSome result (λ a. IsId table a.now.kind) }
     {
         match self {
             Operands::One(a) => Some(a),
@@ -105,10 +116,10 @@ impl Operands {
     }
 
     /// The value of the operand, where there is one and it is a value.
-    pub(crate) fn into_value(self) -> Option<Value>
+    pub(crate) fn value(self) -> Option<&'a Value>
         ensures { (table : Table) (next : values.Value → operations.Did)
-            → MatchOption result (operations.on_one (view_of_operands table self) (λ a. operations.on_value a.result next) ≡ operations.ill)
-            (λ value. operations.on_one (view_of_operands table self) (λ a. operations.on_value a.result next) ≡ next (view_of_value value)) }
+            → MatchOption result (operations.on_one (view_of_operands table self.entry) (λ a. operations.on_value a.result next) ≡ operations.ill)
+            (λ value. operations.on_one (view_of_operands table self.entry) (λ a. operations.on_value a.result next) ≡ next (view_of_value value.now)) }
     {
         match self {
             Operands::One(
@@ -122,10 +133,10 @@ impl Operands {
     }
 
     /// What the operand designates, where there is one and it is an lvalue.
-    pub(crate) fn into_place(self) -> Option<At>
+    pub(crate) fn place(self) -> Option<&'a At>
         ensures { (table : Table) (next : values.At → operations.Did)
-            → MatchOption result (operations.on_one (view_of_operands table self) (λ a. operations.on_place a.result next) ≡ operations.ill)
-            (λ at. operations.on_one (view_of_operands table self) (λ a. operations.on_place a.result next) ≡ next (view_of_at at)) }
+            → MatchOption result (operations.on_one (view_of_operands table self.entry) (λ a. operations.on_place a.result next) ≡ operations.ill)
+            (λ at. operations.on_one (view_of_operands table self.entry) (λ a. operations.on_place a.result next) ≡ next (view_of_at at.now)) }
     {
         match self {
             Operands::One(
@@ -139,11 +150,11 @@ impl Operands {
     }
 
     /// The operands, where there are two.
-    pub(crate) fn into_two(self) -> Option<(Operand, Operand)>
+    pub(crate) fn two(self) -> Option<(&'a Operand, &'a Operand)>
         ensures given { (table : Table) (next : operations.Operand → operations.Operand → operations.Did)
-            → MatchOption result (operations.on_two (view_of_operands table self) next ≡ operations.ill)
-            (λ both. operations.on_two (view_of_operands table self) next ≡ next (view_of_operand table both.0) (view_of_operand table both.1)) }
-        ensures known { (table : Table) → AreKnownOperands table self → IfSome result (λ both. IsId table both.0.kind × IsId table both.1.kind) }
+            → MatchOption result (operations.on_two (view_of_operands table self.entry) next ≡ operations.ill)
+            (λ both. operations.on_two (view_of_operands table self.entry) next ≡ next (view_of_operand table both.0.now) (view_of_operand table both.1.now)) }
+        ensures known { (table : Table) → AreKnownOperands table self.entry → IfSome result (λ both. IsId table both.0.now.kind × IsId table both.1.now.kind) }
     {
         match self {
             Operands::Two(a, b) => Some((a, b)),

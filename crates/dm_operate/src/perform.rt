@@ -44,14 +44,14 @@ pub fn operate(
     blocks: &mut Blocks,
     locks: &[At],
     node: &Core,
-    operands: Operands,
+    operands: Operands<'_>,
 ) -> Result<Did, Memory>
     requires known { AreKnown layout.now blocks.old }
     requires node { IsTrue (are_known (length layout.now.shapes) node.now) }
     requires operands { AreKnownOperands layout.now operands }
     requires names { asks_names (label_of (view layout.now node.now)) ≡ false }
     ensures did { IfOk result (λ did. Does layout.now blocks.old blocks.new did (λ scene world. operations.operate scene world (map view_of_at locks.now)
-        (label_of (view layout.now node.now)) (type_of layout.now node.now.kind) (view_of_operands layout.now operands))) }
+        (label_of (view layout.now node.now)) (type_of layout.now node.now.kind) (view_of_operands layout.now operands.entry))) }
     ensures known { AreKnown layout.now blocks.new }
 {
     let own = operator_of(layout.types(), &node.form)?;
@@ -67,7 +67,7 @@ fn performed(
     locks: &[At],
     kind: TypeId,
     own: Operator,
-    operands: Operands,
+    operands: Operands<'_>,
 ) -> Result<Did, Memory>
     requires kind { IsId layout.now kind }
     requires known { AreKnown layout.now blocks.old }
@@ -75,16 +75,13 @@ fn performed(
     requires operands { AreKnownOperands layout.now operands }
     ensures did { (label : Label) → Stands layout.now own label → asks_names label ≡ false
         → IfOk result (λ did. Does layout.now blocks.old blocks.new did (λ scene world. operations.operate scene world (map view_of_at locks.now)
-        label (type_of layout.now kind) (view_of_operands layout.now operands))) }
+        label (type_of layout.now kind) (view_of_operands layout.now operands.entry))) }
     ensures known { AreKnown layout.now blocks.new }
 {
     match own {
-        Operator::Leaf(leaf) => {
-            drop(operands);
-            Ok(perform_leaf(layout, kind, leaf))
-        }
-        Operator::Convert => match operands.into_one() {
-            Some(a) => Ok(convert(layout, blocks, kind, a.result)),
+        Operator::Leaf(leaf) => Ok(perform_leaf(layout, kind, leaf)),
+        Operator::Convert => match operands.one() {
+            Some(a) => Ok(convert(layout, blocks, kind, &a.result)?),
             None => Ok(Did::ill()),
         },
         Operator::Decay => on_decay(alloc, layout, blocks, kind, operands),
@@ -96,10 +93,7 @@ fn performed(
         Operator::Update(op, works) => {
             on_update(alloc, layout, blocks, locks, kind, op, works, operands)
         }
-        Operator::Other => {
-            drop(operands);
-            Ok(Did::ill())
-        }
+        Operator::Other => Ok(Did::ill()),
     }
 }
 
@@ -109,17 +103,17 @@ fn on_decay(
     layout: &Layout,
     blocks: &Blocks,
     kind: TypeId,
-    operands: Operands,
+    operands: Operands<'_>,
 ) -> Result<Did, Memory>
     requires kind { IsId layout.now kind }
     requires known { AreKnown layout.now blocks.now }
     requires operands { AreKnownOperands layout.now operands }
     ensures { (label : Label) (locks : List values.At) → Stands layout.now variant.Decay label → asks_names label ≡ false
         → IfOk result (λ did. Does layout.now blocks.now blocks.now did (λ scene world. operations.operate scene world locks
-        label (type_of layout.now kind) (view_of_operands layout.now operands))) }
+        label (type_of layout.now kind) (view_of_operands layout.now operands.entry))) }
 {
-    match operands.into_one() {
-        Some(a) => Ok(decay(alloc, layout, blocks, &a)?),
+    match operands.one() {
+        Some(a) => decay(alloc, layout, blocks, a),
         None => Ok(Did::ill()),
     }
 }
@@ -131,17 +125,17 @@ fn on_member(
     blocks: &Blocks,
     kind: TypeId,
     number: u32,
-    operands: Operands,
+    operands: Operands<'_>,
 ) -> Result<Did, Memory>
     requires kind { IsId layout.now kind }
     requires known { AreKnown layout.now blocks.now }
     requires operands { AreKnownOperands layout.now operands }
     ensures { (label : Label) (locks : List values.At) → Stands layout.now (variant.Member number) label → asks_names label ≡ false
         → IfOk result (λ did. Does layout.now blocks.now blocks.now did (λ scene world. operations.operate scene world locks
-        label (type_of layout.now kind) (view_of_operands layout.now operands))) }
+        label (type_of layout.now kind) (view_of_operands layout.now operands.entry))) }
 {
-    match operands.into_one() {
-        Some(a) => Ok(member(alloc, layout, blocks, number, &a)?),
+    match operands.one() {
+        Some(a) => member(alloc, layout, blocks, number, a),
         None => Ok(Did::ill()),
     }
 }
@@ -152,15 +146,15 @@ fn on_value(
     blocks: &Blocks,
     kind: TypeId,
     own: OnValue,
-    operands: Operands,
+    operands: Operands<'_>,
 ) -> Result<Did, Memory>
     requires { IsId layout.now kind }
     ensures { (label : Label) (locks : List values.At) → Stands layout.now (variant.Value own) label → asks_names label ≡ false
         → IfOk result (λ did. Does layout.now blocks.now blocks.now did (λ scene world. operations.operate scene world locks
-        label (type_of layout.now kind) (view_of_operands layout.now operands))) }
+        label (type_of layout.now kind) (view_of_operands layout.now operands.entry))) }
 {
-    match operands.into_value() {
-        Some(value) => Ok(perform_on_value(layout, blocks, kind, own, &value)?),
+    match operands.value() {
+        Some(value) => Ok(perform_on_value(layout, blocks, kind, own, value)?),
         None => Ok(Did::ill()),
     }
 }
@@ -173,16 +167,16 @@ fn on_place(
     locks: &[At],
     kind: TypeId,
     own: OnPlace,
-    operands: Operands,
+    operands: Operands<'_>,
 ) -> Result<Did, Memory>
     requires kind { IsId layout.now kind }
     requires known { AreKnown layout.now blocks.old }
     ensures did { (label : Label) → Stands layout.now (variant.Place own) label → asks_names label ≡ false
         → IfOk result (λ did. Does layout.now blocks.old blocks.new did (λ scene world. operations.operate scene world (map view_of_at locks.now)
-        label (type_of layout.now kind) (view_of_operands layout.now operands))) }
+        label (type_of layout.now kind) (view_of_operands layout.now operands.entry))) }
     ensures known { AreKnown layout.now blocks.new }
 {
-    match operands.into_place() {
+    match operands.place() {
         Some(at) => Ok(perform_on_place(alloc, layout, blocks, locks, kind, own, at)?),
         None => Ok(Did::ill()),
     }
@@ -195,17 +189,17 @@ fn on_both(
     blocks: &Blocks,
     kind: TypeId,
     op: Op,
-    operands: Operands,
+    operands: Operands<'_>,
 ) -> Result<Did, Memory>
     requires kind { IsId layout.now kind }
     requires known { AreKnown layout.now blocks.now }
     requires operands { AreKnownOperands layout.now operands }
     ensures { (label : Label) (locks : List values.At) → Stands layout.now (variant.Binary op) label → asks_names label ≡ false
         → IfOk result (λ did. Does layout.now blocks.now blocks.now did (λ scene world. operations.operate scene world locks
-        label (type_of layout.now kind) (view_of_operands layout.now operands))) }
+        label (type_of layout.now kind) (view_of_operands layout.now operands.entry))) }
 {
-    match operands.into_two() {
-        Some((a, b)) => Ok(perform_binary(alloc, layout, blocks, kind, op, &a, &b)?),
+    match operands.two() {
+        Some((a, b)) => perform_binary(alloc, layout, blocks, kind, op, a, b),
         None => Ok(Did::ill()),
     }
 }
@@ -217,17 +211,17 @@ fn on_store(
     blocks: &mut Blocks,
     locks: &[At],
     kind: TypeId,
-    operands: Operands,
+    operands: Operands<'_>,
 ) -> Result<Did, Memory>
     requires kind { IsId layout.now kind }
     requires known { AreKnown layout.now blocks.old }
     requires operands { AreKnownOperands layout.now operands }
     ensures did { (label : Label) → Stands layout.now (variant.Store) label → asks_names label ≡ false
         → IfOk result (λ did. Does layout.now blocks.old blocks.new did (λ scene world. operations.operate scene world (map view_of_at locks.now)
-        label (type_of layout.now kind) (view_of_operands layout.now operands))) }
+        label (type_of layout.now kind) (view_of_operands layout.now operands.entry))) }
     ensures known { AreKnown layout.now blocks.new }
 {
-    match operands.into_two() {
+    match operands.two() {
         Some((a, b)) => Ok(perform_store(alloc, layout, blocks, locks, kind, a, b)?),
         None => Ok(Did::ill()),
     }
@@ -242,7 +236,7 @@ fn on_update(
     kind: TypeId,
     op: Op,
     works: TypeId,
-    operands: Operands,
+    operands: Operands<'_>,
 ) -> Result<Did, Memory>
     requires kind { IsId layout.now kind }
     requires known { AreKnown layout.now blocks.old }
@@ -250,10 +244,10 @@ fn on_update(
     requires operands { AreKnownOperands layout.now operands }
     ensures did { (label : Label) → Stands layout.now (variant.Update op works) label → asks_names label ≡ false
         → IfOk result (λ did. Does layout.now blocks.old blocks.new did (λ scene world. operations.operate scene world (map view_of_at locks.now)
-        label (type_of layout.now kind) (view_of_operands layout.now operands))) }
+        label (type_of layout.now kind) (view_of_operands layout.now operands.entry))) }
     ensures known { AreKnown layout.now blocks.new }
 {
-    match operands.into_two() {
+    match operands.two() {
         Some((a, b)) => Ok(perform_update(alloc, layout, blocks, locks, kind, op, works, a, b)?),
         None => Ok(Did::ill()),
     }
@@ -311,21 +305,24 @@ fn perform_on_place(
     locks: &[At],
     kind: TypeId,
     own: OnPlace,
-    at: At,
+    at: &At,
 ) -> Result<Did, Memory>
     requires kind { IsId layout.now kind }
     requires known { AreKnown layout.now blocks.old }
     ensures did { (label : Label) (type : CType) → StandsOnPlace own label
         → IfOk result (λ did. Does layout.now blocks.old blocks.new did (λ scene world. operations.operate scene world (map view_of_at locks.now)
-        label (type_of layout.now kind) (record { kind = type; result = operations.designates (view_of_at at) } ∷ []))) }
+        label (type_of layout.now kind) (record { kind = type; result = operations.designates (view_of_at at.now) } ∷ []))) }
     ensures known { AreKnown layout.now blocks.new }
 {
     match own {
-        OnPlace::Read => Ok(read(alloc, layout, blocks, locks, kind, &at)?),
-        OnPlace::Address => Ok(address(alloc, at)?),
-        OnPlace::Count { plus, before } => Ok(count(
-            alloc, layout, blocks, locks, kind, plus, before, at,
-        )?),
+        OnPlace::Read => read(alloc, layout, blocks, locks, kind, at),
+        OnPlace::Address => {
+            let same = at.copy()?;
+            Ok(address(alloc, same)?)
+        }
+        OnPlace::Count { plus, before } => {
+            count(alloc, layout, blocks, locks, kind, plus, before, at)
+        }
     }
 }
 
@@ -351,8 +348,7 @@ fn perform_binary(
     let Evaluation::Value(right) = &b.result else {
         return Ok(Did::ill());
     };
-    let did = combine(alloc, layout, blocks, kind, a.kind, op, left, right)?;
-    Ok(did)
+    combine(alloc, layout, blocks, kind, a.kind, op, left, right)
 }
 
 /// An assignment (6.5.16.1).
@@ -362,18 +358,18 @@ fn perform_store(
     blocks: &mut Blocks,
     locks: &[At],
     kind: TypeId,
-    a: Operand,
-    b: Operand,
+    a: &Operand,
+    b: &Operand,
 ) -> Result<Did, Memory>
     requires kind { IsId layout.now kind }
     requires known { AreKnown layout.now blocks.old }
-    ensures did { IfOk result (λ did. Does layout.now blocks.old blocks.new did (λ scene world. operations.on_place (view_of_evaluation a.result)
-        (λ at. operations.on_set (view_of_evaluation b.result) (operations.store_at scene world (map view_of_at locks.now) (type_of layout.now kind) at)))) }
+    ensures did { IfOk result (λ did. Does layout.now blocks.old blocks.new did (λ scene world. operations.on_place (view_of_evaluation a.now.result)
+        (λ at. operations.on_set (view_of_evaluation b.now.result) (operations.store_at scene world (map view_of_at locks.now) (type_of layout.now kind) at)))) }
     ensures known { AreKnown layout.now blocks.new }
 {
-    match a.result {
+    match &a.result {
         Evaluation::Object(at) => {
-            let did = store(alloc, layout, blocks, locks, kind, at, b.result)?;
+            let did = store(alloc, layout, blocks, locks, kind, at, &b.result)?;
             Ok(did)
         }
         Evaluation::Value(_) => Ok(Did::ill()),
@@ -389,20 +385,20 @@ fn perform_update(
     kind: TypeId,
     op: Op,
     works: TypeId,
-    a: Operand,
-    b: Operand,
+    a: &Operand,
+    b: &Operand,
 ) -> Result<Did, Memory>
     requires kind { IsId layout.now kind }
     requires works { IsId layout.now works }
     requires known { AreKnown layout.now blocks.old }
-    ensures did { IfOk result (λ did. Does layout.now blocks.old blocks.new did (λ scene world. operations.on_place (view_of_evaluation a.result)
-        (λ at. operations.on_value (view_of_evaluation b.result)
+    ensures did { IfOk result (λ did. Does layout.now blocks.old blocks.new did (λ scene world. operations.on_place (view_of_evaluation a.now.result)
+        (λ at. operations.on_value (view_of_evaluation b.now.result)
         (operations.update_at scene world (map view_of_at locks.now) (type_of layout.now kind) op (type_of layout.now works) at)))) }
     ensures known { AreKnown layout.now blocks.new }
 {
-    match a.result {
+    match &a.result {
         Evaluation::Object(at) => {
-            let did = update_place(alloc, layout, blocks, locks, kind, op, works, at, b.result)?;
+            let did = update_place(alloc, layout, blocks, locks, kind, op, works, at, &b.result)?;
             Ok(did)
         }
         Evaluation::Value(_) => Ok(Did::ill()),
@@ -418,19 +414,19 @@ fn update_place(
     kind: TypeId,
     op: Op,
     works: TypeId,
-    at: At,
-    right: Evaluation,
+    at: &At,
+    right: &Evaluation,
 ) -> Result<Did, Memory>
     requires kind { IsId layout.now kind }
     requires works { IsId layout.now works }
     requires known { AreKnown layout.now blocks.old }
-    ensures did { IfOk result (λ did. Does layout.now blocks.old blocks.new did (λ scene world. operations.on_value (view_of_evaluation right)
-        (operations.update_at scene world (map view_of_at locks.now) (type_of layout.now kind) op (type_of layout.now works) (view_of_at at)))) }
+    ensures did { IfOk result (λ did. Does layout.now blocks.old blocks.new did (λ scene world. operations.on_value (view_of_evaluation right.now)
+        (operations.update_at scene world (map view_of_at locks.now) (type_of layout.now kind) op (type_of layout.now works) (view_of_at at.now)))) }
     ensures known { AreKnown layout.now blocks.new }
 {
     match right {
         Evaluation::Value(right) => {
-            let did = update(alloc, layout, blocks, locks, kind, op, works, at, &right)?;
+            let did = update(alloc, layout, blocks, locks, kind, op, works, at, right)?;
             Ok(did)
         }
         Evaluation::Object(_) => Ok(Did::ill()),

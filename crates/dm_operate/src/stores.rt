@@ -30,29 +30,30 @@ pub(crate) fn store(
     blocks: &mut Blocks,
     locks: &[At],
     kind: TypeId,
-    at: At,
-    operand: Evaluation,
+    at: &At,
+    operand: &Evaluation,
 ) -> Result<Did, Memory>
     requires kind { IsId layout.now kind }
     requires known { AreKnown layout.now blocks.old }
-    ensures did { IfOk result (λ did. Does layout.now blocks.old blocks.new did (λ scene world. operations.on_set (view_of_evaluation operand)
-        (operations.store_at scene world (map view_of_at locks.now) (type_of layout.now kind) (view_of_at at)))) }
+    ensures did { IfOk result (λ did. Does layout.now blocks.old blocks.new did (λ scene world. operations.on_set (view_of_evaluation operand.now)
+        (operations.store_at scene world (map view_of_at locks.now) (type_of layout.now kind) (view_of_at at.now)))) }
     ensures known { AreKnown layout.now blocks.new }
 {
-    let Some(value) = operand.into_set() else {
+    let Some(value) = operand.set() else {
         return Ok(Did::ill());
     };
-    if let Some(cause) = to_store(layout, blocks, locks, kind, &at) {
+    if let Some(cause) = to_store(layout, blocks, locks, kind, at) {
         return Ok(Did::Breaks(cause));
     }
-    let did = written(alloc, blocks, at, value)?;
+    let stored = value.copy()?;
+    let did = written(alloc, blocks, at, stored)?;
     Ok(did)
 }
 
 /// A value in an object, and what that gives: the value itself.
-fn written(alloc: Global, blocks: &mut Blocks, at: At, value: Value) -> Result<Did, Memory>
+fn written(alloc: Global, blocks: &mut Blocks, at: &At, value: Value) -> Result<Did, Memory>
     ensures did { (types : Table) → IfOk result (λ did. Does types blocks.old blocks.new did (λ scene world. operations.gives
-        (record world { memory = memory.written world.memory (view_of_at at) (view_of_value value) }) (operations.of_value (view_of_value value)) (view_of_at at ∷ []))) }
+        (record world { memory = memory.written world.memory (view_of_at at.now) (view_of_value value) }) (operations.of_value (view_of_value value)) (view_of_at at.now ∷ []))) }
     ensures known { (types : Table) → AreKnown types blocks.old → AreKnown types blocks.new }
 {
     let given = value.copy()?;
@@ -64,16 +65,17 @@ fn written(alloc: Global, blocks: &mut Blocks, at: At, value: Value) -> Result<D
 fn replaced(
     alloc: Global,
     blocks: &mut Blocks,
-    at: At,
+    at: &At,
     value: Value,
     given: Value,
 ) -> Result<Did, Memory>
     ensures did { (types : Table) → IfOk result (λ did. Does types blocks.old blocks.new did (λ scene world. operations.gives
-        (record world { memory = memory.written world.memory (view_of_at at) (view_of_value value) }) (operations.of_value (view_of_value given)) (view_of_at at ∷ []))) }
+        (record world { memory = memory.written world.memory (view_of_at at.now) (view_of_value value) }) (operations.of_value (view_of_value given)) (view_of_at at.now ∷ []))) }
     ensures known { (types : Table) → AreKnown types blocks.old → AreKnown types blocks.new }
 {
-    blocks.store(alloc, &at, value)?;
-    Ok(Did::Gives(Evaluation::Value(given), Some(at)))
+    let lock = at.copy()?;
+    blocks.store(alloc, at, value)?;
+    Ok(Did::Gives(Evaluation::Value(given), Some(lock)))
 }
 
 /// A compound assignment (6.5.16.2).
@@ -85,22 +87,23 @@ pub(crate) fn update(
     kind: TypeId,
     op: Op,
     works: TypeId,
-    at: At,
+    at: &At,
     right: &Value,
 ) -> Result<Did, Memory>
     requires kind { IsId layout.now kind }
     requires works { IsId layout.now works }
     requires known { AreKnown layout.now blocks.old }
     ensures did { IfOk result (λ did. Does layout.now blocks.old blocks.new did (λ scene world. operations.update_at scene world
-        (map view_of_at locks.now) (type_of layout.now kind) op (type_of layout.now works) (view_of_at at) (view_of_value right.now))) }
+        (map view_of_at locks.now) (type_of layout.now kind) op (type_of layout.now works) (view_of_at at.now) (view_of_value right.now))) }
     ensures known { AreKnown layout.now blocks.new }
 {
-    let object = blocks.contents(alloc, &at)?;
+    let object = blocks.contents(alloc, at)?;
     let made = replacement::update(alloc, layout, blocks, kind, op, works, &object, right)?;
     let Made { cause, value } = made;
-    match why_not(layout, blocks, locks, kind, &at, cause) {
+    match why_not(layout, blocks, locks, kind, at, cause) {
         Some(cause) => Ok(Did::Breaks(cause)),
         None => {
+            drop(object);
             let did = written(alloc, blocks, at, value)?;
             Ok(did)
         }
@@ -134,18 +137,18 @@ pub(crate) fn count(
     kind: TypeId,
     plus: bool,
     before: bool,
-    at: At,
+    at: &At,
 ) -> Result<Did, Memory>
     requires kind { IsId layout.now kind }
     requires known { AreKnown layout.now blocks.old }
     ensures did { IfOk result (λ did. Does layout.now blocks.old blocks.new did (λ scene world. operations.count_at scene world
-        (map view_of_at locks.now) (type_of layout.now kind) plus before (view_of_at at))) }
+        (map view_of_at locks.now) (type_of layout.now kind) plus before (view_of_at at.now))) }
     ensures known { AreKnown layout.now blocks.new }
 {
-    let object = blocks.contents(alloc, &at)?;
+    let object = blocks.contents(alloc, at)?;
     let made = replacement::count(alloc, layout, blocks, kind, plus, &object)?;
     let Made { cause, value } = made;
-    match why_not(layout, blocks, locks, kind, &at, cause) {
+    match why_not(layout, blocks, locks, kind, at, cause) {
         Some(cause) => Ok(Did::Breaks(cause)),
         None => {
             let did = counted(alloc, blocks, at, value, object, before)?;
@@ -158,14 +161,14 @@ pub(crate) fn count(
 fn counted(
     alloc: Global,
     blocks: &mut Blocks,
-    at: At,
+    at: &At,
     value: Value,
     object: Value,
     before: bool,
 ) -> Result<Did, Memory>
     ensures did { (types : Table) → IfOk result (λ did. Does types blocks.old blocks.new did (λ scene world. operations.gives
-        (record world { memory = memory.written world.memory (view_of_at at) (view_of_value value) })
-        (operations.of_value (if before then view_of_value value else view_of_value object)) (view_of_at at ∷ []))) }
+        (record world { memory = memory.written world.memory (view_of_at at.now) (view_of_value value) })
+        (operations.of_value (if before then view_of_value value else view_of_value object)) (view_of_at at.now ∷ []))) }
     ensures known { (types : Table) → AreKnown types blocks.old → AreKnown types blocks.new }
 {
     if before {

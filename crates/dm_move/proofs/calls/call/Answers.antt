@@ -17,7 +17,7 @@ returns-in_ok-step-in-Some-clause-step c = λ statics objects kind place locks.
     let table = source.table in
     let scene = scene_with source statics objects in
     let world = world_of table c.args.blocks.now c.args.streams.now in
-    let given = map (λ a. value_of a.result) (map (view_of_operand table) (results_of c.args.operands)) in
+    let given = map (λ a. value_of a.result) (map (view_of_operand table) (results_of c.args.operands.now)) in
     c.in_ok-step-in-Some.ensures.step statics objects kind place locks
     ∙ (ap (λ (all : List values.Value). called scene world kind place all c.in-Some.number (definition_of (meant source) c.in-Some.number)) (c.in_ok-arguments-in-Some.ensures table)
     ∙ ap (call_step scene world kind place given) (c.in-Some.ensures table ∙ sym (named-core table c.args.function.now)))
@@ -26,5 +26,5 @@ pub returns-in-None-clause-step : goal.returns-in-None-clause-step
 returns-in-None-clause-step c = λ statics objects kind place locks.
     let source = c.args.program.now in
     let table = source.table in
-    let given = map (λ a. value_of a.result) (map (view_of_operand table) (results_of c.args.operands)) in
+    let given = map (λ a. value_of a.result) (map (view_of_operand table) (results_of c.args.operands.now)) in
     ap (call_step (scene_with source statics objects) (world_of table c.args.blocks.now c.args.streams.now) kind place given) (c.in-None.ensures table ∙ sym (named-core table c.args.function.now))

@@ -20,9 +20,10 @@ use Rattle.dm_expression.specs.Waiting.{view_of_waiting}
 use Rattle.dm_frame.specs.Frames.{tasks_of}
 use Rattle.dm_frame.specs.Tasks.{view_of_use}
 use Rattle.dm_state.specs.Standing.{see, world_of}
-use Rattle.dm_state.specs.Turns.{state_with, IsLeft}
+use Rattle.dm_state.specs.Turns.{state_with}
 use Rattle.dm_state.proofs.FitLemmas.{run-under}
 use Rattle.dm_value.specs.Places.{view_of_at}
+use Rattle.dm_move.specs.Progressing.{IsProgress}
 use Rattle.dm_move.specs.Settling.{gap}
 use Rattle.dm_move.specs.Steps.{scene_with, view_of_step}
 use Rattle.dm_move.proofs.MoveLemmas.{are-operands, fits-left, lacks-of, locks-of, node-fits, operands-of, results-known, room, step-chosen}
@@ -36,7 +37,7 @@ stands-still table one next run stands same = subst (λ (l : List At). Stands (s
 pub take_step-requires-clause-node : goal.take_step-requires-clause-node
 take_step-requires-clause-node c =
     let table = c.args.program.now.table in
-    let one = c.args.ongoing.expression in
+    let one = c.args.ongoing.now.expression in
     let next = c.take.new.self in
     let h = c.requires.ongoing in
     let fits = node-fits table c.args.choice one.row next.row next.locks.items h.run c.in_ok-taken.taken (stands-still table one next h.run h.under c.take.ensures.locks) c.in_ok-taken.ensures.taken h.fits in
@@ -45,7 +46,7 @@ take_step-requires-clause-node c =
 pub take_step-requires-clause-operands : goal.take_step-requires-clause-operands
 take_step-requires-clause-operands c =
     let table = c.args.program.now.table in
-    let one = c.args.ongoing.expression in
+    let one = c.args.ongoing.now.expression in
     let next = c.take.new.self in
     let h = c.requires.ongoing in
     results-known table c.args.choice one.row next.row next.locks.items h.run c.in_ok-taken.taken (stands-still table one next h.run h.under c.take.ensures.locks) c.in_ok-taken.ensures.taken h.fits
@@ -53,7 +54,7 @@ take_step-requires-clause-operands c =
 pub settle-requires-clause-room : goal.settle-requires-clause-room
 settle-requires-clause-room c =
     let table = c.args.program.now.table in
-    let one = c.args.ongoing.expression in
+    let one = c.args.ongoing.now.expression in
     let next = c.take.new.self in
     let h = c.requires.ongoing in
     room table c.args.choice one.row next.row next.locks.items h.run c.in_ok-taken.taken (stands-still table one next h.run h.under c.take.ensures.locks) c.in_ok-taken.ensures.taken h.fits
@@ -61,7 +62,7 @@ settle-requires-clause-room c =
 pub settle-requires-clause-lacking : goal.settle-requires-clause-lacking
 settle-requires-clause-lacking c =
     let table = c.args.program.now.table in
-    let one = c.args.ongoing.expression in
+    let one = c.args.ongoing.now.expression in
     let next = c.take.new.self in
     let h = c.requires.ongoing in
     let stands = stands-still table one next h.run h.under c.take.ensures.locks in
@@ -73,7 +74,7 @@ settle-requires-clause-lacking c =
 pub settle-requires-clause-node : goal.settle-requires-clause-node
 settle-requires-clause-node c =
     let table = c.args.program.now.table in
-    let one = c.args.ongoing.expression in
+    let one = c.args.ongoing.now.expression in
     let next = c.take.new.self in
     let h = c.requires.ongoing in
     let fits = node-fits table c.args.choice one.row next.row next.locks.items h.run c.in_ok-taken.taken (stands-still table one next h.run h.under c.take.ensures.locks) c.in_ok-taken.ensures.taken h.fits in
@@ -84,7 +85,7 @@ returns c = λ tasks.
     let source = c.args.program.now in
     let table = source.table in
     let old = c.args.running.now in
-    let one = c.args.ongoing.expression in
+    let one = c.args.ongoing.now.expression in
     let next = c.take.new.self in
     let all = c.in_ok-taken.taken in
     let taken = c.in_ok-taken.ensures.taken in
@@ -96,9 +97,9 @@ returns c = λ tasks.
     let after = world_of table c.take_step.new.blocks c.take_step.new.streams in
     let state = state_with table tasks old in
     let names = in_order before.memory in
-    let use_of = view_of_use table c.args.ongoing.use_of in
+    let use_of = view_of_use table c.args.ongoing.now.use_of in
     let rest = tasks_of table old.frame in
-    let place = c.args.ongoing.place in
+    let place = c.args.ongoing.now.place in
     let hole = gap table next all.locks in
     let node = all.node.node.now in
     let kind = type_of table (out-Core node).kind in
@@ -112,4 +113,4 @@ returns c = λ tasks.
     let leads =
     ap (λ (run : Run). chosen state choice (expression_steps (meant source) names state rest place use_of run)) (run-under table one h.run h.under)
     ∙ (step-chosen table choice one.row next.row locks h.run all stands taken h.fits (meant source) state names place use_of rest ∙ sym (ap into same)) in
-    subst (λ (state : states.State). IsLeft table c.in_ok-turn.turn c.settle.new.running state) (sym leads) (c.in_ok-turn.ensures tasks before c.in_ok-step.ensures.keeps)
+    subst (λ (state : states.State). IsProgress table c.in_ok-progress.progress c.settle.new.running c.settle.new.ongoing state) (sym leads) (c.in_ok-progress.ensures tasks before c.in_ok-step.ensures.keeps)

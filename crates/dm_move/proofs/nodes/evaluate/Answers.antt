@@ -55,7 +55,7 @@ returns-in-Both-clause-step c = λ own are.
     let kind = type_of table (out-Core node).kind in
     let place = (out-Core node).place in
     let form = (out-Core node).form in
-    let results = results_of c.args.operands in
+    let results = results_of c.args.operands.now in
     let a = c.in-Both.field-0.now in
     let b = c.in-Both.second.now in
     let is = c.in-Both.ensures table in
@@ -82,7 +82,7 @@ returns-in-Either-clause-step c = λ own are.
     let kind = type_of table (out-Core node).kind in
     let place = (out-Core node).place in
     let form = (out-Core node).form in
-    let results = results_of c.args.operands in
+    let results = results_of c.args.operands.now in
     let a = c.in-Either.field-0.now in
     let b = c.in-Either.second.now in
     let is = c.in-Either.ensures table in
@@ -109,7 +109,7 @@ returns-in-Choose-clause-step c = λ own are.
     let kind = type_of table (out-Core node).kind in
     let place = (out-Core node).place in
     let form = (out-Core node).form in
-    let results = results_of c.args.operands in
+    let results = results_of c.args.operands.now in
     let a = c.in-Choose.field-0.now in
     let b = c.in-Choose.second.now in
     let third = c.in-Choose.third.now in
@@ -136,7 +136,7 @@ returns-in-Comma-clause-step c = λ own are.
     let kind = type_of table (out-Core node).kind in
     let place = (out-Core node).place in
     let form = (out-Core node).form in
-    let results = results_of c.args.operands in
+    let results = results_of c.args.operands.now in
     step-comma table scene world held kind place results own form c.in-Comma.field-0.now c.in-Comma.second.now (c.in-Comma.ensures table) are
 
 pub returns-in-Comma-clause-fits : goal.returns-in-Comma-clause-fits
@@ -155,7 +155,7 @@ returns-in_ok-step-in-Call-clause-step c = λ own are.
     let kind = type_of table (out-Core node).kind in
     let place = (out-Core node).place in
     let form = (out-Core node).form in
-    let results = results_of c.args.operands in
+    let results = results_of c.args.operands.now in
     c.in_ok-step-in-Call.ensures.step c.args.statics.now c.args.objects.now kind place (locks_all own)
     ∙ step-call table scene world held kind place results own form c.in-Call.function.now c.in-Call.field-1.now (c.in-Call.ensures table) are
 
@@ -170,7 +170,7 @@ returns-in-Measures-clause-step c = λ own are.
     let kind = type_of table (out-Core node).kind in
     let place = (out-Core node).place in
     let form = (out-Core node).form in
-    let results = results_of c.args.operands in
+    let results = results_of c.args.operands.now in
     let measured = (out-Core c.in-Measures.tree.now).kind in
     let did =
     subst (λ (t : Table). view_of_did world c.size.result ≡ number_alone world (type_of t (out-Core node).kind) (pos (or_zero (size_of t (type_of t measured))))) c.layout-layout.ensures
@@ -192,7 +192,7 @@ returns-in-Enumerator-clause-step c = λ own are.
     let kind = type_of table (out-Core node).kind in
     let place = (out-Core node).place in
     let form = (out-Core node).form in
-    let results = results_of c.args.operands in
+    let results = results_of c.args.operands.now in
     c.of_did-in-Enumerator.ensures.step table kind place (locks_all own) world
     ∙ (ap (as_move kind place (locks_all own)) (c.enumerator.ensures world) ∙ enumerator-named table scene world held kind place results own form c.in-Enumerator.declared are (c.in-Enumerator.ensures table))
 
@@ -210,7 +210,7 @@ returns-in-Object-clause-step c = λ own are.
     let kind = type_of table (out-Core node).kind in
     let place = (out-Core node).place in
     let form = (out-Core node).form in
-    let results = results_of c.args.operands in
+    let results = results_of c.args.operands.now in
     let did = c.designated.ensures world ∙ ap (designated world) c.named.ensures in
     c.of_did-in-Object.ensures.step table kind place (locks_all own) world
     ∙ (ap (as_move kind place (locks_all own)) did ∙ object-named table scene world held kind place results own form c.in-Object.declared are (c.in-Object.ensures table))
@@ -229,7 +229,7 @@ returns-in_ok-step-in-Operates-clause-step c = λ own are.
     let kind = type_of table (out-Core node).kind in
     let place = (out-Core node).place in
     let form = (out-Core node).form in
-    let results = results_of c.args.operands in
+    let results = results_of c.args.operands.now in
     let is = c.in-Operates.ensures table in
     let all = map (view_of_operand table) results in
     let beside : Beside = record {

@@ -7,7 +7,7 @@ use Rattle.dm_memory.specs.Scenes.{world_in}
 use Rattle.dm_operate.proofs.SeenLemmas.{seen-Pointer}
 use Rattle.dm_operate.proofs.conversions.to_pointer.Goals as goal
 
-pub returns-in-Pointer : goal.returns-in-Pointer
-returns-in-Pointer c =
-    λ types target beside. c.used.ensures types target beside
-    ∙ sym (ap (converted (world_in (view_of_blocks types c.args.blocks.now) beside) (ctypes.pointer target)) (seen-Pointer c.args.value c.in-Pointer.pointer c.in-Pointer.is))
+pub returns-in_ok-did-in-Pointer : goal.returns-in_ok-did-in-Pointer
+returns-in_ok-did-in-Pointer c =
+    λ types target beside. c.in_ok-did-in-Pointer.ensures types target beside
+    ∙ sym (ap (converted (world_in (view_of_blocks types c.args.blocks.now) beside) (ctypes.pointer target)) (seen-Pointer c.args.value.now c.in-Pointer.pointer c.in-Pointer.is))

@@ -20,7 +20,7 @@ returns-in_ok-perform_on_place-in-Some-clause-did c =
     let scene = scene_in table beside in
     let world = world_in (view_of_blocks table c.args.blocks.now) beside in
     c.in_ok-perform_on_place-in-Some.ensures.did label void stands beside
-    ∙ operate-place scene world locks kind c.args.own label stands (record { kind = void; result = designates (view_of_at c.in-Some.at) } ∷ [])
+    ∙ operate-place scene world locks kind c.args.own label stands (record { kind = void; result = designates (view_of_at c.in-Some.at.now) } ∷ [])
     ∙ sym (operate-place scene world locks kind c.args.own label stands operands ∙ c.in-Some.ensures table (with_place scene world locks kind c.args.own))
 
 pub returns-in-None-clause-did : goal.returns-in-None-clause-did

@@ -19,7 +19,7 @@ returns-in_ok-perform_on_value-in-Some c =
     let scene = scene_in table beside in
     let world = world_in (view_of_blocks table c.args.blocks.now) beside in
     c.in_ok-perform_on_value-in-Some.ensures label void locks stands beside
-    ∙ operate-value scene world locks kind c.args.own label stands (record { kind = void; result = of_value (view_of_value c.in-Some.value) } ∷ [])
+    ∙ operate-value scene world locks kind c.args.own label stands (record { kind = void; result = of_value (view_of_value c.in-Some.value.now) } ∷ [])
     ∙ sym (operate-value scene world locks kind c.args.own label stands operands ∙ c.in-Some.ensures table (with_value scene world locks kind c.args.own))
 
 pub returns-in-None : goal.returns-in-None

@@ -15,7 +15,7 @@ pub returns-in-Some-clause-did : goal.returns-in-Some-clause-did
 returns-in-Some-clause-did c =
     let table = c.args.layout.now in
     let kind = type_of table c.args.kind in
-    let at = view_of_at c.args.at in
+    let at = view_of_at c.args.at.now in
     let locks = map view_of_at c.args.locks.now in
     let memory = view_of_blocks table c.args.blocks.now in
     λ beside.
@@ -31,7 +31,7 @@ pub returns-in_ok-did-in-None-clause-did : goal.returns-in_ok-did-in-None-clause
 returns-in_ok-did-in-None-clause-did c =
     let table = c.args.layout.now in
     let kind = type_of table c.args.kind in
-    let at = view_of_at c.args.at in
+    let at = view_of_at c.args.at.now in
     let locks = map view_of_at c.args.locks.now in
     let memory = view_of_blocks table c.args.blocks.now in
     λ beside.
