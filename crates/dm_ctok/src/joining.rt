@@ -107,14 +107,16 @@ pub struct Joiner {
 }
 
 impl Joiner {
-    pub fn new(alloc: Global) -> Joiner
-        ensures done { result.done ≡ [] }
-        ensures pending { result.pending ≡ None }
+    /// None yet, with room for so many.
+    pub fn with_room(alloc: Global, count: usize) -> Result<Joiner, Memory>
+        ensures done { IfOk result (λ joiner. joiner.done ≡ []) }
+        ensures pending { IfOk result (λ joiner. joiner.pending ≡ None) }
     {
-        Joiner {
-            done: List::new(alloc),
+        let done = Vec::with_capacity(alloc, count)?;
+        Ok(Joiner {
+            done: List::from_vec(done),
             pending: None,
-        }
+        })
     }
 
     /// Takes what the next token becomes.
@@ -156,6 +158,10 @@ impl Joiner {
         ensures done { OnOk result (self.new.done ≡ self.old.done ++ as_list self.old.pending) }
         ensures pending { OnOk result (self.new.pending ≡ None) }
     {
+        // Most tokens stand behind no literal, and then nothing is moved.
+        if self.pending.is_none() {
+            return Ok(());
+        }
         if let Some(pending) = self.pending.take() {
             self.done.push(pending.close(alloc)?)?;
         }

@@ -33,7 +33,7 @@ pub fn ctokens(alloc: Global, tokens: &[Token]) -> Result<List<CToken>, Stop>
     ensures { Gives (λ given. given) result (ctokens_of tokens.now) }
 {
     let keywords = keywords();
-    let mut joiner = Joiner::new(alloc);
+    let mut joiner = Joiner::with_room(alloc, tokens.len())?;
     for token in tokens {
         joiner.take(alloc, &keywords, token)?;
     }

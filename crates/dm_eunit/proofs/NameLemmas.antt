@@ -6,7 +6,7 @@ use Rattle.std.specs.Ordering.{nat_cmp}
 use Rattle.std.proofs.Common.{sym, ap, ◌∙◌, append_assoc, drop-cons, add-one, get_or}
 use Rattle.std.proofs.lemmas.List.{drop-map}
 use Rattle.dm_type.specs.Tables.{Table}
-use Rattle.dm_scope.specs.Scopes.{Scopes, number_of, is_declared, or_else}
+use Rattle.dm_scope.specs.Scopes.{Scopes, is_declared}
 use Rattle.dm_name_map.specs.Numbers.{Numbers}
 use Rattle.dm_tree.specs.declared.unit.Declared.{Declared}
 use Rattle.dm_tree.specs.Units.{Declaration}
@@ -25,15 +25,6 @@ not-here (scope ∷ scopes) name number h = go (finite.get scope name) h
     go : (found : Option ℕ) → is_some found ≡ false → is_number found number ≡ false
     go None e = refl
     go (Some other) e = absurd (cc)
-
--- it declares it
-pub here : (scopes : Scopes) (name : List ℕ) → is_declared scopes name ≡ true → finite.get (innermost scopes) name ≡ number_of scopes name
-here [] name h = absurd (cc)
-here (scope ∷ scopes) name h = go (finite.get scope name) h
-  where
-    go : (found : Option ℕ) → is_some found ≡ true → found ≡ or_else found (number_of scopes name)
-    go None e = absurd (cc)
-    go (Some other) e = refl
 
 -- ---- all of them
 

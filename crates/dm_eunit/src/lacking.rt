@@ -39,7 +39,7 @@ fn others(typer: &Typer<'_>, defined: &Scopes) -> Result<Scopes, Memory>
 }
 
 /// How many spellings are kept.
-const KEPT: usize = 128;
+const KEPT: usize = 1024;
 
 /// As many spellings as are kept, all of them this one.
 fn filled<'a>(
@@ -49,7 +49,7 @@ fn filled<'a>(
     spelling: &'a Text,
 ) -> Result<Vec<&'a Text>, Memory>
     requires { (has names.now spelling.now || has others.now spelling.now) ≡ true }
-    ensures kept { IfOk result (λ all. length all.items ≡ 128) }
+    ensures kept { IfOk result (λ all. length all.items ≡ 1024) }
     ensures known { IfOk result (λ all. All (λ one. (has names.now one.now || has others.now one.now) ≡ true) all.items) }
 {
     let mut all = Vec::new(alloc);
@@ -57,13 +57,18 @@ fn filled<'a>(
     Ok(all)
 }
 
-/// The number of the place at which a spelling is kept.
+/// The number of the place at which a spelling is kept. Names that differ in their ends, as numbered ones do, have mostly
+/// different ones.
 fn place_of(spelling: &Text) -> usize
-    ensures { result < 128 }
+    ensures { result < 1024 }
 {
     match spelling.bytes() {
+        [first, between @ .., before, last] => {
+            let ends = usize::from(*first) + 7 * usize::from(*before) + 64 * usize::from(*last);
+            (ends ^ between.len()) % KEPT
+        }
+        [first, ..] => usize::from(*first),
         [] => 0,
-        [first, behind @ ..] => (usize::from(*first) ^ behind.len()) % KEPT,
     }
 }
 
@@ -76,11 +81,11 @@ fn take<'a>(
     spelling: &'a Text,
 ) -> Result<(), Memory>
     requires set { IsSet names.old }
-    requires kept { length latest.old.items ≡ 128 }
+    requires kept { length latest.old.items ≡ 1024 }
     requires known { All (λ one. (has names.old one.now || has others.now one.now) ≡ true) latest.old.items }
     ensures set { OnOk result (IsSet names.new) }
     ensures has { OnOk result ((other : Sequence ℕ) → has names.new other ≡ (has names.old other || (bytes_eq spelling.now other && not (has others.now other)))) }
-    ensures kept { length latest.new.items ≡ 128 }
+    ensures kept { length latest.new.items ≡ 1024 }
     ensures known { OnOk result (All (λ one. (has names.new one.now || has others.now one.now) ≡ true) latest.new.items) }
 {
     let place = place_of(spelling);

@@ -19,7 +19,7 @@ use crate::state::{
 };
 use dm_phase::{Character, Cursor, Flat};
 use dm_spell::Spellings;
-use dm_token::{Place, PpToken, Refusal, Stop, refusals};
+use dm_token::{Memory, Place, PpToken, Refusal, Stop, refusals};
 use std::alloc::Global;
 
 /// A text and the file that it comes from.
@@ -50,15 +50,17 @@ pub struct Lexer {
 }
 
 impl Lexer {
-    pub fn new(alloc: Global, file: u32) -> Lexer
-        ensures at { result.at ≡ 0 }
-        ensures state { result.state ≡ first_state }
-        ensures single { result.single ≡ 0 }
-        ensures double { result.double ≡ 0 }
-        ensures here { result.here ≡ record { file = file; byte = 0; line = 1; column = 1 } }
-        ensures tokens { result.tokens.items ≡ [] }
+    /// Nothing is cut, and there is room for so many tokens.
+    pub fn with_room(alloc: Global, file: u32, count: usize) -> Result<Lexer, Memory>
+        ensures at { IfOk result (λ lexer. lexer.at ≡ 0) }
+        ensures state { IfOk result (λ lexer. lexer.state ≡ first_state) }
+        ensures single { IfOk result (λ lexer. lexer.single ≡ 0) }
+        ensures double { IfOk result (λ lexer. lexer.double ≡ 0) }
+        ensures here { IfOk result (λ lexer. lexer.here ≡ record { file = file; byte = 0; line = 1; column = 1 }) }
+        ensures tokens { IfOk result (λ lexer. lexer.tokens.items ≡ []) }
     {
-        Lexer {
+        let tokens = Vec::with_capacity(alloc, count)?;
+        Ok(Lexer {
             at: 0,
             state: State {
                 line: Line::Start,
@@ -72,8 +74,8 @@ impl Lexer {
                 line: 1,
                 column: 1,
             },
-            tokens: Vec::new(alloc),
-        }
+            tokens,
+        })
     }
 }
 

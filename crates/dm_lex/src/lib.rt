@@ -24,6 +24,9 @@ use lexer::{Lexer, Source, take_piece};
 use scan::token_at;
 use std::alloc::Global;
 
+/// About how many bytes there are to a token, with the blanks between tokens.
+const USUAL_BYTES: usize = 4;
+
 /// The preprocessing tokens of a file (6.4), where `flat` is its text after phases 1 and 2. A comment that doesn't end
 /// is refused as 2, at its first byte (5.1.1.2p1).
 pub fn tokens(alloc: Global, file: u32, flat: &Flat, bytes: &[u8]) -> Result<List<PpToken>, Stop>
@@ -41,7 +44,7 @@ pub fn tokens(alloc: Global, file: u32, flat: &Flat, bytes: &[u8]) -> Result<Lis
         text,
     };
     let table = punctuators();
-    let mut lexer = Lexer::new(alloc, file);
+    let mut lexer = Lexer::with_room(alloc, file, text.len() / USUAL_BYTES)?;
     let mut cursor = flat.cursor();
     while lexer.at < text.len() {
         take_piece(&source, &table, &mut lexer, &mut cursor)?;

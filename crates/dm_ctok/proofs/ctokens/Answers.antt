@@ -14,7 +14,7 @@ tokens-more tokens at token inside is = drop_more tokens at token inside ∙ ap 
 pub loop-token-init : goal.loop-token-init
 unfolding ctokens_of
 loop-token-init c =
-    let nothing = c.new-joiner.ensures in
+    let nothing = c.in_ok-joiner.ensures in
     rw (nothing.done, nothing.pending) (resumed-all (each c.args.tokens.now))
 
 pub returns-in_err-take : goal.returns-in_err-take
@@ -23,7 +23,7 @@ returns-in_err-take c =
     let at = c.loop-token.token-index in
     let joiner = c.loop-token.joiner in
     let rest = tokens-more tokens at c.token-item.result c.loop-token-test.true c.token-item.is in
-    let p = err_from_is_err_and c.from_residual.result c.from_residual.ensures.1 in
+    let p = err_from_is_err_and c.from_residual-in_err-take.result c.from_residual-in_err-take.ensures.1 in
     rw (p.1, p.2) (resumed-refused joiner.done (as_list joiner.pending) c.token-item.result (drop (at + 1) tokens) (ctokens_of tokens) _ c.in_err-take.ensures.err
     (c.loop-token.invariant ∙ ap (λ rest. resumed_unless_refused joiner.done (as_list joiner.pending) (each rest)) rest))
 

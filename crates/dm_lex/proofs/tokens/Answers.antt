@@ -8,7 +8,7 @@ use Rattle.dm_lex.proofs.tokens.Goals as goal
 
 pub loop-lexer-init : goal.loop-lexer-init
 loop-lexer-init c = record {
-  progress = progress_none _ _ c.new-lexer.ensures.at c.new-lexer.ensures.state c.new-lexer.ensures.single c.new-lexer.ensures.double c.new-lexer.ensures.here c.new-lexer.ensures.tokens;
+  progress = progress_none _ _ c.in_ok-lexer.ensures.at c.in_ok-lexer.ensures.state c.in_ok-lexer.ensures.single c.in_ok-lexer.ensures.double c.in_ok-lexer.ensures.here c.in_ok-lexer.ensures.tokens;
   before = record {
     sound = c.cursor-cursor.ensures.sound;
     left = c.cursor-cursor.ensures.whole ∙ ap (λ n. drop n c.args.flat.now.characters) (sym c.cursor-cursor.ensures.first);

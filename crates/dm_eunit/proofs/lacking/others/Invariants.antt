@@ -8,6 +8,6 @@ invariant-loop-token l = record {
   set : IsSet l.names;
   names : (name : List ℕ) → (has l.names name || (is_spelled (drop l.token-index l.typer.tokens.now) name && not (has l.defined name)))
       ≡ ((bytes_eq [] name || is_spelled l.typer.tokens.now name) && not (has l.defined name));
-  kept : length l.latest.items ≡ 128;
+  kept : length l.latest.items ≡ 1024;
   known : All (λ one. (has l.names one.now || has l.defined one.now) ≡ true) l.latest.items;
 }
