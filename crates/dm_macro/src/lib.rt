@@ -13,7 +13,7 @@ mod sign;
 mod table;
 
 pub use body::Body;
-pub use named::named_count;
+pub use named::{Parameters, named_count};
 pub use role::Role;
 pub use sign::{
     is_comma, is_fixed, is_hash, is_identifier, is_left_parenthesis, is_predefined,

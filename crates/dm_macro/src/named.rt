@@ -17,7 +17,7 @@ const FEW: usize = 8;
 
 /// A macro's parameters. Contracts see their names, `__VA_ARGS__` last.
 #[derive(Drop)]
-pub(crate) struct Parameters<'a> {
+pub struct Parameters<'a> {
     names: &'a [Text],
     variadic: bool,
     /// The names' positions, where there are many.
@@ -40,8 +40,9 @@ impl<'a> Model for Parameters<'a> {
 }
 
 impl<'a> Parameters<'a> {
+    /// Those of a definition.
     #[tactic(auto, unfolding(crate::specs::Bodies::parameters_of))]
-    pub(crate) fn new(alloc: Global, definition: &'a Definition) -> Result<Parameters<'a>, Memory>
+    pub fn new(alloc: Global, definition: &'a Definition) -> Result<Parameters<'a>, Memory>
         ensures { IfOk result (λ parameters. parameters ≡ bodies.parameters_of definition.now) }
     {
         let names = names_of(definition);
@@ -54,7 +55,7 @@ impl<'a> Parameters<'a> {
     }
 
     /// The position of the parameter that a token names; `__VA_ARGS__` is the last one.
-    pub(crate) fn parameter_of(&self, token: &PpToken) -> Option<usize>
+    pub fn parameter_of(&self, token: &PpToken) -> Option<usize>
         ensures { result ≡ bodies.parameter_of self.now token.now }
     {
         if !is_identifier(token) {

@@ -1,16 +1,16 @@
 -- The beginnings of a trail, and those of more and more trails.
-use Rattle.std.proofs.Common.{◌≡◌, ℕ, zero, suc, ◌+◌, ◌<◌, ◌≤◌, Bool, true, false, cond, ◌||◌, List, [], ◌∷◌, ◌++◌, length, map, take, reverse, Option, Some, None, slice_get, get_or, refl, sym, ap, ◌∙◌, subst, arith, fold, append_assoc, add-one, below_more}
+use Rattle.std.proofs.Common.{◌≡◌, ℕ, zero, suc, ◌+◌, ◌-◌, ◌<◌, true, false, cond, List, [], ◌∷◌, ◌++◌, length, map, take, drop, reverse, Some, slice_get, get_or, refl, sym, ap, ◌∙◌, arith, fold, append_assoc, add-one, below_more}
 use Rattle.std.specs.List.{list_any}
 use Rattle.std.specs.Option.{option_map}
 use Rattle.std.proofs.lemmas.Option.{slice_get-map, get_or_from_slice_get, slice_get_read}
-use Rattle.std.proofs.lemmas.List.{take_more, length-map, reverse-append, get_or_append_left}
-use Rattle.std.proofs.Math.Seq.{get_or-append_seam}
+use Rattle.std.proofs.lemmas.List.{take_more, take-map, length-map, length-drop, reverse-append, get_or_append_left}
+use Rattle.std.proofs.Math.Seq.{get_or-append_seam, drop-append_seam}
 use Rattle.std.proofs.lemmas.List.Sums.{fold_push}
 use Rattle.dm_token.specs.declared.expansion.Mark.{Mark}
 use Rattle.dm_token.specs.Equal.{equal}
 use Rattle.dm_runs.specs.Beginnings.{beginnings_of, once_more}
 use Rattle.dm_runs.specs.Trees.{IsLonger}
-use Rattle.dm_runs.proofs.ItemLemmas.{slice_get-left, some-same}
+use Rattle.dm_runs.proofs.ItemLemmas.{slice_get-left, slice_get-drop, some-same}
 
 pub map-push : {A B : Type 0} (f : A → B) (xs : List A) (x : A) → map f (xs ++ x ∷ []) ≡ map f xs ++ f x ∷ []
 map-push f [] x = refl
@@ -33,6 +33,15 @@ beginning-at (first ∷ trail) zero inside = refl
 beginning-at (first ∷ trail) (suc i) inside =
     slice_get-map (λ (marks : List Mark). first ∷ marks) (beginnings_of trail) i
     ∙ ap (option_map (λ (marks : List Mark). first ∷ marks)) (beginning-at trail i (omega arith))
+
+-- the first ones are those of the trail that begins it
+pub take-beginnings : (trail : List Mark) (n : ℕ) → take n (beginnings_of trail) ≡ beginnings_of (take n trail)
+take-beginnings [] zero = refl
+take-beginnings [] (suc n) = refl
+take-beginnings (first ∷ trail) zero = refl
+take-beginnings (first ∷ trail) (suc n) =
+    let cons : List Mark → List Mark = λ marks. first ∷ marks in
+    ap (λ found. (first ∷ []) ∷ found) (take-map cons n (beginnings_of trail) ∙ ap (map cons) (take-beginnings trail n))
 
 -- what stands in a list of them stays there
 pub slice_get-once_more : (found : List (List Mark)) (one : List Mark) (k : ℕ) (trail : List Mark) → slice_get found k ≡ Some trail → slice_get (once_more found one) k ≡ Some trail
@@ -59,20 +68,27 @@ lineage-step all outer mark rest found more is pushed before =
     ∙ append_assoc (beginnings_of outer) (rest ∷ []) (reverse found)
     ∙ ap (λ bs. beginnings_of outer ++ bs) (sym (ap reverse pushed ∙ reverse-append found (rest ∷ [])))
 
--- the items of a list that are seen as the beginnings
-pub count-is : {A : Type 0} (now : A → List Mark) (items : List A) (trail : List Mark) → map now items ≡ beginnings_of trail → length items ≡ length trail
-count-is now items trail e = sym (length-map items now) ∙ ap length e ∙ length-beginnings trail
+-- what was found behind the beginnings that are left
+pub lineage-end : (all : List (List Mark)) (rest : List Mark) (found : List (List Mark)) (shared : ℕ) → all ≡ beginnings_of rest ++ found → length rest ≡ shared → found ≡ drop shared all
+lineage-end all rest found shared is counted =
+    sym (ap (drop shared) is ∙ ap (λ n. drop n (beginnings_of rest ++ found)) (sym counted ∙ sym (length-beginnings rest)) ∙ drop-append_seam (beginnings_of rest) found)
 
-pub item-at : {A : Type 0} (now : A → List Mark) (items : List A) (trail : List Mark) (i : ℕ) (item : A) → map now items ≡ beginnings_of trail → i < length items → item ≡ get_or items i item
-    → slice_get (beginnings_of trail) i ≡ Some (now item)
-item-at now items trail i item e inside is =
+-- the items of a list that are seen as the beginnings behind the shared ones
+pub count-is : {A : Type 0} (now : A → List Mark) (items : List A) (trail : List Mark) (shared : ℕ) → map now items ≡ drop shared (beginnings_of trail) → length items ≡ length trail - shared
+count-is now items trail shared e =
+    sym (length-map items now) ∙ ap length e ∙ length-drop shared (beginnings_of trail) ∙ ap (λ n. n - shared) (length-beginnings trail)
+
+pub item-at : {A : Type 0} (now : A → List Mark) (items : List A) (seen : List (List Mark)) (i : ℕ) (item : A) → map now items ≡ seen → i < length items → item ≡ get_or items i item
+    → slice_get seen i ≡ Some (now item)
+item-at now items seen i item e inside is =
     ap (λ xs. slice_get xs i) (sym e) ∙ slice_get-map now items i ∙ ap (option_map now) (slice_get_read items (length items) i item refl inside is)
 
-pub item-is : {A : Type 0} (now : A → List Mark) (items : List A) (trail : List Mark) (i : ℕ) (item : A) → map now items ≡ beginnings_of trail → i < length items → item ≡ get_or items i item
-    → now item ≡ take (i + 1) trail
-item-is now items trail i item e inside is =
-    some-same (now item) (take (i + 1) trail)
-    (sym (item-at now items trail i item e inside is) ∙ beginning-at trail i (omega (arith, count-is now items trail e)) ∙ ap (λ n. Some (take n trail)) (sym (add-one i)))
+pub item-is : {A : Type 0} (now : A → List Mark) (items : List A) (trail : List Mark) (shared i : ℕ) (item : A) → map now items ≡ drop shared (beginnings_of trail) → i < length items
+    → item ≡ get_or items i item → now item ≡ take (shared + i + 1) trail
+item-is now items trail shared i item e inside is =
+    some-same (now item) (take (shared + i + 1) trail)
+    (sym (item-at now items (drop shared (beginnings_of trail)) i item e inside is) ∙ slice_get-drop shared (beginnings_of trail) i
+    ∙ beginning-at trail (shared + i) (omega (arith, count-is now items trail shared e, inside)) ∙ ap (λ n. Some (take n trail)) (sym (add-one (shared + i))))
 
 -- one number more
 pub numbers-step : (found more : List (List Mark)) (trail : List Mark) (i : ℕ) (numbers : List ℕ) (n : ℕ) → length numbers ≡ i + 1

@@ -1,17 +1,18 @@
 -- Lists of beginnings that grow: what is new, and what is covered.
-use Rattle.std.proofs.Common.{◌≡◌, ℕ, zero, suc, ◌+◌, ◌<◌, ◌≤◌, Bool, true, false, cond, ◌||◌, ◌⊎◌, inl, inr, List, [], ◌∷◌, ◌++◌, length, take, min, Option, Some, None, IfSome, MatchOption, slice_get, get_or, refl, sym, ap, ◌∙◌, subst, arith, fold, append_assoc}
+use Rattle.std.proofs.Common.{◌≡◌, ℕ, zero, suc, ◌<◌, ◌≤◌, Bool, true, false, cond, ◌||◌, ◌⊎◌, inl, inr, List, [], ◌∷◌, ◌++◌, length, take, drop, Option, Some, None, IfSome, MatchOption, slice_get, get_or, refl, sym, ap, ◌∙◌, subst, arith, fold, append_assoc}
 use Rattle.std.specs.List.{list_any}
 use Rattle.std.proofs.lemmas.Bool.{cond-true}
 use Rattle.std.proofs.lemmas.Option.{slice_get_within}
-use Rattle.std.proofs.lemmas.List.{append-nil, length-take}
+use Rattle.std.proofs.lemmas.List.{append-nil, length-take, take-append-drop}
 use Rattle.std.proofs.lemmas.List.Folds.{list_any-append}
+use Rattle.std.proofs.lemmas.List.Sums.{fold-append}
 use Rattle.dm_token.specs.declared.expansion.Mark.{Mark}
 use Rattle.dm_token.specs.Equal.{equal}
 use Rattle.dm_token.proofs.MarkLemmas.{equal-same, same-equal}
 use Rattle.dm_runs.specs.Beginnings.{begins, beginnings_of, once_more}
 use Rattle.dm_runs.specs.Trees.{AreNumbers}
 use Rattle.dm_runs.proofs.ItemLemmas.{some-same, slice_get-push, any-at, at-any}
-use Rattle.dm_runs.proofs.BeginningLemmas.{beginning-at, length-beginnings}
+use Rattle.dm_runs.proofs.BeginningLemmas.{beginning-at, length-beginnings, take-beginnings}
 
 or-left : (a b : Bool) → a ≡ true → (a || b) ≡ true
 or-left a b e = ap (λ c. c || b) e
@@ -140,6 +141,13 @@ walked-again found t numbers are =
     let lt : k < length t = omega (arith, inside, length-beginnings t) in
     let item : p ≡ take (suc k) t = some-same p (take (suc k) t) (sym is ∙ beginning-at t k lt) in
     any-at (equal p) found (get_or numbers (suc k) 0) (take (suc k) t) (are.known (suc k) (omega (arith, are.counted, lt))) (same-equal p (take (suc k) t) item)))
+
+-- nor for the beginnings of which they are
+pub walked-on : (found : List (List Mark)) (t : List Mark) (n : ℕ) (numbers : List ℕ) → AreNumbers found (take n t) numbers
+    → fold once_more found (drop n (beginnings_of t)) ≡ fold once_more found (beginnings_of t)
+walked-on found t n numbers are =
+    ap (λ before. fold once_more before (drop n (beginnings_of t))) (walked-again found (take n t) numbers are ∙ ap (fold once_more found) (sym (take-beginnings t n)))
+    ∙ sym (fold-append once_more found (take n (beginnings_of t)) (drop n (beginnings_of t))) ∙ ap (fold once_more found) (take-append-drop n (beginnings_of t))
 
 pub last-numbers : {A : Type 0} (now : A → List Mark) (last : Option A) (found : List (List Mark)) (t : List Mark) (numbers : List ℕ) → IfSome last (λ one. AreNumbers found (now one) numbers)
     → MatchOption last ⊥ (λ one. now one ≡ t) → AreNumbers found t numbers

@@ -8,5 +8,6 @@ pub mod PartLemmas
 pub mod NamedLemmas
 pub mod SpanLemmas
 pub mod StandLemmas
+pub mod ReachLemmas
 pub mod ListingLemmas
 pub mod RunLemmas

@@ -182,6 +182,18 @@ filled-run prefix tokens run is some =
     subst (Filled prefix tokens) (sym is.1)
     (filled-span is.0 prefix tokens (λ same. some (ap (λ (s : Span). s.first) is.1 ∙ same ∙ sym (ap (λ (s : Span). s.after) is.1))))
 
+-- a span ends behind where it begins, or there
+pub run-ordered : (prefix : List Mark) (tokens : List CToken) (run : Span) → IsRunSpan prefix tokens run → run.first ≤ run.after
+run-ordered prefix tokens run is = subst (λ (s : Span). s.first ≤ s.after) (sym is.1) (ordered (tokens_under prefix tokens))
+  where
+    in-order : (first after : ℕ) (b : Bool) → first ≤ after → (cond b (span_at first after) (span_at first first)).first ≤ (cond b (span_at first after) (span_at first first)).after
+    in-order first after true le = le
+    in-order first after false le = omega arith
+
+    ordered : (ns : List ℕ) → (span_of is.0 ns).first ≤ (span_of is.0 ns).after
+    ordered [] = omega arith
+    ordered (n ∷ ns) = in-order n (suc n + length ns) (follow_on n ns) (omega arith)
+
 pub some-tokens : (run : Span) → (run.first ≡ run.after → ⊥) → (run.first == run.after) ≡ false
 some-tokens run some =
     elim (run.first == run.after) as (λ b. (run.first == run.after) ≡ b → b ≡ false) [

@@ -1,5 +1,5 @@
 -- Where an occurrence would stand.
-use Rattle.std.proofs.Common.{◌≡◌, ℕ, zero, suc, ◌+◌, ◌<◌, ◌≤◌, Bool, true, false, cond, ◌&&◌, List, [], ◌∷◌, ◌++◌, length, drop, get_or, Option, Some, None, slice_get, MatchOption, refl, sym, ap, ◌∙◌, arith, add-zero, length-append}
+use Rattle.std.proofs.Common.{◌≡◌, ℕ, zero, suc, ◌+◌, ◌<◌, ◌≤◌, Bool, true, false, cond, List, [], ◌∷◌, ◌++◌, length, drop, get_or, Option, Some, None, slice_get, MatchOption, refl, sym, ap, ◌∙◌, arith, add-zero, length-append}
 use Rattle.std.specs.Prelude.{find}
 use Rattle.std.specs.List.{position_from}
 use Rattle.std.proofs.lemmas.Bool.{cond-true, cond-false}
@@ -28,7 +28,3 @@ position-at test at (y ∷ xs) (suc k) x is passes before =
     cond-false (test y) (Some at) (position_from test (at + 1) xs) (before 0 y (omega arith) refl)
     ∙ position-at test (at + 1) xs k x is passes (λ j z lt e. before (suc j) z (omega (arith, lt)) e)
     ∙ ap Some (omega arith)
-
-pub and-false : (b : Bool) → (b && false) ≡ false
-and-false true = refl
-and-false false = refl

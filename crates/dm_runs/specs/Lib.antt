@@ -1,7 +1,9 @@
 pub mod Beginnings
 pub mod Extents
 pub mod Listings
+pub mod Lookups
 pub mod Names
+pub mod Reaches
 pub mod Runs
 pub mod Spans
 pub mod Trees

@@ -1,6 +1,6 @@
 //! The beginnings of trails by number.
 
-ghost use Rattle.std.specs.Prelude.{◌≡◌, [], ◌∷◌, ◌++◌, None, Some, List as Sequence, map, fold, IfOk, IfSome, IsTrue, MatchOption, OnOk, slice_get};
+ghost use Rattle.std.specs.Prelude.{◌≡◌, ◌≤◌, [], ◌∷◌, ◌++◌, None, Some, List as Sequence, length, map, take, drop, fold, IfOk, IfSome, IsTrue, MatchOption, OnOk, slice_get};
 ghost use Rattle.dm_token.specs.declared.expansion.Mark.{Mark as SeenMark};
 ghost use Rattle.dm_runs.specs.Beginnings.{beginnings_of, once_more};
 ghost use Rattle.dm_runs.specs.Trees.{AreLinked, AreNumbers, IsBelow, IsLonger, link_of};
@@ -8,14 +8,32 @@ ghost use Rattle.dm_runs.specs.Trees.{AreLinked, AreNumbers, IsBelow, IsLonger, 
 use dm_token::{Mark, Memory, Trail};
 use indexmap::IndexSet;
 use std::alloc::Global;
+use std::hash::{Hash, Hasher};
 
 /// A trail as the number of the one without its innermost mark, and that mark.
-#[derive(Clone, Copy, Debug, PartialEq, Eq, Hash)]
+#[derive(Clone, Copy, Debug, PartialEq, Eq)]
 pub(crate) struct Link {
     above: usize,
     is_argument: bool,
     first: u32,
     second: u32,
+}
+
+/// In two writes, since each takes time. At most two links differ in nothing but their kind.
+impl Hash for Link {
+    ghost use Rattle.std.specs.Hash as fed;
+    ghost use Rattle.std.proofs.Common.{rules};
+    ghost use Rattle.std.specs.Cmp.Rules.{hashing};
+    ghost use Rattle.std.specs.Prelude.{◌++◌, ◌+◌, ◌*◌, ◌^◌};
+
+    ghost hash_input = { λ link. fed.usize link.above ++ fed.u64 (link.first * 2 ^ 32 + link.second) };
+
+    ghost respects_eq = { Prim.search (hashing, rules) };
+
+    fn hash<H: Hasher>(&self, state: &mut H) {
+        self.above.hash(state);
+        (self.first as u64 * 0x1_0000_0000 + self.second as u64).hash(state);
+    }
 }
 
 fn link_to(above: usize, mark: Mark) -> Link
@@ -43,15 +61,23 @@ fn link_to(above: usize, mark: Mark) -> Link
     }
 }
 
-/// The beginnings of a trail, the shortest first, in the room of others.
-fn lineage<'a>(room: Vec<&'a Trail>, trail: &'a Trail) -> Result<Vec<&'a Trail>, Memory>
-    ensures { IfOk result (λ found. map (λ one. one.now) found.items ≡ beginnings_of trail.now) }
+/// The beginnings of a trail with more than so many marks, the shortest first, in the room of others.
+fn lineage<'a>(
+    room: Vec<&'a Trail>,
+    trail: &'a Trail,
+    shared: u32,
+) -> Result<Vec<&'a Trail>, Memory>
+    requires { shared ≤ length trail.now }
+    ensures { IfOk result (λ found. map (λ one. one.now) found.items ≡ drop shared (beginnings_of trail.now)) }
 {
     let mut found = room;
     found.clear();
     let mut rest = trail;
-    while let Some(outer) = rest.parent() {
+    while rest.length() > shared {
         found.push(rest)?;
+        let Some(outer) = rest.parent() else {
+            unreachable!();
+        };
         rest = outer;
     }
     found.reverse();
@@ -85,6 +111,26 @@ impl<'a> Path<'a> {
         match self.trail {
             Some(last) => *last == *trail,
             None => false,
+        }
+    }
+
+    /// With how many marks a trail begins as the one does that was walked last, if one was. The numbers of none to so many marks stay.
+    fn share(&mut self, trail: &Trail) -> Result<u32, Memory>
+        ensures within { IfOk result (λ shared. shared ≤ length trail.now) }
+        ensures numbers { IfOk result (λ shared. (trails : Sequence (Sequence SeenMark)) → slice_get trails 0 ≡ Some []
+            → IfSome self.old.trail (λ last. AreNumbers trails last.now self.old.numbers.items) → AreNumbers trails (take shared trail.now) self.new.numbers.items) }
+    {
+        match self.trail {
+            None => {
+                self.numbers.clear();
+                self.numbers.push(0)?;
+                Ok(0)
+            }
+            Some(last) => {
+                let shared = trail.common(last).length();
+                self.numbers.truncate(shared as usize + 1);
+                Ok(shared)
+            }
         }
     }
 }
@@ -128,23 +174,25 @@ impl Beginnings {
         Ok(index + 1)
     }
 
-    /// The numbers of the first marks of a trail, of none on. What wasn't met before is added.
+    /// The numbers of the first marks of a trail, of none on. Only what it doesn't share with the trail that was walked
+    /// last is looked up. What wasn't met before is added.
     fn follow<'a>(&mut self, path: Path<'a>, trail: &'a Trail) -> Result<Path<'a>, Memory>
         requires linked { AreLinked self.old.links.keys self.old.trails.items }
+        requires path { IfSome path.trail (λ last. AreNumbers self.old.trails.items last.now path.numbers.items) }
         ensures linked { OnOk result (AreLinked self.new.links.keys self.new.trails.items) }
         ensures trails { OnOk result (self.new.trails.items ≡ fold once_more self.old.trails.items (beginnings_of trail.now)) }
         ensures numbers { IfOk result (λ path. AreNumbers self.new.trails.items trail.now path.numbers.items) }
         ensures path { IfOk result (λ path. IfSome path.trail (λ last. last.now ≡ trail.now)) }
     {
+        let mut path = path;
+        let shared = path.share(trail)?;
         let Path {
             trail: _,
             mut numbers,
             lineage: room,
         } = path;
-        let lineage = lineage(room, trail)?;
-        let mut above = 0;
-        numbers.clear();
-        numbers.push(above)?;
+        let lineage = lineage(room, trail, shared)?;
+        let mut above = numbers[shared as usize];
         for beginning in &lineage {
             above = self.add(above, beginning)?;
             numbers.push(above)?;

@@ -4,8 +4,12 @@
 mod beginnings;
 mod by_directive;
 mod extents;
+mod known;
 mod named;
+mod names;
+mod origins;
 mod parts;
+mod reach;
 mod run;
 mod runs;
 mod shape;

@@ -12,11 +12,10 @@ ghost use Rattle.dm_runs.specs.Runs.{IsExpanded, first_part};
 use crate::beginnings::Beginnings;
 use crate::by_directive::{ByDirective, is_file};
 use crate::extents::extents;
-use crate::named::named_in;
+use crate::known::Known;
 use crate::parts::first_parts;
 use crate::run::Run;
 use crate::shape::Shape;
-use crate::stand::Stand;
 use dm_token::{CToken, Mark, Memory, Read, UnitTokens};
 use std::alloc::Global;
 use std::marker::Model;
@@ -71,29 +70,24 @@ fn with_run(
     found: ByDirective<Run>,
     alloc: Global,
     shape: &Shape,
-    pp: &UnitTokens,
+    known: &Known,
     number: usize,
     part: u32,
 ) -> Result<ByDirective<Run>, Memory>
     requires shape { IsShape shape.now.beginnings.now.links.keys shape.now.beginnings.now.trails.items shape.now.extents.now shape.now.tokens.now }
     requires inside { number < length shape.now.beginnings.now.trails.items }
-    requires part { (trail : Sequence SeenMark) → slice_get shape.now.beginnings.now.trails.items number ≡ Some trail → part ≡ first_part pp.now.tokens trail }
+    requires part { (trail : Sequence SeenMark) → slice_get shape.now.beginnings.now.trails.items number ≡ Some trail → part ≡ first_part known.now.pp.now.tokens trail }
     ensures { IfOk result (λ more. (file hash : ℕ) (trail : Sequence SeenMark) → slice_get shape.now.beginnings.now.trails.items number ≡ Some trail
-        → items_at more file hash ≡ items_at found file hash ++ runs.run_if pp.now shape.now.tokens.now file hash trail (runs.expanded pp.now.read (last_mark trail))) }
+        → items_at more file hash ≡ items_at found file hash
+        ++ runs.run_if known.now.pp.now shape.now.tokens.now file hash trail (runs.expanded known.now.pp.now.read (last_mark trail))) }
 {
-    let read = pp.read.items();
+    let read = known.pp.read.items();
     let Some(place) = expanded(read, shape.beginnings.trails[number].last()) else {
         return Ok(found);
     };
-    let definition = &read[place].definition;
-    let named = named_in(alloc, definition)?;
-    let stand = Stand {
-        expansions: pp.expansions.items(),
-        definition,
-        named: &named,
-    };
+    let stand = known.stand(place);
     let run = shape.run(alloc, &stand, number, part)?;
-    let more = found.add(alloc, definition, run)?;
+    let more = found.add(alloc, stand.definition, run)?;
     Ok(more)
 }
 
@@ -110,9 +104,10 @@ fn of_beginnings(
     requires parts { parts.now ≡ map (first_part pp.now.tokens) (met (map (λ (token : SeenToken). token.trail) pp.now.tokens)) }
     ensures { IfOk result (λ found. (file hash : ℕ) → items_at found file hash ≡ runs.runs_of pp.now shape.now.tokens.now file hash) }
 {
+    let known = Known::of(alloc, pp)?;
     let mut found = ByDirective::new(alloc);
     for number in 0..parts.len() {
-        found = with_run(found, alloc, shape, pp, number, parts[number])?;
+        found = with_run(found, alloc, shape, &known, number, parts[number])?;
     }
     Ok(found)
 }
@@ -120,6 +115,8 @@ fn of_beginnings(
 impl Runs {
     /// The runs of all definitions in files that a unit reads, by the unit's tokens of phase 4 and of phase 7. More than
     /// 4,294,967,295 of either count as want of memory.
+    // A function of its own in each program, so that profiles tell what it costs.
+    #[inline(never)]
     pub fn of(alloc: Global, pp: &UnitTokens, tokens: &[CToken]) -> Result<Runs, Memory>
         ensures { IfOk result (λ found. (file hash : ℕ) → runs_at found file hash ≡ runs.runs_of pp.now tokens.now file hash) }
     {

@@ -1,16 +1,18 @@
 //! The runs with prefixes that are known.
 
-ghost use Rattle.std.specs.Prelude.{◌≡◌, ◌<◌, ◌++◌, ◌∷◌, [], Some, map, length, slice_get, IfOk, List as Sequence};
+ghost use Rattle.std.specs.Prelude.{◌≡◌, ◌≢◌, ◌<◌, ◌++◌, ◌∷◌, [], Some, map, length, slice_get, IfOk, IfSome, OnOk, List as Sequence};
 ghost use Rattle.dm_token.specs.declared.expansion.Mark.{Mark as SeenMark};
 ghost use Rattle.dm_token.specs.declared.expansion.Mark.TheVariants.{Argument as argument};
 ghost use Rattle.dm_runs.specs.Extents.{extent_of, IsShape, IsRunSpan};
 ghost use Rattle.dm_runs.specs.Names.{named_in};
+ghost use Rattle.dm_runs.specs.Reaches.{AreKnown};
 ghost use Rattle.dm_runs.specs.Runs as runs;
 ghost use Rattle.dm_runs.specs.Spans.{tokens_under, span_of};
 
 use crate::beginnings::Beginnings;
 use crate::extents::{Extent, span};
 use crate::named::Named;
+use crate::reach::{reach_of, would_stand};
 use crate::run::{Occurrence, Run};
 use crate::stand::Stand;
 use dm_token::{CToken, List, Mark, Memory, Span, Trail};
@@ -61,51 +63,86 @@ impl<'a> Shape<'a> {
         }
     }
 
+    // Where an occurrence in a run would stand that has no tokens. How far the tokens of the run come is found where that is asked first.
+    fn elsewhere(
+        &self,
+        alloc: Global,
+        stand: &Stand,
+        prefix: &Trail,
+        run: Span,
+        at: usize,
+        reach: &mut Option<Vec<usize>>,
+    ) -> Result<u32, Memory>
+        requires named { stand.now.named.now ≡ named_in stand.now.definition.now }
+        requires run { IsRunSpan prefix.now self.now.tokens.now run }
+        requires filled { run.first ≢ run.after }
+        requires reach { IfSome reach.old (λ known. AreKnown stand.now.names.now self.now.tokens.now stand.now.definition.now prefix.now run known.items) }
+        ensures place { IfOk result (λ place. place ≡ runs.would_stand stand.now.names.now self.now.tokens.now stand.now.definition.now prefix.now run.after at) }
+        ensures reach { OnOk result (IfSome reach.new (λ known. AreKnown stand.now.names.now self.now.tokens.now stand.now.definition.now prefix.now run known.items)) }
+    {
+        if let Some(known) = reach {
+            return Ok(would_stand(known.as_slice(), run, at));
+        }
+        let known = reach_of(alloc, stand, self.tokens, prefix, run)?;
+        let place = would_stand(known.as_slice(), run, at);
+        *reach = Some(known);
+        Ok(place)
+    }
+
     // The span of an occurrence in a run. Where it would stand is looked for only if it has no tokens.
     fn span_in(
         &self,
+        alloc: Global,
         stand: &Stand,
         number: usize,
         prefix: &Trail,
         run: Span,
         named: &Named,
-    ) -> Span
+        reach: &mut Option<Vec<usize>>,
+    ) -> Result<Span, Memory>
         requires shape { IsShape self.now.beginnings.now.links.keys self.now.beginnings.now.trails.items self.now.extents.now self.now.tokens.now }
         requires prefix { slice_get self.now.beginnings.now.trails.items number ≡ Some prefix.now }
         requires named { stand.now.named.now ≡ named_in stand.now.definition.now }
         requires run { IsRunSpan prefix.now self.now.tokens.now run }
-        ensures { result ≡ (runs.occurrence_in stand.now.expansions.now self.now.tokens.now stand.now.definition.now prefix.now run named.now).span }
+        requires reach { IfSome reach.old (λ known. AreKnown stand.now.names.now self.now.tokens.now stand.now.definition.now prefix.now run known.items) }
+        ensures span { IfOk result (λ span. span ≡ (runs.occurrence_in stand.now.names.now self.now.tokens.now stand.now.definition.now prefix.now run named.now).span) }
+        ensures reach { OnOk result (IfSome reach.new (λ known. AreKnown stand.now.names.now self.now.tokens.now stand.now.definition.now prefix.now run known.items)) }
     {
         if run.first == run.after {
-            return run;
+            return Ok(run);
         }
         let own = self.below(number, prefix, named);
         if own.is_some() {
-            return span(run.after, own);
+            return Ok(span(run.after, own));
         }
-        let elsewhere = stand.would_stand(self.tokens, prefix, run, named.at);
-        span(elsewhere, own)
+        let elsewhere = self.elsewhere(alloc, stand, prefix, run, named.at, reach)?;
+        Ok(span(elsewhere, own))
     }
 
     fn occurrence(
         &self,
+        alloc: Global,
         stand: &Stand,
         number: usize,
         prefix: &Trail,
         run: Span,
         named: &Named,
-    ) -> Occurrence
+        reach: &mut Option<Vec<usize>>,
+    ) -> Result<Occurrence, Memory>
         requires shape { IsShape self.now.beginnings.now.links.keys self.now.beginnings.now.trails.items self.now.extents.now self.now.tokens.now }
         requires prefix { slice_get self.now.beginnings.now.trails.items number ≡ Some prefix.now }
         requires named { stand.now.named.now ≡ named_in stand.now.definition.now }
         requires run { IsRunSpan prefix.now self.now.tokens.now run }
-        ensures { result ≡ runs.occurrence_in stand.now.expansions.now self.now.tokens.now stand.now.definition.now prefix.now run named.now }
+        requires reach { IfSome reach.old (λ known. AreKnown stand.now.names.now self.now.tokens.now stand.now.definition.now prefix.now run known.items) }
+        ensures occurrence { IfOk result (λ one. one ≡ runs.occurrence_in stand.now.names.now self.now.tokens.now stand.now.definition.now prefix.now run named.now) }
+        ensures reach { OnOk result (IfSome reach.new (λ known. AreKnown stand.now.names.now self.now.tokens.now stand.now.definition.now prefix.now run known.items)) }
     {
-        Occurrence {
+        let span = self.span_in(alloc, stand, number, prefix, run, named, reach)?;
+        Ok(Occurrence {
             parameter: named.parameter,
             occurrence: named.occurrence,
-            span: self.span_in(stand, number, prefix, run, named),
-        }
+            span,
+        })
     }
 
     // The occurrences in a run.
@@ -121,12 +158,13 @@ impl<'a> Shape<'a> {
         requires prefix { slice_get self.now.beginnings.now.trails.items number ≡ Some prefix.now }
         requires named { stand.now.named.now ≡ named_in stand.now.definition.now }
         requires run { IsRunSpan prefix.now self.now.tokens.now run }
-        ensures { IfOk result (λ found. found ≡ map (runs.occurrence_in stand.now.expansions.now self.now.tokens.now stand.now.definition.now prefix.now run) stand.now.named.now) }
+        ensures { IfOk result (λ found. found ≡ map (runs.occurrence_in stand.now.names.now self.now.tokens.now stand.now.definition.now prefix.now run) stand.now.named.now) }
     {
         let mut found = Vec::new(alloc);
+        let mut reach = None;
         for named in stand.named {
-            let occurrence = self.occurrence(stand, number, prefix, run, named);
-            found.push(occurrence)?;
+            let one = self.occurrence(alloc, stand, number, prefix, run, named, &mut reach)?;
+            found.push(one)?;
         }
         Ok(List::from_vec(found))
     }
@@ -143,7 +181,7 @@ impl<'a> Shape<'a> {
         requires inside { number < length self.now.beginnings.now.trails.items }
         requires named { stand.now.named.now ≡ named_in stand.now.definition.now }
         ensures { IfOk result (λ run. (prefix : Sequence SeenMark) → slice_get self.now.beginnings.now.trails.items number ≡ Some prefix
-            → run ≡ runs.run_with stand.now.expansions.now self.now.tokens.now stand.now.definition.now prefix (span_of part (tokens_under prefix self.now.tokens.now))) }
+            → run ≡ runs.run_with stand.now.names.now self.now.tokens.now stand.now.definition.now prefix (span_of part (tokens_under prefix self.now.tokens.now))) }
     {
         let prefix = &self.beginnings.trails[number];
         let run = span(part, self.extents[number]);

@@ -29,8 +29,8 @@ returns c = λ p is.
     let span : Span = span_of part (tokens_under prefix tokens) in
     let spans : c.span-run.result ≡ span = c.span-run.ensures ∙ span-below self.beginnings.now.links.keys trails self.extents.now tokens c.requires.shape c.args.number prefix known part in
     subst (λ (q : List Mark). run_of_parts c.instance_of.result c.in_ok-copy.field-0 c.span-run.result c.in_ok-occurrences.occurrences
-    ≡ run_with stand.expansions.now tokens stand.definition.now q (span_of part (tokens_under q tokens))) same
-    (run-is stand.expansions.now tokens stand.definition.now prefix span c.instance_of.result c.in_ok-copy.field-0 c.span-run.result c.in_ok-occurrences.occurrences
+    ≡ run_with stand.names.now tokens stand.definition.now q (span_of part (tokens_under q tokens))) same
+    (run-is stand.names.now tokens stand.definition.now prefix span c.instance_of.result c.in_ok-copy.field-0 c.span-run.result c.in_ok-occurrences.occurrences
     (c.instance_of.ensures ∙ ap instance_of (last-mark-is c.last.result prefix c.last.ensures)) c.in_ok-copy.ensures spans
-    (c.in_ok-occurrences.ensures ∙ ap (λ (s : Span). map (occurrence_in stand.expansions.now tokens stand.definition.now prefix s) stand.named.now) spans
-    ∙ ap (map (occurrence_in stand.expansions.now tokens stand.definition.now prefix span)) c.requires.named))
+    (c.in_ok-occurrences.ensures ∙ ap (λ (s : Span). map (occurrence_in stand.names.now tokens stand.definition.now prefix s) stand.named.now) spans
+    ∙ ap (map (occurrence_in stand.names.now tokens stand.definition.now prefix span)) c.requires.named))

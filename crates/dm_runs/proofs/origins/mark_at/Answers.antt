@@ -2,7 +2,7 @@ use Rattle.std.proofs.Common.{List, [], ◌∷◌, ◌++◌, slice_get, sym, ap,
 use Rattle.dm_token.specs.declared.expansion.Mark.{Mark}
 use Rattle.dm_runs.proofs.ItemLemmas.{slice_get-last}
 use Rattle.dm_runs.proofs.StandLemmas.{slice_get-other, last-is}
-use Rattle.dm_runs.proofs.stand.mark_at.Goals as goal
+use Rattle.dm_runs.proofs.origins.mark_at.Goals as goal
 
 pub returns-then-length-outer : goal.returns-then-length-outer
 returns-then-length-outer c =
