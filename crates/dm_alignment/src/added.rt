@@ -13,7 +13,7 @@ ghost use Rattle.dm_alignment.specs.Readings.{IsInsertion};
 use dm_align::Inserted;
 use dm_edit::{As, Change};
 use dm_macro::named_count;
-use dm_meanings::Meanings;
+use dm_meanings::Named;
 use dm_names::Entered;
 use dm_plain::has_plain_types;
 use dm_rules::Index;
@@ -23,16 +23,16 @@ use dm_tree::{CoreExternalForm, CoreUnit};
 use std::alloc::Global;
 
 /// How many entries a unit has behind its first external declarations.
-fn entries_behind(unit: &Meanings, externals: u32) -> u32
-    ensures { result ≡ seen.entries_behind unit.now.index.now.reading.now externals }
+fn entries_behind(unit: &Named, externals: u32) -> u32
+    ensures { result ≡ seen.entries_behind unit.now.reading.now externals }
 {
     unit.names.entries_behind(externals)
 }
 
 /// The number of the entry of a name, where an external declaration declares in file scope this name and no other.
-fn number_alone(unit: &Meanings, external: u32, name: &Text) -> Option<u32>
-    ensures found { IfSome result (λ number. seen.DeclaresAlone unit.now.index.now.reading.now external name.now number) }
-    ensures none { IfNone result ((number : ℕ) → ¬ seen.DeclaresAlone unit.now.index.now.reading.now external name.now number) }
+fn number_alone(unit: &Named, external: u32, name: &Text) -> Option<u32>
+    ensures found { IfSome result (λ number. seen.DeclaresAlone unit.now.reading.now external name.now number) }
+    ensures none { IfNone result ((number : ℕ) → ¬ seen.DeclaresAlone unit.now.reading.now external name.now number) }
 {
     number_of_only(unit.names.entered(external), name)
 }
@@ -81,8 +81,8 @@ fn takes_so_many(count: usize, form: &CoreExternalForm) -> bool
 }
 
 /// Whether what becomes of the macro takes as many arguments as the macro has parameters.
-fn takes_as_many(unit: &Meanings, external: u32, change: &Change) -> bool
-    ensures { IsTrue result ↔ seen.TakesAsMany change.now.kind change.now.definition (slice_get unit.now.index.now.reading.now.core.externals external) }
+fn takes_as_many(unit: &Named, external: u32, change: &Change) -> bool
+    ensures { IsTrue result ↔ seen.TakesAsMany change.now.kind change.now.definition (slice_get unit.now.reading.now.core.externals external) }
 {
     match change.kind {
         As::Function => function_takes_as_many(unit, external, change),
@@ -91,17 +91,10 @@ fn takes_as_many(unit: &Meanings, external: u32, change: &Change) -> bool
     }
 }
 
-fn function_takes_as_many(unit: &Meanings, external: u32, change: &Change) -> bool
-    ensures { IsTrue result ↔ seen.TakesAsMany kinds.Function change.now.definition (slice_get unit.now.index.now.reading.now.core.externals external) }
+fn function_takes_as_many(unit: &Named, external: u32, change: &Change) -> bool
+    ensures { IsTrue result ↔ seen.TakesAsMany kinds.Function change.now.definition (slice_get unit.now.reading.now.core.externals external) }
 {
-    match unit
-        .index
-        .reading
-        .core
-        .externals
-        .items()
-        .get(external as usize)
-    {
+    match unit.reading.core.externals.items().get(external as usize) {
         None => false,
         Some(one) => takes_so_many(named_count(&change.definition), &one.form),
     }
@@ -122,13 +115,13 @@ fn has_plain_body(alloc: Global, unit: &CoreUnit, form: &CoreExternalForm) -> Re
 }
 
 /// Whether it is so of what is added, where the macro has a run.
-fn is_plain(alloc: Global, unit: &Meanings, external: u32, runs: &[Run]) -> Result<bool, Memory>
-    ensures { IfOk result (λ answer. IsTrue answer ↔ seen.IsPlain runs.now unit.now.index.now.reading.now (slice_get unit.now.index.now.reading.now.core.externals external)) }
+fn is_plain(alloc: Global, unit: &Named, external: u32, runs: &[Run]) -> Result<bool, Memory>
+    ensures { IfOk result (λ answer. IsTrue answer ↔ seen.IsPlain runs.now unit.now.reading.now (slice_get unit.now.reading.now.core.externals external)) }
 {
     if runs.is_empty() {
         return Ok(true);
     }
-    let core = &unit.index.reading.core;
+    let core = &unit.reading.core;
     match core.externals.items().get(external as usize) {
         None => Ok(true),
         Some(one) => has_plain_body(alloc, core, &one.form),
@@ -139,11 +132,11 @@ fn is_plain(alloc: Global, unit: &Meanings, external: u32, runs: &[Run]) -> Resu
 pub(crate) fn added_to<'a>(
     alloc: Global,
     old: &Index,
-    new: &Meanings,
+    new: &Named,
     change: &'a Change,
 ) -> Result<Option<Inserted<'a>>, Memory>
-    ensures found { IfOk result (λ found. IfSome found (IsInserted old.now.reading.now new.now.index.now.reading.now change.now)) }
-    ensures none { IfOk result (λ found. IfNone found ((put : Insertion) → ¬ IsInsertion old.now.reading.now new.now.index.now.reading.now change.now put)) }
+    ensures found { IfOk result (λ found. IfSome found (IsInserted old.now.reading.now new.now.reading.now change.now)) }
+    ensures none { IfOk result (λ found. IfNone found ((put : Insertion) → ¬ IsInsertion old.now.reading.now new.now.reading.now change.now put)) }
 {
     let external = old.externals_behind(&change.definition);
     let behind = external.checked_add(1).ok_or(Memory)?;

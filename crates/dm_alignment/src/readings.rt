@@ -9,7 +9,7 @@ use crate::added::added_to;
 use crate::alignment::Alignment;
 use dm_align::{Units, are_aligned, are_aligned_for};
 use dm_edit::Change;
-use dm_meanings::Meanings;
+use dm_meanings::{Named, names_in};
 use dm_reading::Reading;
 use dm_rules::Index;
 use dm_token::Memory;
@@ -20,12 +20,12 @@ use std::alloc::Global;
 pub fn align_in(
     alloc: Global,
     old: &Index,
-    new: &Meanings,
+    new: &Named,
     change: &Change,
 ) -> Result<Alignment, Memory>
     requires old { IsTypedUnit old.now.reading.now.types old.now.reading.now.core }
-    requires new { IsTypedUnit new.now.index.now.reading.now.types new.now.index.now.reading.now.core }
-    ensures { IfOk result (λ answer. (answer ≡ Same) ↔ AreAlignedReadings old.now.reading.now new.now.index.now.reading.now change.now) }
+    requires new { IsTypedUnit new.now.reading.now.types new.now.reading.now.core }
+    ensures { IfOk result (λ answer. (answer ≡ Same) ↔ AreAlignedReadings old.now.reading.now new.now.reading.now change.now) }
 {
     if are_same(alloc, old, new, change)? {
         Ok(Alignment::Same)
@@ -34,16 +34,16 @@ pub fn align_in(
     }
 }
 
-fn are_same(alloc: Global, old: &Index, new: &Meanings, change: &Change) -> Result<bool, Memory>
+fn are_same(alloc: Global, old: &Index, new: &Named, change: &Change) -> Result<bool, Memory>
     requires old { IsTypedUnit old.now.reading.now.types old.now.reading.now.core }
-    requires new { IsTypedUnit new.now.index.now.reading.now.types new.now.index.now.reading.now.core }
-    ensures { IfOk result (λ answer. IsTrue answer ↔ AreAlignedReadings old.now.reading.now new.now.index.now.reading.now change.now) }
+    requires new { IsTypedUnit new.now.reading.now.types new.now.reading.now.core }
+    ensures { IfOk result (λ answer. IsTrue answer ↔ AreAlignedReadings old.now.reading.now new.now.reading.now change.now) }
 {
     let units = Units {
         old_types: &old.reading.types,
-        new_types: &new.index.reading.types,
+        new_types: &new.reading.types,
         old: &old.reading.core,
-        new: &new.index.reading.core,
+        new: &new.reading.core,
         runs: old.runs_of(&change.definition),
     };
     if !old.reads(&change.definition) {
@@ -68,7 +68,6 @@ pub fn align(
     ensures { IfOk result (λ answer. (answer ≡ Same) ↔ AreAlignedReadings old.now new.now change.now) }
 {
     let old = Index::of(alloc, old)?;
-    let new = Index::of(alloc, new)?;
-    let meanings = Meanings::of(alloc, &new)?;
-    align_in(alloc, &old, &meanings, change)
+    let names = names_in(alloc, new)?;
+    align_in(alloc, &old, &Named::new(new, &names), change)
 }

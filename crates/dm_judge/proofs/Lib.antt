@@ -1,4 +1,5 @@
 mod ChangeLemmas
 mod SearchLemmas
 mod ProposalLemmas
+mod SlotLemmas
 mod UnitLemmas

@@ -1,5 +1,5 @@
 -- Lists of what is looked up of units, place by place.
-use Rattle.std.proofs.Common.{◌≡◌, ℕ, zero, suc, ◌<◌, List, [], ◌∷◌, length, map, get_or, arith}
+use Rattle.std.proofs.Common.{◌≡◌, ℕ, zero, suc, ◌<◌, List, [], ◌∷◌, length, map, get_or, refl, ap, arith}
 use Rattle.std.specs.Prelude.{All}
 use Rattle.std.proofs.lemmas.List.Elements.{All-head, All-tail}
 
@@ -9,11 +9,11 @@ mapped-at P f [] i d inside all = absurd (omega (arith, inside))
 mapped-at P f (x ∷ xs) zero d inside all = All-head P (f x) (map f xs) all
 mapped-at P f (x ∷ xs) (suc i) d inside all = mapped-at P f xs i d (omega (arith, inside)) (All-tail P (f x) (map f xs) all)
 
--- lists that are mapped alike are alike place by place
-pub same-at : {A B C D : Type 0} (f : A → D) (g : C → D) (h : B → C) (xs : List A) (ys : List B) (k : ℕ) (a : A) (b : B) → map f xs ≡ map g (map h ys) → k < length ys
-    → f (get_or xs k a) ≡ g (h (get_or ys k b))
-same-at f g h [] [] k a b same inside = absurd (omega (arith, inside))
-same-at f g h [] (y ∷ ys) k a b same inside = absurd (cc same)
-same-at f g h (x ∷ xs) [] k a b same inside = absurd (cc same)
-same-at f g h (x ∷ xs) (y ∷ ys) zero a b same inside = cc same
-same-at f g h (x ∷ xs) (y ∷ ys) (suc k) a b same inside = same-at f g h xs ys k a b (cc same) (omega (arith, inside))
+pub got-mapped : {A B : Type 0} (f : A → B) (xs : List A) (i : ℕ) (d : A) (e : B) → i < length xs → f (get_or xs i d) ≡ get_or (map f xs) i e
+got-mapped f [] i d e inside = absurd (omega (arith, inside))
+got-mapped f (x ∷ xs) zero d e inside = refl
+got-mapped f (x ∷ xs) (suc i) d e inside = got-mapped f xs i d e (omega (arith, inside))
+
+pub mapped-count : {A B : Type 0} (f : A → B) (xs : List A) → length (map f xs) ≡ length xs
+mapped-count f [] = refl
+mapped-count f (x ∷ xs) = ap suc (mapped-count f xs)

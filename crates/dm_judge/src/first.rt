@@ -83,11 +83,11 @@ fn change_at(alloc: Global, definition: &Definition, first: &Met) -> Result<Opti
     change_with(alloc, definition, types, visible, &signature)
 }
 
-/// What a definition becomes. None where it isn't expanded, or a type can't be spelled.
+/// What a definition becomes, by those units whose types are looked up. None where it isn't expanded there, or a type can't be spelled.
 pub(crate) fn change_of(
     alloc: Global,
     definition: &Definition,
-    units: &[Meanings],
+    units: &[Option<Meanings>],
 ) -> Result<Option<Change>, Memory>
     ensures { IfOk result (λ change. change ≡ proposals.change_of definition.now (readings_of units.now)) }
 {

@@ -20,4 +20,4 @@ pub use proposal::Proposal;
 pub use proposing::{propose, propose_in};
 pub use rules::broken_from_5;
 pub use signature::{Parameter, Signature};
-pub use units::{Units, indexes_of};
+pub use units::{Units, indexes_of, names_of};

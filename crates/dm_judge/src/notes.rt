@@ -11,7 +11,6 @@ use dm_effect::QuietFunctions;
 use dm_sites::Sites;
 use dm_stable::Objects;
 use dm_token::Memory;
-use dm_tree::CoreUnit;
 use std::alloc::Global;
 
 /// Which functions of a unit are quiet, what stands round its places, and what its trees do to its objects.
@@ -25,13 +24,14 @@ pub struct Notes<'a> {
 }
 
 impl<'a> Notes<'a> {
-    pub(crate) fn of(alloc: Global, unit: &'a CoreUnit) -> Result<Notes<'a>, Memory>
-        ensures { IfOk result (λ made. made.quiet ≡ unit.now) }
+    /// Those of the unit of these places.
+    pub(crate) fn of(alloc: Global, sites: &Sites<'a>) -> Result<Notes<'a>, Memory>
+        ensures { IfOk result (λ made. made.quiet ≡ sites.now) }
     {
+        let unit = sites.unit();
         let quiet = QuietFunctions::of(alloc, unit)?;
         let objects = Objects::of(alloc, unit)?;
-        let sites = Sites::of(alloc, unit)?;
-        let surroundings = Surroundings::of(alloc, &sites, &quiet)?;
+        let surroundings = Surroundings::of(alloc, sites, &quiet)?;
         Ok(Notes {
             quiet,
             objects,

@@ -1,6 +1,6 @@
 //! What is proposed for definitions.
 
-ghost use Rattle.std.specs.Prelude.{◌≡◌, Some, IfOk, IsSome, find};
+ghost use Rattle.std.specs.Prelude.{◌≡◌, Some, IfOk, IsSome, OnOk, find};
 ghost use Rattle.std.specs.Option.{option_copied};
 ghost use Rattle.dm_runs.specs.Runs.{is_at as is_seen_at};
 ghost use Rattle.dm_judge.specs.Proposals as proposals;
@@ -10,7 +10,7 @@ ghost use Rattle.dm_judge.specs.Units.{AreTyped, AreWhole, readings_of};
 use crate::first::change_of;
 use crate::proposal::Proposal;
 use crate::rules::broken_rule;
-use crate::units::{Units, indexes_of};
+use crate::units::{Units, indexes_of, names_of};
 use dm_reading::Reading;
 use dm_runs::is_at;
 use dm_token::{Definition, Memory};
@@ -44,10 +44,16 @@ fn definition_at(readings: &[Reading], file: u32, hash: u32) -> Option<&Definiti
     None
 }
 
-/// What may become of a definition.
-pub fn propose_in(alloc: Global, units: &Units, definition: &Definition) -> Result<Proposal, Memory>
-    requires { AreWhole units.now }
-    ensures { IfOk result (λ proposal. proposed (readings_of units.now) definition.now ≡ Some proposal) }
+/// What may become of a definition. Where it keeps the rules 1 to 8, each unit that expands it is gone through, once for all definitions.
+pub fn propose_in(
+    alloc: Global,
+    units: &mut Units,
+    definition: &Definition,
+) -> Result<Proposal, Memory>
+    requires { AreWhole units.old }
+    ensures proposed { IfOk result (λ proposal. proposed (readings_of units.old) definition.now ≡ Some proposal) }
+    ensures whole { OnOk result (AreWhole units.new) }
+    ensures indexes { OnOk result (units.new.indexes.now ≡ units.old.indexes.now) }
 {
     if let Some((rule, place)) = broken_rule(alloc, definition, units)? {
         return Ok(Proposal::Broken { rule, place });
@@ -64,8 +70,9 @@ pub fn propose(alloc: Global, old: &[Reading], file: u32, hash: u32) -> Result<P
     ensures { IfOk result (IsProposal old.now file hash) }
 {
     let indexes = indexes_of(alloc, old)?;
-    let units = Units::of(alloc, indexes.as_slice())?;
+    let names = names_of(alloc, old)?;
+    let mut units = Units::of(alloc, indexes.as_slice(), names.as_slice())?;
     let definition = definition_at(old, file, hash).unwrap();
-    let proposal = propose_in(alloc, &units, definition)?;
+    let proposal = propose_in(alloc, &mut units, definition)?;
     Ok(proposal)
 }

@@ -1,11 +1,11 @@
 //! All rules, from the least on.
 
-ghost use Rattle.std.specs.Prelude.{◌≡◌, IfOk};
+ghost use Rattle.std.specs.Prelude.{◌≡◌, IfNone, IfOk, OnOk};
 ghost use Rattle.dm_rules.specs.Rules.{broken_parameter as unfit_in};
 ghost use Rattle.dm_meanings.specs.Captures.{broken_capture as captured_in};
 ghost use Rattle.dm_meanings.specs.Types.{broken_type as typed_otherwise_in};
 ghost use Rattle.dm_judge.specs.Rules as rules;
-ghost use Rattle.dm_judge.specs.Units.{AreWhole, readings_of};
+ghost use Rattle.dm_judge.specs.Units.{AreReady, AreWhole, readings_of};
 
 use crate::rule::RunRule;
 use crate::runs::broken_on_runs;
@@ -37,7 +37,7 @@ fn other_type(
     definition: &Definition,
     units: &Units,
 ) -> Result<Option<Place>, Memory>
-    requires { AreWhole units.now }
+    requires { AreReady definition.now units.now }
     ensures { IfOk result (λ place. place ≡ typed_otherwise_in definition.now (readings_of units.now)) }
 {
     let place = broken_type(alloc, definition, units.meanings.as_slice())?;
@@ -46,7 +46,7 @@ fn other_type(
 
 /// Where a name of the replacement list means something else first.
 fn captured(alloc: Global, definition: &Definition, units: &Units) -> Result<Option<Place>, Memory>
-    requires { AreWhole units.now }
+    requires { AreReady definition.now units.now }
     ensures { IfOk result (λ place. place ≡ captured_in definition.now (readings_of units.now)) }
 {
     let place = broken_capture(alloc, definition, units.meanings.as_slice())?;
@@ -59,7 +59,8 @@ fn broken_from_9(
     definition: &Definition,
     units: &Units,
 ) -> Result<Option<(u8, Place)>, Memory>
-    requires { AreWhole units.now }
+    requires whole { AreWhole units.now }
+    requires ready { AreReady definition.now units.now }
     ensures { IfOk result (λ broken. broken ≡ rules.broken_first (rules.rules_from_9 definition.now (readings_of units.now))) }
 {
     if let Some(place) = broken_on_runs(alloc, RunRule::Subtree, definition, units)? {
@@ -83,14 +84,18 @@ fn broken_from_9(
     }
 }
 
-/// The least of the rules from 5 to 14 that is broken, and where it is broken first.
+/// The least of the rules from 5 to 14 that is broken, and where it is broken first. For the rules from 9 on each unit that expands the
+/// definition is gone through, if it wasn't before.
 pub fn broken_from_5(
     alloc: Global,
     definition: &Definition,
-    units: &Units,
+    units: &mut Units,
 ) -> Result<Option<(u8, Place)>, Memory>
-    requires { AreWhole units.now }
-    ensures { IfOk result (λ broken. broken ≡ rules.broken_first (rules.rules_from_5 definition.now (readings_of units.now))) }
+    requires { AreWhole units.old }
+    ensures broken { IfOk result (λ broken. broken ≡ rules.broken_first (rules.rules_from_5 definition.now (readings_of units.old))) }
+    ensures whole { OnOk result (AreWhole units.new) }
+    ensures indexes { OnOk result (units.new.indexes.now ≡ units.old.indexes.now) }
+    ensures ready { IfOk result (λ broken. IfNone broken (AreReady definition.now units.new)) }
 {
     let indexes = units.indexes;
     if let Some(place) = broken_gone(alloc, definition, indexes)? {
@@ -105,6 +110,7 @@ pub fn broken_from_5(
     if let Some(place) = unfit_parameter(alloc, definition, units)? {
         return Ok(Some((8, place)));
     }
+    units.look_up(alloc, definition)?;
     broken_from_9(alloc, definition, units)
 }
 
@@ -112,10 +118,13 @@ pub fn broken_from_5(
 pub(crate) fn broken_rule(
     alloc: Global,
     definition: &Definition,
-    units: &Units,
+    units: &mut Units,
 ) -> Result<Option<(u8, Place)>, Memory>
-    requires { AreWhole units.now }
-    ensures { IfOk result (λ broken. broken ≡ rules.broken_first (rules.rules_of definition.now (readings_of units.now))) }
+    requires { AreWhole units.old }
+    ensures broken { IfOk result (λ broken. broken ≡ rules.broken_first (rules.rules_of definition.now (readings_of units.old))) }
+    ensures whole { OnOk result (AreWhole units.new) }
+    ensures indexes { OnOk result (units.new.indexes.now ≡ units.old.indexes.now) }
+    ensures ready { IfOk result (λ broken. IfNone broken (AreReady definition.now units.new)) }
 {
     let indexes = units.indexes;
     if let Some(place) = broken_body(definition) {

@@ -1,9 +1,10 @@
 //! The rules that ask what stands where the runs of a macro stand.
 
-ghost use Rattle.std.specs.Prelude.{◌≡◌, IfOk};
+ghost use Rattle.std.specs.Prelude.{◌≡◌, IfOk, IfSome};
 ghost use Rattle.dm_tree.specs.TypeNumbers.{IsTypedUnit};
+ghost use Rattle.dm_meanings.specs.First.{place_at, reading_of};
 ghost use Rattle.dm_judge.specs.Rules as rules;
-ghost use Rattle.dm_judge.specs.Units.{AreWhole, readings_of};
+ghost use Rattle.dm_judge.specs.Units.{AreReady, AreWhole, IsNoted, readings_of};
 
 use crate::notes::Notes;
 use crate::rule::RunRule;
@@ -65,6 +66,24 @@ fn failing_in(
     Ok(unit.index.first_with(definition, &failing))
 }
 
+/// The same, where its types are looked up and its trees noted.
+fn failing_at(
+    alloc: Global,
+    rule: RunRule,
+    definition: &Definition,
+    unit: &Option<Meanings>,
+    notes: &Option<Notes>,
+) -> Result<Option<Place>, Memory>
+    requires typed { IfSome unit.now (λ one. IsTypedUnit (reading_of one).types (reading_of one).core) }
+    requires noted { IsNoted unit.now notes.now }
+    ensures { IfOk result (λ place. place ≡ place_at (rules.failing_in rule definition.now) unit.now) }
+{
+    match (unit, notes) {
+        (Some(unit), Some(notes)) => failing_in(alloc, rule, definition, unit, notes),
+        _ => Ok(None),
+    }
+}
+
 /// The name of the first expansion that has a run that breaks a rule.
 pub(crate) fn broken_on_runs(
     alloc: Global,
@@ -72,13 +91,14 @@ pub(crate) fn broken_on_runs(
     definition: &Definition,
     units: &Units,
 ) -> Result<Option<Place>, Memory>
-    requires { AreWhole units.now }
+    requires whole { AreWhole units.now }
+    requires ready { AreReady definition.now units.now }
     ensures { IfOk result (λ place. place ≡ rules.broken_on_runs rule definition.now (readings_of units.now)) }
 {
     let meanings = units.meanings.as_slice();
-    let notes = units.notes.as_slice();
     for number in 0..meanings.len() {
-        let found = failing_in(alloc, rule, definition, &meanings[number], &notes[number])?;
+        let notes = &units.notes[number];
+        let found = failing_at(alloc, rule, definition, &meanings[number], notes)?;
         if let Some(place) = found {
             return Ok(Some(place));
         }

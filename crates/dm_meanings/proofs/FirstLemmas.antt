@@ -1,5 +1,5 @@
 -- Tables by parameter.
-use Rattle.std.proofs.Common.{◌≡◌, ℕ, zero, suc, ◌<◌, Bool, true, false, cond, ◌==◌, List, [], ◌∷◌, length, map, Option, Some, None, slice_get, slice_set, option_map, find, refl, sym, ap, ◌∙◌, arith, eqb-true}
+use Rattle.std.proofs.Common.{◌≡◌, ℕ, zero, suc, ◌<◌, Bool, true, false, cond, ◌==◌, List, [], ◌∷◌, length, Option, Some, slice_get, slice_set, option_map, find, refl, sym, ap, ◌∙◌, arith, eqb-true}
 use Rattle.std.proofs.lemmas.Bool.{eqb-false}
 use Rattle.dm_token.specs.declared.place.Span.{Span}
 use Rattle.dm_runs.specs.declared.run.Occurrence.{Occurrence}
@@ -36,9 +36,3 @@ one-first each done n = by (each.parameter == n)
     by : (b : Bool) → option_map (λ (one : Occurrence). one.span) (cond b (Some each) (find (is_of n) done)) ≡ cond b (Some each.span) (option_map (λ (one : Occurrence). one.span) (find (is_of n) done))
     by true = refl
     by false = refl
-
--- what is made of each entry
-pub entry-map : {A B : Type 0} (make : Option A → Option B) (table : List (Option A)) (n : ℕ) → make None ≡ None → entry_at (map make table) n ≡ make (entry_at table n)
-entry-map make [] n none = sym none
-entry-map make (entry ∷ table) zero none = refl
-entry-map make (entry ∷ table) (suc n) none = entry-map make table n none

@@ -4,7 +4,7 @@ ghost use Rattle.std.specs.Prelude.{◌≡◌, ◌<◌, ◌≤◌, ◌&&◌, not
 ghost use Rattle.std.specs.Option.{option_copied};
 ghost use Rattle.dm_token.specs.declared.expansion.Definition.{Definition as SeenDefinition};
 ghost use Rattle.dm_meanings.specs.Captures as captures;
-ghost use Rattle.dm_meanings.specs.First.{readings_of};
+ghost use Rattle.dm_meanings.specs.First.{place_at, readings_of};
 ghost use Rattle.dm_meanings.specs.Own.{AreOwn};
 ghost use Rattle.dm_meanings.specs.Subjects.{IsSubject};
 
@@ -117,16 +117,31 @@ fn capture_in(
     Ok(unit.index.first_with(definition, &instances))
 }
 
-/// Rule 13, Capture: each name that the macro itself adds means what it means where the definition stands.
+/// The same, where its names are looked up.
+fn capture_at(
+    alloc: Global,
+    definition: &Definition,
+    unit: &Option<Meanings>,
+) -> Result<Option<Place>, Memory>
+    ensures { IfOk result (λ place. place ≡ place_at (captures.capture_in definition.now) unit.now) }
+{
+    match unit {
+        None => Ok(None),
+        Some(unit) => capture_in(alloc, definition, unit),
+    }
+}
+
+/// Rule 13, Capture: each name that the macro itself adds means what it means where the definition stands. Asked of those units whose names
+/// are looked up.
 pub fn broken_capture(
     alloc: Global,
     definition: &Definition,
-    units: &[Meanings],
+    units: &[Option<Meanings>],
 ) -> Result<Option<Place>, Memory>
     ensures { IfOk result (λ place. place ≡ captures.broken_capture definition.now (readings_of units.now)) }
 {
     for unit in units {
-        if let Some(place) = capture_in(alloc, definition, unit)? {
+        if let Some(place) = capture_at(alloc, definition, unit)? {
             return Ok(Some(place));
         }
     }

@@ -12,5 +12,5 @@ mod wanted;
 
 pub use capture::broken_capture;
 pub use firsts::{first_occurrences, span_of};
-pub use meanings::Meanings;
+pub use meanings::{Meanings, Named, names_in};
 pub use types::{Met, broken_type, first_run};

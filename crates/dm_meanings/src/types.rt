@@ -1,7 +1,7 @@
 //! The types of what expansions leave.
 
 ghost use Rattle.std.specs.Prelude.{◌≡◌, option_map, IfOk};
-ghost use Rattle.dm_meanings.specs.First.{readings_of, seen};
+ghost use Rattle.dm_meanings.specs.First.{place_at, readings_of, seen};
 ghost use Rattle.dm_meanings.specs.Types as types;
 ghost use Rattle.dm_meanings.specs.Types.{Met as SeenMet};
 ghost use Rattle.dm_meanings.specs.Wanted.{IsWanted};
@@ -34,14 +34,17 @@ fn first_met<'u, 'i, 'r>(
     }
 }
 
-/// The first run of the first expansion, in the first unit that has one.
+/// The first run of the first expansion, in the first unit that has one, of those whose types are looked up.
 pub fn first_run<'u, 'i, 'r>(
     definition: &Definition,
-    units: &'u [Meanings<'i, 'r>],
+    units: &'u [Option<Meanings<'i, 'r>>],
 ) -> Option<Met<'u, 'i, 'r>>
     ensures { option_map seen result ≡ types.first_run definition.now (readings_of units.now) }
 {
-    for unit in units {
+    for one in units {
+        let Some(unit) = one else {
+            continue;
+        };
         if unit.index.is_used(definition) {
             return first_met(definition, unit);
         }
@@ -121,18 +124,34 @@ fn type_in(
     Ok(unit.index.first_with(definition, &instances))
 }
 
+/// The same, where its types are looked up.
+fn type_at(
+    alloc: Global,
+    definition: &Definition,
+    wanted: &Wanted,
+    unit: &Option<Meanings>,
+) -> Result<Option<Place>, Memory>
+    ensures { IfOk result (λ place. (first : SeenMet) → IsWanted definition.now first wanted.now
+        → place ≡ place_at (types.type_in definition.now first) unit.now) }
+{
+    match unit {
+        None => Ok(None),
+        Some(unit) => type_in(alloc, definition, wanted, unit),
+    }
+}
+
 /// The first expansion in the first unit that has such a one.
 fn type_in_units(
     alloc: Global,
     definition: &Definition,
     wanted: &Wanted,
-    units: &[Meanings],
+    units: &[Option<Meanings>],
 ) -> Result<Option<Place>, Memory>
     ensures { IfOk result (λ place. (first : SeenMet) → IsWanted definition.now first wanted.now
         → place ≡ in_first_unit (types.type_in definition.now first) (readings_of units.now)) }
 {
     for unit in units {
-        if let Some(place) = type_in(alloc, definition, wanted, unit)? {
+        if let Some(place) = type_at(alloc, definition, wanted, unit)? {
             return Ok(Some(place));
         }
     }
@@ -140,11 +159,11 @@ fn type_in_units(
 }
 
 /// Rule 12, Type: each expansion has the type of the first one, and what is passed in it the types of what is passed there, which are
-/// not void; and all of these can be spelled where the definition stands.
+/// not void; and all of these can be spelled where the definition stands. Asked of those units whose types are looked up.
 pub fn broken_type(
     alloc: Global,
     definition: &Definition,
-    units: &[Meanings],
+    units: &[Option<Meanings>],
 ) -> Result<Option<Place>, Memory>
     ensures { IfOk result (λ place. place ≡ types.broken_type definition.now (readings_of units.now)) }
 {

@@ -1,7 +1,7 @@
 -- The steps of judging: which definition is next, and the readings that are put in.
 use Rattle.std.proofs.Common.{◌≡◌, ℕ, suc, ◌+◌, ◌-◌, ◌<◌, List, [], ◌∷◌, ◌++◌, length, drop, get_or, set, reverse, map, All, Option, Some, None, IfSome, is_some, unwrap_or, refl, sym, ap, ◌∙◌, subst, arith, length-append}
 use Rattle.std.proofs.lemmas.List.Elements.{All-nil, All-cons, All-head, All-tail}
-use Rattle.std.proofs.lemmas.List.{at_drop_more, at_drop_all, reverse-append}
+use Rattle.std.proofs.lemmas.List.{at_drop_more, reverse-append}
 use Rattle.dm_token.specs.declared.expansion.Definition.{Definition}
 use Rattle.dm_token.specs.declared.place.Place.{Place}
 use Rattle.dm_token.specs.declared.unit.Unit.{Unit as Source}
@@ -14,8 +14,8 @@ use Rattle.dm_judge.specs.declared.proposal.Proposal.TheVariants as proposal
 use Rattle.dm_judge.specs.Proposals.{proposed}
 use Rattle.dm_readings.specs.Again.{AreReaders, put_in, reads}
 use Rattle.dm_readings.specs.Units.{IsTyped}
-use Rattle.dm_rules.specs.declared.tables.Tables.{Tables}
-use Rattle.dm_subjects.specs.Tables.{AreKnown, AreNew}
+use Rattle.dm_meaning.specs.Replaced.{Zipped}
+use Rattle.dm_subjects.specs.Tables.{IsNew}
 use Rattle.dm_subjects.specs.declared.subject.Subject.{Subject}
 use Rattle.dm_planning.specs.Judging.{Edits, Judges, JudgesAll, JudgesFound, Project, entry_with, found_in, reread_rule}
 use Rattle.dm_planning.specs.Steps.{HasJudged, IsLastLeft, items_with}
@@ -47,20 +47,6 @@ judged-more told units first now after subjects entries subject entry judged les
           (sym (reverse-append entries (entry ∷ [])))
           (reverse entries, now, judged.judged, entry, judges, refl));
     }
-
--- none has an outcome yet
-pub judged-none : (told : Option Files) (units : List Source) (first : Project) (subjects : List Subject) → HasJudged told units first subjects [] first
-judged-none told units first subjects = record {
-  few = omega arith;
-  judged = subst (λ (rest : List Subject). JudgesAll told units first rest [] first) (sym (at_drop_all (λ ys. ys) subjects (length subjects - 0) (omega arith))) (refl, refl);
-}
-
--- all have one
-pub judged-all : (told : Option Files) (units : List Source) (first now : Project) (subjects : List Subject) (entries : List Entry) → HasJudged told units first subjects entries now
-    → length entries ≡ length subjects → JudgesAll told units first subjects (reverse entries) now
-judged-all told units first now subjects entries judged all =
-    let none : length subjects - length entries ≡ 0 = omega (arith, all) in
-    subst (λ n. JudgesAll told units first (drop n subjects) (reverse entries) now) none judged.judged
 
 -- a definition that no unit reads
 pub judges-unread : (told : Option Files) (units : List Source) (now : Project) (subject : Subject) (entry : Entry) → found_in now subject ≡ None
@@ -132,28 +118,29 @@ new-typed (reading ∷ kept) (None ∷ news) same typed =
 
 -- ---- what is known of them
 
-pub known-length : (kept : List Reading) (known : List Tables) → AreKnown kept known → length known ≡ length kept
-known-length [] [] are = refl
-known-length [] (one ∷ known) are = absurd are
-known-length (reading ∷ kept) [] are = absurd are
-known-length (reading ∷ kept) (one ∷ known) are = ap suc (known-length kept known are.1)
+module _ {A : Type 0} (R : Reading → A → Type 0) where
+  pub known-length : (kept : List Reading) (known : List A) → Zipped R kept known → length known ≡ length kept
+  known-length [] [] are = refl
+  known-length [] (one ∷ known) are = absurd are
+  known-length (reading ∷ kept) [] are = absurd are
+  known-length (reading ∷ kept) (one ∷ known) are = ap suc (known-length kept known are.1)
 
-pub new-length : (news : List (Option Reading)) (tables : List (Option Tables)) → AreNew news tables → length tables ≡ length news
-new-length [] [] are = refl
-new-length [] (one ∷ tables) are = absurd are
-new-length (new ∷ news) [] are = absurd are
-new-length (new ∷ news) (one ∷ tables) are = ap suc (new-length news tables are.1)
+  pub new-length : (news : List (Option Reading)) (new : List (Option A)) → Zipped (IsNew R) news new → length new ≡ length news
+  new-length [] [] are = refl
+  new-length [] (one ∷ new) are = absurd are
+  new-length (given ∷ news) [] are = absurd are
+  new-length (given ∷ news) (one ∷ new) are = ap suc (new-length news new are.1)
 
--- where what is known of new readings is put in
-pub known-put : (kept : List Reading) (known : List Tables) (news : List (Option Reading)) (tables : List (Option Tables)) → AreKnown kept known → AreNew news tables
-    → AreKnown (put_in kept news) (items_with known tables)
-known-put [] [] news tables are new = tt
-known-put [] (one ∷ known) news tables are new = absurd are
-known-put (reading ∷ kept) [] news tables are new = absurd are
-known-put (reading ∷ kept) (one ∷ known) [] [] are new = are
-known-put (reading ∷ kept) (one ∷ known) [] (other ∷ tables) are new = absurd new
-known-put (reading ∷ kept) (one ∷ known) (given ∷ news) [] are new = absurd new
-known-put (reading ∷ kept) (one ∷ known) (Some given ∷ news) (Some other ∷ tables) are new = (new.0, known-put kept known news tables are.1 new.1)
-known-put (reading ∷ kept) (one ∷ known) (Some given ∷ news) (None ∷ tables) are new = absurd new.0
-known-put (reading ∷ kept) (one ∷ known) (None ∷ news) (Some other ∷ tables) are new = absurd new.0
-known-put (reading ∷ kept) (one ∷ known) (None ∷ news) (None ∷ tables) are new = (are.0, known-put kept known news tables are.1 new.1)
+  -- where what is known of new readings is put in
+  pub known-put : (kept : List Reading) (known : List A) (news : List (Option Reading)) (new : List (Option A)) → Zipped R kept known → Zipped (IsNew R) news new
+      → Zipped R (put_in kept news) (items_with known new)
+  known-put [] [] news new are given = tt
+  known-put [] (one ∷ known) news new are given = absurd are
+  known-put (reading ∷ kept) [] news new are given = absurd are
+  known-put (reading ∷ kept) (one ∷ known) [] [] are given = are
+  known-put (reading ∷ kept) (one ∷ known) [] (other ∷ new) are given = absurd given
+  known-put (reading ∷ kept) (one ∷ known) (first ∷ news) [] are given = absurd given
+  known-put (reading ∷ kept) (one ∷ known) (Some first ∷ news) (Some other ∷ new) are given = (given.0, known-put kept known news new are.1 given.1)
+  known-put (reading ∷ kept) (one ∷ known) (Some first ∷ news) (None ∷ new) are given = absurd given.0
+  known-put (reading ∷ kept) (one ∷ known) (None ∷ news) (Some other ∷ new) are given = absurd given.0
+  known-put (reading ∷ kept) (one ∷ known) (None ∷ news) (None ∷ new) are given = (are.0, known-put kept known news new are.1 given.1)

@@ -1,31 +1,17 @@
 -- What the call for a plan gives, by what its readings gave.
-use Rattle.std.proofs.Common.{◌≡◌, ◌≢◌, inl, inr, ℕ, ◌+◌, ◌-◌, ◌≤◌, true, false, List, length, Option, Some, Result, Ok, Err, refl, sym, subst, arith, IsErrAnd}
+use Rattle.std.proofs.Common.{◌≡◌, inl, inr, ℕ, ◌+◌, ◌-◌, ◌≤◌, false, List, length, Option, Some, Result, Ok, Err, sym, subst, arith, IsErrAnd}
 use Rattle.std.proofs.lemmas.Bool.{false≢true}
 use Rattle.dm_token.specs.declared.stop.Stop.{Stop}
 use Rattle.dm_token.specs.declared.stop.Stop.TheVariants.{Memory, Refused, Limit, ReadFault}
 use Rattle.dm_token.specs.declared.unit.Unit.{Unit as Source}
 use Rattle.dm_io.specs.Files.{Files}
 use Rattle.dm_search.specs.Loaded.{Loaded}
-use Rattle.dm_search.specs.Loading.{StopsReplacing}
 use Rattle.dm_reading.specs.declared.reading.Reading.{Reading}
 use Rattle.dm_edit.specs.declared.plan.Plan.{Plan}
 use Rattle.dm_readings.specs.Units.{ReadsProject, ending}
-use Rattle.dm_planning.specs.Judging.{IsOfSource, Project}
+use Rattle.dm_planning.specs.Judging.{Project}
 use Rattle.dm_planning.specs.Plans.{IsPlanned, ReadsFirst, StopsFirst}
 use Rattle.dm_planning.specs.Steps.{is_of_source, project_of}
-
-pub source-is : (stop : Stop) → is_of_source stop ≡ true → IsOfSource stop
-source-is Memory e = absurd (false≢true e)
-source-is (Refused refusal) e = tt
-source-is (Limit limit) e = tt
-source-is (ReadFault file) e = absurd (false≢true e)
-
--- bytes aren't refused for a fault of the folder
-pub replacing-source : (file : ℕ) (bytes : List ℕ) (stop : Stop) → StopsReplacing file bytes stop → stop ≢ Memory → IsOfSource stop
-replacing-source file bytes Memory stops not = absurd (not refl)
-replacing-source file bytes (Refused refusal) stops not = tt
-replacing-source file bytes (Limit limit) stops not = tt
-replacing-source file bytes (ReadFault number) stops not = absurd stops
 
 module _ (told : Option Files) (units : List Source) (old : Loaded) (count : ℕ) where
   -- what the first readings gave, by how many were begun

@@ -18,9 +18,8 @@ use dm_edit::{Change, Entry, Fate, edit, lies_in};
 use dm_io::Folder;
 use dm_project::{Steps, read_again};
 use dm_reading::Reading;
-use dm_rules::Tables;
 use dm_search::{Loader, readable_bytes_are_not_refused};
-use dm_subjects::{aligned_tables, bytes_at, indexes_with, tables_of};
+use dm_subjects::{Known, News, aligned_news, bytes_at, indexes_with, tables_of};
 use dm_token::{Definition, HEADER_COUNT, List, Memory, Stop, Unit};
 use std::alloc::Global;
 use std::mem;
@@ -37,18 +36,18 @@ pub(crate) fn edit_one<F: Folder, L: Ledger>(
     loader: &mut Loader,
     units: &[Unit],
     kept: &mut List<Reading>,
-    known: &mut Vec<Tables>,
+    known: &mut Known,
     change: Change,
     readings: &mut Steps<L>,
 ) -> Result<Entry, Stop>
     requires room { length loader.old.names < most_names }
     requires short { All HasShortDefines units.now }
     requires good { AreGood units.now kept.old }
-    requires known { AreKnown kept.old known.old.items }
+    requires known { AreKnown kept.old known.old }
     ensures edits { IfOk result (λ entry. Edits (F.files folder.old) units.now (project_of loader.old kept.old readings.old) change entry
         (project_of loader.new kept.new readings.new)) }
     ensures good { OnOk result (AreGood units.now kept.new) }
-    ensures known { OnOk result (AreKnown kept.new known.new.items) }
+    ensures known { OnOk result (AreKnown kept.new known.new) }
     ensures stops { IfErr result (λ stop. is_seen_of_source stop ≡ false) }
     ensures leaves { LeavesProject (F.files folder.old) (F.files folder.new) (F.room folder.old) (F.room folder.new) (F.faults folder.old) (F.faults folder.new) loader.old loader.new (stop_of result) }
 {
@@ -57,6 +56,7 @@ pub(crate) fn edit_one<F: Folder, L: Ledger>(
         return Ok(kept_entry(change));
     }
     let before = List::from_vec(Vec::from_slice(alloc, bytes_at(loader, file))?);
+    // So the bytes can be put back.
     loader.held_are_readable();
     if !hold_edited(alloc, loader, &change)? {
         return Ok(kept_entry(change));
@@ -98,29 +98,30 @@ fn read_edited<F: Folder, L: Ledger>(
     loader: &mut Loader,
     units: &[Unit],
     kept: &mut List<Reading>,
-    known: &mut Vec<Tables>,
+    known: &mut Known,
     change: &Change,
     readings: &mut Steps<L>,
 ) -> Result<bool, Stop>
     requires room { length loader.old.names < most_names }
     requires short { All HasShortDefines units.now }
     requires good { AreGood units.now kept.old }
-    requires known { AreKnown kept.old known.old.items }
+    requires known { AreKnown kept.old known.old }
     ensures rereads { IfOk result (λ stands. RereadsTo (F.files folder.old) units.now change.now kept.old loader.old stands kept.new loader.new) }
     ensures counted { OnOk result (readings.new ≡ readings.old + reader_count (file_of change.now) kept.old) }
     ensures good { OnOk result (AreGood units.now kept.new) }
-    ensures known { OnOk result (AreKnown kept.new known.new.items) }
+    ensures known { OnOk result (AreKnown kept.new known.new) }
     ensures stops { IfErr result (λ stop. is_seen_of_source stop ≡ false) }
     ensures leaves { LeavesProject (F.files folder.old) (F.files folder.new) (F.room folder.old) (F.room folder.new) (F.faults folder.old) (F.faults folder.new) loader.old loader.new (stop_of result) }
 {
     let file = change.definition.place.file;
     match read_again(alloc, folder, loader, file, units, kept.items(), readings) {
         Ok(news) => {
-            let found = new_tables(alloc, kept.items(), known, news.items(), change)?;
-            let Some(tables) = found else {
+            let found = new_known(alloc, kept.items(), known, news.items(), change)?;
+            let Some(new) = found else {
                 return Ok(false);
             };
-            put_over(known, tables);
+            put_over(&mut known.tables, new.tables);
+            put_over(&mut known.names, new.names);
             put_in(alloc, kept, news);
             Ok(true)
         }
@@ -141,25 +142,26 @@ fn is_of_source(stop: &Stop) -> bool
     matches!(stop, Stop::Refused(_) | Stop::Limit(_))
 }
 
-/// What indexes know of new readings, if each unit that has one is aligned with its old one. What is known of the old ones stays.
-fn new_tables(
+/// What is known of new readings, if each unit that has one is aligned with its old one. What is known of the old ones stays.
+fn new_known(
     alloc: Global,
     kept: &[Reading],
-    known: &mut Vec<Tables>,
+    known: &mut Known,
     news: &[Option<Reading>],
     change: &Change,
-) -> Result<Option<Vec<Option<Tables>>>, Memory>
+) -> Result<Option<News>, Memory>
     requires typed { All IsTyped kept.now }
-    requires known { AreKnown kept.now known.old.items }
+    requires known { AreKnown kept.now known.old }
     requires news { All (λ (new : Maybe Read). IfSome new IsTyped) news.now }
     ensures aligned { IfOk result (λ found. IfSome found (λ _. AreAllAligned change.now kept.now news.now)) }
-    ensures tables { IfOk result (λ found. IfSome found (λ tables. AreNew news.now tables.items)) }
+    ensures new { IfOk result (λ found. IfSome found (AreNew news.now)) }
     ensures differs { IfOk result (λ found. IfNone found (¬ AreAllAligned change.now kept.now news.now)) }
-    ensures known { OnOk result (AreKnown kept.now known.new.items) }
+    ensures known { OnOk result (AreKnown kept.now known.new) }
 {
-    let indexes = indexes_with(alloc, kept, mem::replace(known, Vec::new(alloc)))?;
-    let found = aligned_tables(alloc, indexes.as_slice(), news, change)?;
-    *known = tables_of(alloc, indexes)?;
+    let tables = mem::replace(&mut known.tables, Vec::new(alloc));
+    let indexes = indexes_with(alloc, kept, tables)?;
+    let found = aligned_news(alloc, indexes.as_slice(), news, change)?;
+    known.tables = tables_of(alloc, indexes)?;
     Ok(found)
 }
 
@@ -192,6 +194,7 @@ fn put_back(loader: &mut Loader, file: u32, bytes: List<u8>) -> Result<(), Memor
     requires readable { IsReadable file bytes }
     ensures { OnOk result (loader.new ≡ with_bytes loader.old file bytes) }
 {
+    // The law by which nothing is refused here.
     readable_bytes_are_not_refused();
     match loader.replace(file, bytes) {
         Ok(()) => Ok(()),

@@ -7,7 +7,7 @@ ghost use Rattle.dm_unit.specs.Loaders.{most_names};
 ghost use Rattle.dm_unit.specs.Views.{stop_of};
 ghost use Rattle.dm_judge.specs.Units.{AreTyped};
 ghost use Rattle.dm_rules.specs.Indexes.{readings_of};
-ghost use Rattle.dm_subjects.specs.Tables.{AreKnown};
+ghost use Rattle.dm_subjects.specs.Tables.{AreKnown, HaveNames};
 ghost use Rattle.dm_readings.specs.Units.{HasShortDefines};
 ghost use Rattle.dm_planning.specs.Judging.{JudgesAll, Project, entry_with, reread_rule};
 ghost use Rattle.dm_planning.specs.Steps.{AreGood, HasJudged, IsNext, LeavesProject, is_of_source, project_of};
@@ -16,12 +16,13 @@ ghost use Rattle.dm_edit.specs.declared.plan.Fate.TheVariants.{Kept};
 use crate::editing::{REREAD_RULE, edit_one};
 use dm_edit::{Change, Entry, Fate};
 use dm_io::Folder;
-use dm_judge::{Proposal, Units, indexes_of, propose_in};
+use dm_judge::{Proposal, Units, indexes_of, names_of, propose_in};
+use dm_names::Names;
 use dm_project::Steps;
 use dm_reading::{Reading, copy_of_definition};
-use dm_rules::{Index, Tables};
+use dm_rules::Index;
 use dm_search::Loader;
-use dm_subjects::{Lines, Subject, definition_by, indexes_with, tables_of};
+use dm_subjects::{Known, Lines, Subject, definition_by, indexes_with, tables_of};
 use dm_token::{Definition, List, Memory, Place, Stop, Unit};
 use std::alloc::Global;
 use std::mem;
@@ -29,8 +30,8 @@ use std::sync::ledger::Ledger;
 
 /// What becomes of each definition, in their order. The last is judged first, and each in the project as edited so far.
 ///
-/// What indexes know of a reading is made once, and kept until an edit changes the unit. What is looked up of types and names is made anew
-/// behind each edit, also of units that no edit changed. A definition is found by its line.
+/// What indexes know of a reading, and what its names mean, is made once, and kept until an edit changes the unit. What tells types is made
+/// anew behind each edit, of those units alone that expand a definition that is judged then. A definition is found by its line.
 pub(crate) fn judge_all<F: Folder, L: Ledger>(
     alloc: Global,
     folder: &mut F,
@@ -77,12 +78,15 @@ fn reversed(entries: List<Entry>) -> List<Entry>
     List::from_vec(items)
 }
 
-/// What indexes know of some readings, each gone through once.
-fn known_of(alloc: Global, readings: &[Reading]) -> Result<Vec<Tables>, Memory>
-    ensures { IfOk result (λ known. AreKnown readings.now known.items) }
+/// What is known of some readings, each gone through once.
+fn known_of(alloc: Global, readings: &[Reading]) -> Result<Known, Memory>
+    requires { AreTyped readings.now }
+    ensures { IfOk result (AreKnown readings.now) }
 {
+    let names = names_of(alloc, readings)?;
     let indexes = indexes_of(alloc, readings)?;
-    tables_of(alloc, indexes)
+    let tables = tables_of(alloc, indexes)?;
+    Ok(Known { tables, names })
 }
 
 /// Judges definitions in a project that stays as it is, from the last one without an outcome on, up to the first that is to be edited.
@@ -90,35 +94,39 @@ fn next_change(
     alloc: Global,
     loader: &Loader,
     kept: &[Reading],
-    known: &mut Vec<Tables>,
+    known: &mut Known,
     subjects: &[Subject],
     entries: &mut List<Entry>,
 ) -> Result<Option<Change>, Memory>
     requires typed { AreTyped kept.now }
-    requires known { AreKnown kept.now known.old.items }
+    requires known { AreKnown kept.now known.old }
     requires few { length entries.old ≤ length subjects.now }
     ensures judged { OnOk result ((told : Maybe Files) (units : Sequence Source) (first : Project) (count : ℕ) →
         HasJudged told units first subjects.now entries.old (project_of loader.now kept.now count) →
         HasJudged told units first subjects.now entries.new (project_of loader.now kept.now count)) }
     ensures next { IfOk result (λ change. IsNext loader.now kept.now subjects.now entries.new change) }
-    ensures known { OnOk result (AreKnown kept.now known.new.items) }
+    ensures known { OnOk result (AreKnown kept.now known.new) }
     ensures more { OnOk result (length entries.old ≤ length entries.new) }
 {
-    let indexes = indexes_with(alloc, kept, mem::replace(known, Vec::new(alloc)))?;
-    let change = next_among(alloc, loader, indexes.as_slice(), subjects, entries)?;
-    *known = tables_of(alloc, indexes)?;
+    let tables = mem::replace(&mut known.tables, Vec::new(alloc));
+    let indexes = indexes_with(alloc, kept, tables)?;
+    let names = known.names.as_slice();
+    let change = next_among(alloc, loader, indexes.as_slice(), names, subjects, entries)?;
+    known.tables = tables_of(alloc, indexes)?;
     Ok(change)
 }
 
-/// The same by the indexes of the units.
+/// The same by the indexes of the units, and by what their names mean.
 fn next_among(
     alloc: Global,
     loader: &Loader,
     by_unit: &[Index],
+    names: &[Names],
     subjects: &[Subject],
     entries: &mut List<Entry>,
 ) -> Result<Option<Change>, Memory>
     requires typed { AreTyped (readings_of by_unit.now) }
+    requires named { HaveNames (readings_of by_unit.now) names.now }
     requires few { length entries.old ≤ length subjects.now }
     ensures judged { OnOk result ((told : Maybe Files) (units : Sequence Source) (first : Project) (count : ℕ) →
         HasJudged told units first subjects.now entries.old (project_of loader.now (readings_of by_unit.now) count) →
@@ -126,7 +134,7 @@ fn next_among(
     ensures next { IfOk result (λ change. IsNext loader.now (readings_of by_unit.now) subjects.now entries.new change) }
     ensures more { OnOk result (length entries.old ≤ length entries.new) }
 {
-    let project = Units::of(alloc, by_unit)?;
+    let mut project = Units::of(alloc, by_unit, names)?;
     let mut lines = Lines::of(alloc, loader, 0)?;
     for judged in entries.len()..subjects.len() {
         let subject = &subjects[subjects.len() - 1 - judged];
@@ -137,7 +145,7 @@ fn next_among(
             entries.push(unread_entry(alloc, &subject.definition)?)?;
             continue;
         };
-        match propose_in(alloc, &project, definition)? {
+        match propose_in(alloc, &mut project, definition)? {
             Proposal::Broken { rule, place } => {
                 entries.push(kept_entry(alloc, definition, rule, place)?)?;
             }

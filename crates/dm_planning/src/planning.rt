@@ -86,6 +86,7 @@ fn plan_of(alloc: Global, loader: &Loader, entries: List<Entry>) -> Result<Plan,
     ensures ascending { IfOk result (λ plan. IsSortedByKey (λ (one : Changed). one.name) (slice_cmp nat_cmp) plan.files) }
     ensures distinct { IfOk result (λ plan. IsDistinct bytes_eq (map (λ (one : Changed). one.name) plan.files)) }
 {
+    // The clause `numbered`, on which that of the files rests.
     loader.names_differ();
     let files = changed_files(alloc, loader, entries.items())?;
     let names = copies(alloc, loader.names())?;

@@ -34,9 +34,6 @@ first-behind bytes count at are few offset = (λ le. let more = fewer bytes at o
     by enough (inl less) = let short = few offset less in absurd (omega (arith, short, enough))
     by enough (inr past) = past
 
-pub few-more : (bytes : List ℕ) (count at : ℕ) → newlines (take at bytes) < count → FewBefore bytes count at → FewBefore bytes count (at + 1)
-few-more bytes count at less few offset before = let up = fewer bytes offset at (omega (arith, before)) in omega (arith, up, less)
-
 -- ---- where lines begin
 
 module _ (at byte : ℕ) (bytes : List ℕ) where

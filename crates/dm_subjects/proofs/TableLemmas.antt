@@ -1,11 +1,11 @@
 -- Lists whose items are related one by one: from the last one on, and with one more.
-use Rattle.std.proofs.Common.{◌≡◌, ◌≤◌, ◌<◌, ◌+◌, ◌⊎◌, inl, inr, ℕ, zero, suc, List, [], ◌∷◌, ◌++◌, length, map, reverse, take, set, get_or, Some, slice_get, refl, sym, ap, ◌∙◌, subst, arith, length-append, Vec, vec_len}
+use Rattle.std.proofs.Common.{◌≡◌, ◌≤◌, ◌<◌, ◌+◌, ◌⊎◌, inl, inr, ℕ, zero, suc, List, [], ◌∷◌, ◌++◌, length, map, reverse, take, get_or, Some, slice_get, refl, sym, ap, ◌∙◌, subst, arith, length-append, Vec, vec_len}
 use Rattle.std.proofs.lemmas.Bool.{cases_lt}
 use Rattle.std.proofs.lemmas.List.{length-take-le, map-append, reverse-append, take_more}
 use Rattle.std.specs.Prelude.{All}
 use Rattle.std.proofs.lemmas.List.Elements.{All-head, All-tail}
 use Rattle.dm_meaning.specs.Replaced.{Zipped}
-use Rattle.dm_align.proofs.StepLemmas.{AreSoFar, zipped-length, zipped-by}
+use Rattle.dm_align.proofs.StepLemmas.{AreSoFar, zipped-by}
 
 module _ {A B : Type 0} (R : A → B → Type 0) where
   -- the last ones
@@ -16,14 +16,6 @@ module _ {A B : Type 0} (R : A → B → Type 0) where
   zipped-last (a ∷ []) [] x y z = absurd z.1
   zipped-last (a ∷ c ∷ xs) [] x y z = absurd z.1
   zipped-last (a ∷ xs) (b ∷ ys) x y z = let rest = zipped-last xs ys x y z.1 in ((z.0, rest.0), rest.1)
-
-  -- others at a place
-  pub zipped-set : (xs : List A) (ys : List B) (k : ℕ) (x : A) (y : B) → Zipped R xs ys → R x y → Zipped R (set xs k x) (set ys k y)
-  zipped-set [] [] k x y z related = z
-  zipped-set [] (b ∷ ys) k x y z related = absurd z
-  zipped-set (a ∷ xs) [] k x y z related = absurd z
-  zipped-set (a ∷ xs) (b ∷ ys) zero x y z related = (related, z.1)
-  zipped-set (a ∷ xs) (b ∷ ys) (suc k) x y z related = (z.0, zipped-set xs ys k x y z.1 related)
 
   pub zipped-cons : (xs : List A) (ys : List B) (x : A) (y : B) → R x y → Zipped R xs ys → Zipped R (x ∷ xs) (y ∷ ys)
   zipped-cons xs ys x y related z = (related, z)
@@ -90,15 +82,6 @@ module _ {A B : Type 0} (f : A → B) where
 
   pub back-more : (xs : List A) (x : A) → reverse (map f (xs ++ x ∷ [])) ≡ f x ∷ reverse (map f xs)
   back-more xs x = ap reverse (map-append f xs (x ∷ [])) ∙ reverse-append (map f xs) (f x ∷ [])
-
-  pub mapped-at : (xs : List A) (k : ℕ) (x : A) (d : B) → k < length xs → x ≡ get_or xs k x → get_or (map f xs) k d ≡ f x
-  mapped-at [] k x d inside is = absurd (omega (arith, inside))
-  mapped-at (y ∷ xs) zero x d inside is = ap f (sym is)
-  mapped-at (y ∷ xs) (suc k) x d inside is = mapped-at xs k x d (omega (arith, inside)) is
-
-pub nothing-left : {A : Type 0} (xs : List A) → length xs ≡ 0 → xs ≡ []
-nothing-left [] none = refl
-nothing-left (x ∷ xs) none = absurd (omega (arith, none))
 
 pub back-one : {A : Type 0} (xs : List A) (x : A) → reverse (xs ++ x ∷ []) ≡ x ∷ reverse xs
 back-one xs x = reverse-append xs (x ∷ [])

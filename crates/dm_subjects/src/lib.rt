@@ -12,11 +12,11 @@ mod newlines;
 mod subject;
 mod tables;
 
-pub use alignments::aligned_tables;
+pub use alignments::aligned_news;
 pub use files::changed_files;
 pub use found::{definition_at, definition_by};
 pub use held::bytes_at;
 pub use lines::Lines;
 pub use listing::subjects;
 pub use subject::Subject;
-pub use tables::{indexes_with, tables_of};
+pub use tables::{Known, News, indexes_with, tables_of};

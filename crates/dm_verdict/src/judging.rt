@@ -8,7 +8,7 @@ use crate::rules::broken_alone;
 use crate::verdict::Verdict;
 use dm_alignment::{Alignment, align_in};
 use dm_edit::Change;
-use dm_meanings::Meanings;
+use dm_meanings::{Named, names_in};
 use dm_reading::Reading;
 use dm_refined::allowed_changes_refine;
 use dm_rules::Index;
@@ -24,9 +24,8 @@ fn reread(alloc: Global, old: &Index, new: &Reading, change: &Change) -> Result<
     requires new { IsTypedUnit new.now.types new.now.core }
     ensures { IfOk result (IsVerdictBy old.now.reading.now new.now change.now None) }
 {
-    let new = Index::of(alloc, new)?;
-    let meanings = Meanings::of(alloc, &new)?;
-    match align_in(alloc, old, &meanings, change)? {
+    let names = names_in(alloc, new)?;
+    match align_in(alloc, old, &Named::new(new, &names), change)? {
         Alignment::Same => Ok(Verdict::Allowed),
         Alignment::Differs => Ok(Verdict::Broken {
             rule: REREAD,

@@ -7,6 +7,7 @@ ghost use Rattle.dm_judge.specs.Units.{AreWhole, readings_of};
 ghost use Rattle.dm_refined.specs.Allowed.{rules_in};
 
 use dm_judge::{Units, broken_from_5};
+use dm_meanings::names_in;
 use dm_rules::{Index, broken_directive};
 use dm_token::{Definition, Memory, Place};
 use std::alloc::Global;
@@ -21,8 +22,9 @@ pub(crate) fn broken_alone(
     requires { IsTypedUnit index.now.reading.now.types index.now.reading.now.core }
     ensures { IfOk result (λ broken. broken ≡ broken_first (rules_in definition.now index.now.reading.now)) }
 {
-    let units = Units::of(alloc, slice::from_ref(index))?;
-    let broken = broken_in(alloc, definition, index, &units)?;
+    let names = names_in(alloc, index.reading)?;
+    let mut units = Units::of(alloc, slice::from_ref(index), slice::from_ref(&names))?;
+    let broken = broken_in(alloc, definition, index, &mut units)?;
     Ok(broken)
 }
 
@@ -31,10 +33,10 @@ fn broken_in(
     alloc: Global,
     definition: &Definition,
     index: &Index,
-    units: &Units,
+    units: &mut Units,
 ) -> Result<Option<(u8, Place)>, Memory>
-    requires whole { AreWhole units.now }
-    requires alone { readings_of units.now ≡ index.now.reading.now ∷ [] }
+    requires whole { AreWhole units.old }
+    requires alone { readings_of units.old ≡ index.now.reading.now ∷ [] }
     ensures { IfOk result (λ broken. broken ≡ broken_first (rules_in definition.now index.now.reading.now)) }
 {
     if let Some(place) = broken_directive(definition, slice::from_ref(index)) {

@@ -10,6 +10,6 @@ pub returns : goal.returns
 unfolding entries_behind
 returns c =
     let unit = c.args.unit.now in
-    let reading = unit.index.now.reading.now in
+    let reading = unit.reading.now in
     same-count unit.has_names c.entries_behind.result (names.entries_behind (source_in reading) (syntax_in reading) c.args.externals)
     (λ are. c.entries_behind.ensures reading.types reading.tokens reading.syntax reading.core are)

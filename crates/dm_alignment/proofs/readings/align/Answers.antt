@@ -9,5 +9,5 @@ pub returns : goal.returns
 returns c =
     let change = c.args.change.now in
     subst (λ (old : Reading). IfOk c.align_in.result (λ answer. answer ≡ Same ↔ AreAlignedReadings old c.args.new.now change)) c.in_ok-old.ensures
-    (subst (λ (new : Reading). IfOk c.align_in.result (λ answer. answer ≡ Same ↔ AreAlignedReadings c.in_ok-old.old.reading.now new change)) (c.in_ok-meanings.ensures ∙ c.in_ok-new.ensures)
+    (subst (λ (new : Reading). IfOk c.align_in.result (λ answer. answer ≡ Same ↔ AreAlignedReadings c.in_ok-old.old.reading.now new change)) c.new.ensures
     c.align_in.ensures)

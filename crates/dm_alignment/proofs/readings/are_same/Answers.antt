@@ -14,7 +14,7 @@ use Rattle.dm_alignment.proofs.readings.are_same.Goals as goal
 pub returns-then-not-reads : goal.returns-then-not-reads
 returns-then-not-reads c =
     let old = c.args.old.now.reading.now in
-    let new = c.args.new.now.index.now.reading.now in
+    let new = c.args.new.now.reading.now in
     if-ok c.are_aligned.result
     (λ answer says.
     through (subst (λ (runs : List Run). IsTrue answer ↔ AreAligned old.types new.types (unit_in old) (unit_in new) runs None) c.runs_of.ensures says)
@@ -24,7 +24,7 @@ returns-then-not-reads c =
 pub returns-in-Some : goal.returns-in-Some
 returns-in-Some c =
     let old = c.args.old.now.reading.now in
-    let new = c.args.new.now.index.now.reading.now in
+    let new = c.args.new.now.reading.now in
     let change = c.args.change.now in
     let added = c.in-Some.added in
     let inserted = subst (λ (found : Option Inserted). IfSome found (IsInserted old new change)) c.in-Some.is c.in_ok-added_to.ensures.found in

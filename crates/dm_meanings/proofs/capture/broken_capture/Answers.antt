@@ -1,7 +1,6 @@
 -- The first place of a unit is that of the first unit that has one.
 use Rattle.std.proofs.Common.{sym, ap, ◌∙◌}
-use Rattle.dm_meanings.specs.declared.meanings.Meanings.{Meanings}
-use Rattle.dm_meanings.specs.First.{readings_of, reading_of}
+use Rattle.dm_meanings.specs.First.{place_at, readings_of}
 use Rattle.dm_meanings.specs.Captures.{capture_in}
 use Rattle.dm_rules.specs.Uses.{in_first_unit}
 use Rattle.dm_meanings.proofs.MetLemmas.{first-unit, later-unit, no-unit}
@@ -11,13 +10,13 @@ pub returns-in-Some : goal.returns-in-Some
 returns-in-Some c =
     let place = capture_in c.args.definition.now in
     first-unit place c.args.units.now c.loop-unit.unit-index (in_first_unit place (readings_of c.args.units.now)) c.loop-unit.invariant c.unit-item.result c.loop-unit-test.true
-    c.in-Some.place (sym c.in-Some.is ∙ c.in_ok-place.ensures ∙ ap (λ (unit : Meanings). place (reading_of unit)) c.unit-item.is)
+    c.in-Some.place (sym c.in-Some.is ∙ c.in_ok-place.ensures ∙ ap (place_at place) c.unit-item.is)
 
 pub loop-unit-preserved : goal.loop-unit-preserved
 loop-unit-preserved c =
     let place = capture_in c.args.definition.now in
     later-unit place c.args.units.now c.loop-unit.unit-index (in_first_unit place (readings_of c.args.units.now)) c.loop-unit.invariant c.unit-item.result c.loop-unit-test.true
-    (sym c.in_default.is ∙ c.in_ok-place.ensures ∙ ap (λ (unit : Meanings). place (reading_of unit)) c.unit-item.is)
+    (sym c.in_default.is ∙ c.in_ok-place.ensures ∙ ap (place_at place) c.unit-item.is)
 
 pub returns : goal.returns
 returns c =

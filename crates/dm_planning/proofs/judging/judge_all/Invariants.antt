@@ -8,7 +8,7 @@ abbrev pub invariant-loop-entries : goal.invariant-loop-entries
 invariant-loop-entries g l = record {
   judged : HasJudged (g.F.Folder.files l.initial.folder) l.units (project_of l.initial.loader l.initial.kept l.initial.readings) l.subjects l.entries (project_of l.loader l.kept l.readings);
   good : AreGood l.units l.kept;
-  known : AreKnown l.kept l.known.items;
+  known : AreKnown l.kept l.known;
   leaves : LeavesProject (g.F.Folder.files l.initial.folder) (g.F.Folder.files l.folder) (g.F.Folder.room l.initial.folder) (g.F.Folder.room l.folder)
       (g.F.Folder.faults l.initial.folder) (g.F.Folder.faults l.folder) l.initial.loader l.loader None;
 }

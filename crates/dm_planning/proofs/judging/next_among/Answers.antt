@@ -17,17 +17,17 @@ returns-in-Change-clause-next c =
     let counted = c.loop-judged.invariant.counted in
     let inside = c.loop-judged-test.true in
     let less : length entries < length subjects = omega (arith, counted, inside) in
-    let project = c.in_ok-project.project in
+    let project = c.loop-judged.project in
     let kept = indexes.readings_of c.args.by_unit.now in
     let found : option_copied c.definition_by-found.result ≡ definition_at c.args.loader.now kept subject.key =
     c.definition_by-found.ensures ∙ ap (λ loaded. definition_at loaded kept subject.key) (c.in_ok-here.ensures.loader ∙ c.loop-judged.invariant.loader) in
-    let whole : readings_of project ≡ kept = ap indexes.readings_of c.in_ok-project.ensures.indexes in (
+    let whole : readings_of project ≡ kept = ap indexes.readings_of c.loop-judged.invariant.indexes in (
       less,
       subject,
       last-left subjects entries (length subjects - 1 - c.loop-judged.judged) subject less (ap (λ n. length subjects - 1 - n) (sym counted)) c.index-subjects-subjects.is,
       c.in-Some.definition.now,
       sym found ∙ ap option_copied c.in-Some.is,
-      sym (ap (λ readings. proposed readings c.in-Some.definition.now) whole) ∙ c.in_ok-rule.ensures ∙ ap Some c.in-Change.is,
+      sym (ap (λ readings. proposed readings c.in-Some.definition.now) whole) ∙ c.in_ok-rule.ensures.proposed ∙ ap Some c.in-Change.is,
     )
 
 pub loop-judged-preserved : goal.loop-judged-preserved
@@ -38,13 +38,13 @@ loop-judged-preserved c =
     let counted = c.loop-judged.invariant.counted in
     let inside = c.loop-judged-test.true in
     let less : length entries < length subjects = omega (arith, counted, inside) in
-    let project = c.in_ok-project.project in
+    let project = c.loop-judged.project in
     let kept = indexes.readings_of c.args.by_unit.now in
     let found : option_copied c.definition_by-found.result ≡ definition_at c.args.loader.now kept subject.key =
     c.definition_by-found.ensures ∙ ap (λ loaded. definition_at loaded kept subject.key) (c.in_ok-here.ensures.loader ∙ c.loop-judged.invariant.loader) in
-    let whole : readings_of project ≡ kept = ap indexes.readings_of c.in_ok-project.ensures.indexes in
+    let whole : readings_of project ≡ kept = ap indexes.readings_of c.loop-judged.invariant.indexes in
     let definition = c.in-Some.definition.now in
-    let is = sym (ap (λ readings. proposed readings definition) whole) ∙ c.in_ok-rule.ensures ∙ ap Some c.in-Broken.is in
+    let is = sym (ap (λ readings. proposed readings definition) whole) ∙ c.in_ok-rule.ensures.proposed ∙ ap Some c.in-Broken.is in
     let rule = c.in-Broken.rule in
     let place = c.in-Broken.place in
     let entry = c.in_ok-kept_entry-in-Broken.field-0 in
@@ -54,6 +54,8 @@ loop-judged-preserved c =
     let more = c.loop-judged.invariant.more in
     record {
       counted = omega (arith, count, counted);
+      whole = c.in_ok-rule.ensures.whole;
+      indexes = c.in_ok-rule.ensures.indexes ∙ c.loop-judged.invariant.indexes;
       loader = c.in_ok-here.ensures.loader ∙ c.loop-judged.invariant.loader;
       more = omega (arith, count, more);
       judged = λ told units first readings before.
@@ -81,6 +83,8 @@ loop-judged-preserved-in_default c =
     let more = c.loop-judged.invariant.more in
     record {
       counted = omega (arith, count, counted);
+      whole = c.loop-judged.invariant.whole;
+      indexes = c.loop-judged.invariant.indexes;
       loader = c.in_ok-here.ensures.loader ∙ c.loop-judged.invariant.loader;
       more = omega (arith, count, more);
       judged = λ told units first readings before.

@@ -1,8 +1,7 @@
 -- From the last index on.
-use Rattle.std.proofs.Common.{◌≡◌, ◌≤◌, ◌+◌, List, [], ◌∷◌, ◌++◌, length, map, reverse, take, drop, get_or, sym, ap, ◌∙◌, subst, arith, length-append}
+use Rattle.std.proofs.Common.{◌≡◌, ◌≤◌, ◌+◌, List, [], ◌∷◌, ◌++◌, length, reverse, take, drop, get_or, sym, ap, ◌∙◌, subst, arith, length-append}
 use Rattle.std.proofs.lemmas.List.{take_more}
 use Rattle.dm_meaning.specs.Replaced.{Zipped}
-use Rattle.dm_reading.specs.declared.reading.Reading.{Reading}
 use Rattle.dm_rules.specs.declared.index.Index.{Index}
 use Rattle.dm_rules.specs.declared.tables.Tables.{Tables}
 use Rattle.dm_rules.specs.Indexes.{readings_of}

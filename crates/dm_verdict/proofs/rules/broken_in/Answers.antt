@@ -27,4 +27,4 @@ returns c =
     later-broken definition c.args.index.now.reading.now
     (sym c.in_default.is ∙ c.broken_directive.ensures ∙ ap (λ (units : List Index). broken_directive definition (readings_of units)) c.from_ref.ensures.value)
     (sym c.reads.ensures ∙ c.if-not-reads.false) c.in_ok-broken.broken
-    (c.in_ok-broken.ensures ∙ ap (λ (readings : List Reading). broken_first (rules_from_5 definition readings)) c.requires.alone)
+    (c.in_ok-broken.ensures.broken ∙ ap (λ (readings : List Reading). broken_first (rules_from_5 definition readings)) c.requires.alone)
