@@ -24,9 +24,6 @@ pub record LinksSoFar (one : CoreUnit) (parents : List (Option ℕ)) (links : Li
       → FitsLink (all_of types one) site (link_at links n)
   pub before : (n : ℕ) (link : Link) → link_at links n ≡ Some link → link.above < n
 
-pub no-links : (one : CoreUnit) (parents : List (Option ℕ)) → LinksSoFar one parents []
-no-links one parents = record { same = λ types plain known n site less. absurd (omega (arith, less)); before = λ n link is. absurd (cc) }
-
 -- ---- lists
 
 link-front : (links : List (Option Link)) (last : Option Link) (n : ℕ) → n < length links → link_at (links ++ last ∷ []) n ≡ link_at links n

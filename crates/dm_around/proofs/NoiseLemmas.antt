@@ -1,19 +1,23 @@
 -- What isn't quiet round places.
 use Rattle.std.proofs.Common.{◌≡◌, ℕ, zero, suc, ◌+◌, ◌<◌, ◌≤◌, ◌⊎◌, inl, inr, Bool, true, false, cond, ◌&&◌, ◌||◌, not, nat_lt, List, [], ◌∷◌, ◌++◌, length, Option, Some, None, slice_get, length-append, refl, sym, ap, ap₂, ◌∙◌, arith}
 use Rattle.std.specs.List.{list_any, filter_map}
+use Rattle.std.proofs.lemmas.List.Folds.{list_any-append}
 use Rattle.std.proofs.lemmas.Bool.{ltb-true, ltb-false, lt-ltb, le-ltb, eq-eqb, ne_eqb}
+use Rattle.dm_type.specs.CTypes.{CType}
 use Rattle.dm_type.specs.Tables.{Table}
 use Rattle.dm_tree.specs.declared.unit.CoreUnit.{CoreUnit}
-use Rattle.dm_tree.specs.Paths.{Path, tree_at}
-use Rattle.dm_tree.specs.Trees.{Label, binary, store, update, call, Tree, label_of, parts_of, is_statement}
+use Rattle.dm_tree.specs.Paths.{Path, tree_at, all_in, all_in_trees}
+use Rattle.dm_tree.specs.Trees.{Label, Spans, binary, store, update, count as counting, call, Tree, Trees, node, no_trees, more_trees, label_of, listed, parts_of, is_statement}
 use Rattle.dm_tree.specs.Units.{TypedUnit}
 use Rattle.dm_tree.specs.Views.{view_of_unit}
+use Rattle.dm_effect.specs.Quiet.{before, disturbs, is_one_of, is_quiet, quiet_functions}
 use Rattle.dm_effect.specs.Sequencing.{is_unsequenced, beside}
+use Rattle.dm_effect.specs.Stable.{acts, is_pure}
 use Rattle.dm_sites.specs.Links.{linked}
 use Rattle.dm_sites.specs.Sites.{Site, sites_of_unit}
 use Rattle.dm_sites.proofs.LeadLemmas.{fit-at, unit-fits}
 use Rattle.dm_around.specs.declared.noise.Noise.{Noise}
-use Rattle.dm_around.specs.Noises.{is_noisy, noisy_among, noisy_operands, counted, noise_at, outnumbers, is_beside}
+use Rattle.dm_around.specs.Noises.{is_noisy, noisy_among, noisy_operands, counted, noise_at, outnumbers, is_beside, IsPureBelow}
 use Rattle.dm_around.specs.Places.{ArePlain, AreParents, HasAbove}
 use Rattle.dm_around.specs.Surroundings.{any_beside, any_other}
 use Rattle.dm_around.proofs.ParentLemmas.{all_of}
@@ -96,18 +100,75 @@ one-operand quiet beside count none is = by quiet ∙ sym (ap₂ (λ (b : Bool) 
     by true = refl
     by false = refl
 
+-- ---- expressions that neither call nor store
+
+quiet-node : (quiet : ℕ → Bool) (label : Label) (kind : CType) (spans : Spans) (parts : Trees) → acts (node label kind spans parts) ≡ false → disturbs quiet (node label kind spans parts) ≡ false
+quiet-node quiet call kind spans parts h = absurd (cc)
+quiet-node quiet store kind spans parts h = absurd (cc)
+quiet-node quiet (update op works) kind spans parts h = absurd (cc)
+quiet-node quiet (counting plus before) kind spans parts h = absurd (cc)
+quiet-node quiet label kind spans parts h = refl
+
+neither : (p q : Bool) → (p || q) ≡ false → (p ≡ false) × (q ≡ false)
+neither false q h = (refl, h)
+neither true q h = absurd (cc)
+
+none-disturbs : (quiet : ℕ → Bool) (nodes : List Tree) → list_any acts nodes ≡ false → list_any (disturbs quiet) nodes ≡ false
+none-disturbs quiet [] h = refl
+none-disturbs quiet (node label kind spans parts ∷ nodes) h =
+    let both = neither (acts (node label kind spans parts)) (list_any acts nodes) h in
+    ap₂ (λ (a b : Bool). a || b) (quiet-node quiet label kind spans parts both.0) (none-disturbs quiet nodes both.1)
+
+not-true : (b : Bool) → not b ≡ true → b ≡ false
+not-true false h = refl
+not-true true h = absurd (cc)
+
+pub pure-quiet : (one : TypedUnit) (tree : Tree) → is_pure tree ≡ true → is_quiet one tree ≡ true
+pure-quiet one tree h =
+    ap not (none-disturbs (is_one_of (quiet_functions (before tree one.externals))) (all_in tree) (not-true (list_any acts (all_in tree)) h))
+
+pure-in : (parts : Trees) (k : ℕ) (part : Tree) → list_any acts (all_in_trees parts) ≡ false → slice_get (listed parts) k ≡ Some part → is_pure part ≡ true
+pure-in no_trees k part h there = absurd (cc)
+pure-in (more_trees first rest) zero part h there =
+    let same : first ≡ part = cc in
+    let both = neither (list_any acts (all_in first)) (list_any acts (all_in_trees rest)) (sym (list_any-append acts (all_in first) (all_in_trees rest)) ∙ h) in
+    ap is_pure (sym same) ∙ ap not both.0
+pure-in (more_trees first rest) (suc k) part h there =
+    let both = neither (list_any acts (all_in first)) (list_any acts (all_in_trees rest)) (sym (list_any-append acts (all_in first) (all_in_trees rest)) ∙ h) in
+    pure-in rest k part both.1 there
+
+-- so it is of each part
+pub pure-part : (tree : Tree) (k : ℕ) (part : Tree) → is_pure tree ≡ true → slice_get (parts_of tree) k ≡ Some part → is_pure part ≡ true
+pure-part (node label kind spans parts) k part h there =
+    pure-in parts k part (neither (acts (node label kind spans parts)) (list_any acts (all_in_trees parts)) (not-true (list_any acts (all_in (node label kind spans parts))) h)).1 there
+
+none-among : (one : TypedUnit) (parts : List Tree) → ((k : ℕ) (part : Tree) → slice_get parts k ≡ Some part → is_pure part ≡ true) → noisy_among one parts ≡ 0
+none-among one [] pure = refl
+none-among one (part ∷ parts) pure =
+    ap₂ (λ (quiet : Bool) (n : ℕ). counted (not quiet) + n) (pure-quiet one part (pure 0 part refl)) (none-among one parts (λ k other there. pure (suc k) other there))
+
+pub pure-operands : (one : TypedUnit) (tree : Tree) → is_pure tree ≡ true → noisy_operands one tree ≡ 0
+pure-operands one tree h = by (is_unsequenced (label_of tree))
+  where
+    by : (b : Bool) → cond b (noisy_among one (parts_of tree)) 0 ≡ 0
+    by true = none-among one (parts_of tree) (λ k part there. pure-part tree k part h there)
+    by false = refl
+
 -- ---- places
 
 pub record NoisesSoFar (one : CoreUnit) (parents : List (Option ℕ)) (noises : List Noise) : Type 0 where
   pub beside : (types : Table) → ArePlain (all_of types one) → AreParents (all_of types one) parents → (n : ℕ) (site : Site) → n < length noises → slice_get (all_of types one) n ≡ Some site
       → (noise_at noises n).beside ≡ any_beside (is_noisy (view_of_unit types one)) site
-  pub operands : (types : Table) (n : ℕ) (site : Site) → n < length noises → slice_get (all_of types one) n ≡ Some site
+  pub operands : (types : Table) → ArePlain (all_of types one) → AreParents (all_of types one) parents → (n : ℕ) (site : Site) → n < length noises → slice_get (all_of types one) n ≡ Some site
       → (noise_at noises n).operands ≡ noisy_operands (view_of_unit types one) site.tree
+  pub pure : (types : Table) → ArePlain (all_of types one) → AreParents (all_of types one) parents → (n : ℕ) (site : Site) → n < length noises → slice_get (all_of types one) n ≡ Some site
+      → (noise_at noises n).pure ≡ true → is_pure site.tree ≡ true
 
 pub no-noises : (one : CoreUnit) (parents : List (Option ℕ)) → NoisesSoFar one parents []
 no-noises one parents = record {
   beside = λ types plain known n site less. absurd (omega (arith, less));
-  operands = λ types n site less. absurd (omega (arith, less));
+  operands = λ types plain known n site less. absurd (omega (arith, less));
+  pure = λ types plain known n site less. absurd (omega (arith, less));
 }
 
 noise-front : (noises : List Noise) (last : Noise) (n : ℕ) → n < length noises → noise_at (noises ++ last ∷ []) n ≡ noise_at noises n
@@ -145,7 +206,8 @@ module _ (one : TypedUnit) (noises : List Noise) (site : Site) (n : ℕ) where
 module _ (one : CoreUnit) (parents : List (Option ℕ)) (noises : List Noise) (last : Noise) (tree : Table → Tree) (h : NoisesSoFar one parents noises)
     (there : (types : Table) (site : Site) → slice_get (all_of types one) (length noises) ≡ Some site → site.tree ≡ tree types)
     (beside-is : (types : Table) → last.beside ≡ is_beside noises (is_noisy (view_of_unit types one) (tree types)) (linked parents (length noises)))
-    (operands-is : (types : Table) → last.operands ≡ noisy_operands (view_of_unit types one) (tree types)) where
+    (operands-is : (types : Table) → IsPureBelow noises (linked parents (length noises)) (tree types) → last.operands ≡ noisy_operands (view_of_unit types one) (tree types))
+    (pure-is : (types : Table) → IsPureBelow noises (linked parents (length noises)) (tree types) → last.pure ≡ true → is_pure (tree types) ≡ true) where
   longer : length (noises ++ last ∷ []) ≡ length noises + 1
   longer = length-append noises (last ∷ [])
 
@@ -159,14 +221,36 @@ module _ (one : CoreUnit) (parents : List (Option ℕ)) (noises : List Noise) (l
       ∙ (beside-is types
       ∙ (ap (λ (one : Tree). is_beside noises (is_noisy unit one) (linked parents (length noises))) (sym (there types site here))
       ∙ beside-next unit noises site (length noises) (linked parents (length noises)) (known (length noises) site here)
-      (λ above upper less found. (h.beside types plain known above upper less found, h.operands types above upper less found))))
+      (λ above upper less found. (h.beside types plain known above upper less found, h.operands types plain known above upper less found))))
 
-  next-operands : (types : Table) (n : ℕ) (site : Site) → (n < length noises) ⊎ (n ≡ length noises) → slice_get (all_of types one) n ≡ Some site
-      → (noise_at (noises ++ last ∷ []) n).operands ≡ noisy_operands (view_of_unit types one) site.tree
-  next-operands types n site (inl less) got = ap (λ (noise : Noise). noise.operands) (noise-front noises last n less) ∙ h.operands types n site less got
-  next-operands types n site (inr at) got =
+  -- what is known of the expression above is known of the next place
+  pure-below : (types : Table) → ArePlain (all_of types one) → AreParents (all_of types one) parents → (site : Site) → slice_get (all_of types one) (length noises) ≡ Some site
+      → IsPureBelow noises (linked parents (length noises)) (tree types)
+  pure-below types plain known site got = by (linked parents (length noises)) (known (length noises) site got)
+    where
+      by : (parent : Option ℕ) → HasAbove (all_of types one) parent (length noises) site → IsPureBelow noises parent (tree types)
+      by None above = tt
+      by (Some above) part = λ is.
+          let behind = part.behind in
+          ap is_pure (sym (there types site got))
+          ∙ pure-part part.upper.tree part.part site.tree (h.pure types plain known above part.upper (omega (arith, behind)) part.there is) part.below
+
+  next-operands : (types : Table) → ArePlain (all_of types one) → AreParents (all_of types one) parents → (n : ℕ) (site : Site) → (n < length noises) ⊎ (n ≡ length noises)
+      → slice_get (all_of types one) n ≡ Some site → (noise_at (noises ++ last ∷ []) n).operands ≡ noisy_operands (view_of_unit types one) site.tree
+  next-operands types plain known n site (inl less) got = ap (λ (noise : Noise). noise.operands) (noise-front noises last n less) ∙ h.operands types plain known n site less got
+  next-operands types plain known n site (inr at) got =
+      let here = ap (slice_get (all_of types one)) (sym at) ∙ got in
       ap (λ (noise : Noise). noise.operands) (ap (noise_at (noises ++ last ∷ [])) at ∙ noise-last noises last)
-      ∙ (operands-is types ∙ ap (noisy_operands (view_of_unit types one)) (sym (there types site (ap (slice_get (all_of types one)) (sym at) ∙ got))))
+      ∙ (operands-is types (pure-below types plain known site here) ∙ ap (noisy_operands (view_of_unit types one)) (sym (there types site here)))
+
+  next-pure : (types : Table) → ArePlain (all_of types one) → AreParents (all_of types one) parents → (n : ℕ) (site : Site) → (n < length noises) ⊎ (n ≡ length noises)
+      → slice_get (all_of types one) n ≡ Some site → (noise_at (noises ++ last ∷ []) n).pure ≡ true → is_pure site.tree ≡ true
+  next-pure types plain known n site (inl less) got is =
+      h.pure types plain known n site less got (sym (ap (λ (noise : Noise). noise.pure) (noise-front noises last n less)) ∙ is)
+  next-pure types plain known n site (inr at) got is =
+      let here = ap (slice_get (all_of types one)) (sym at) ∙ got in
+      ap is_pure (there types site here)
+      ∙ pure-is types (pure-below types plain known site here) (sym (ap (λ (noise : Noise). noise.pure) (ap (noise_at (noises ++ last ∷ [])) at ∙ noise-last noises last)) ∙ is)
 
   step : (n : ℕ) → n < length (noises ++ last ∷ []) → (n < length noises) ⊎ (n ≡ length noises)
   step n less = let more = longer in less-or-last n (length noises) (omega (arith, less, more))
@@ -174,5 +258,6 @@ module _ (one : CoreUnit) (parents : List (Option ℕ)) (noises : List Noise) (l
   pub noises-next : NoisesSoFar one parents (noises ++ last ∷ [])
   noises-next = record {
     beside = λ types plain known n site less got. next-beside types plain known n site (step n less) got;
-    operands = λ types n site less got. next-operands types n site (step n less) got;
+    operands = λ types plain known n site less got. next-operands types plain known n site (step n less) got;
+    pure = λ types plain known n site less got. next-pure types plain known n site (step n less) got;
   }

@@ -83,9 +83,6 @@ module _ {A : Type 0} where
 
 -- ---- one part more at the end of a way
 
-no-trees : (n : ℕ) → tree_in no_trees n ≡ None
-no-trees n = refl
-
 further-by : (n : ℕ) (way : Path) (last : ℕ) (tree upper part : Tree) (below : Option Tree) → tree_in (trees_of tree) n ≡ below
     → ((inner : Tree) → tree_at way inner ≡ Some upper → is_first (way ++ last ∷ []) inner ≡ (is_first way inner && comes_first (label_of upper) last))
     → option_and_then (tree_at way) below ≡ Some upper
@@ -145,12 +142,6 @@ module _ (upper site : Site) (way : Way) (k : ℕ) (leads : tree_at upper.path u
       let long = fits.long in
       let le = leb-true way.gate (length upper.path) (sym here) in omega (arith, le, long)
 
-  gate : ℕ
-  gate = (further way (comes_first (label_of upper.tree) k)).gate
-
-  gate-by : (b : Bool) → comes_first (label_of upper.tree) k ≡ b → (further way (comes_first (label_of upper.tree) k)).gate ≡ cond b way.gate (way.depth + 1)
-  gate-by b is = ap (λ (b : Bool). cond b way.gate (way.depth + 1)) is
-
   deep : length site.path ≡ way.depth + 1
   deep =
       let long = fits.long in
@@ -208,9 +199,6 @@ pub record WaysSoFar (one : CoreUnit) (parents : List (Option ℕ)) (ways : List
   pub fit : (types : Table) → ArePlain (all_of types one) → AreParents (all_of types one) parents → (n : ℕ) (site : Site) → n < length ways → slice_get (all_of types one) n ≡ Some site
       → FitsWay site (way_at ways n)
   pub low : (n : ℕ) → (way_at ways n).depth ≤ n
-
-pub no-ways : (one : CoreUnit) (parents : List (Option ℕ)) → WaysSoFar one parents []
-no-ways one parents = record { fit = λ types plain known n site less. absurd (omega (arith, less)); low = λ n. omega arith }
 
 way-front : (ways : List Way) (last : Way) (n : ℕ) → n < length ways → way_at (ways ++ last ∷ []) n ≡ way_at ways n
 way-front [] last n less = absurd (omega (arith, less))

@@ -2,12 +2,14 @@
 --     is_noisy unit tree      a tree isn't quiet
 --     noisy_among unit trees      how many of some trees aren't
 --     noisy_operands unit tree      how many operands aren't of an expression that leaves them unsequenced (6.5p3)
+--     IsPureBelow noises parent tree      a tree is as pure as the expression of which it is a part is known to be
 --     is_beside noises noisy parent      something isn't that is beside a part of an expression, of which it is known what isn't round it
-use Rattle.std.specs.Prelude.{ℕ, ◌+◌, Bool, true, false, ◌||◌, not, nat_lt, List, [], ◌∷◌, Option, Some, None, slice_get, if◌then◌else◌}
+use Rattle.std.specs.Prelude.{◌≡◌, ℕ, ◌+◌, Bool, true, false, ◌||◌, not, nat_lt, List, [], ◌∷◌, Option, Some, None, slice_get, if◌then◌else◌}
 use Rattle.dm_tree.specs.Trees.{Tree, label_of, parts_of}
 use Rattle.dm_tree.specs.Units.{TypedUnit}
 use Rattle.dm_effect.specs.Quiet.{is_quiet}
 use Rattle.dm_effect.specs.Sequencing.{is_unsequenced}
+use Rattle.dm_effect.specs.Stable.{is_pure}
 use Rattle.dm_around.specs.declared.noise.Noise.{Noise}
 
 abbrev pub is_noisy : TypedUnit → Tree → Bool
@@ -26,7 +28,7 @@ abbrev pub noisy_operands : TypedUnit → Tree → ℕ
 noisy_operands one tree = if is_unsequenced (label_of tree) then noisy_among one (parts_of tree) else 0
 
 abbrev pub silence : Noise
-silence = record { beside = false; operands = 0 }
+silence = record { beside = false; operands = 0; pure = false }
 
 abbrev pub noise_by : Option Noise → Noise
 noise_by (Some noise) = noise
@@ -45,3 +47,8 @@ is_beside_operand above noisy = above.beside || outnumbers noisy above.operands
 abbrev pub is_beside : List Noise → Bool → Option ℕ → Bool
 is_beside noises noisy None = false
 is_beside noises noisy (Some above) = is_beside_operand (noise_at noises above) noisy
+
+-- where the expression above neither calls nor stores, this part of it doesn't
+abbrev pub IsPureBelow : List Noise → Option ℕ → Tree → Type 0
+IsPureBelow noises None tree = Unit {0}
+IsPureBelow noises (Some above) tree = (noise_at noises above).pure ≡ true → is_pure tree ≡ true

@@ -1,18 +1,19 @@
 //! Places beside which something isn't quiet.
 
-ghost use Rattle.std.specs.Prelude.{◌≡◌, ◌≤◌, ℕ, Some, length, map, option_map, slice_get, IfOk};
+ghost use Rattle.std.specs.Prelude.{◌≡◌, ◌≤◌, ℕ, true, Some, length, map, option_map, slice_get, IfOk};
 ghost use Rattle.std.specs.Option.{option_copied};
 ghost use Rattle.dm_type.specs.Tables.{Table};
 ghost use Rattle.dm_tree.specs.Views.{if_there, view, view_of_unit};
+ghost use Rattle.dm_effect.specs.Stable as stable;
 ghost use Rattle.dm_sites.specs.Sites.{sites_of_unit, Site as SeenSite};
 ghost use Rattle.dm_around.specs.Noises as noises;
-ghost use Rattle.dm_around.specs.Noises.{is_noisy, noisy_among as noisy_in};
+ghost use Rattle.dm_around.specs.Noises.{is_noisy, noisy_among as noisy_in, IsPureBelow};
 ghost use Rattle.dm_around.specs.Places.{ArePlain, AreParents};
 ghost use Rattle.dm_around.specs.Surroundings.{any_beside};
 
 use crate::parents::parent_at;
 use crate::parts::is_unsequenced;
-use dm_effect::{QuietFunctions, parts_of};
+use dm_effect::{QuietFunctions, is_pure, parts_of};
 use dm_sites::Sites;
 use dm_token::Memory;
 use dm_tree::Core;
@@ -25,6 +26,8 @@ pub(crate) struct Noise {
     pub beside: bool,
     /// How many of the expression's operands are, if it leaves them unsequenced.
     pub operands: usize,
+    /// Whether it is known that the expression neither calls nor stores. Then neither does a part of it, so no part is gone through.
+    pub pure: bool,
 }
 
 /// By the number of each place what isn't quiet round it.
@@ -50,14 +53,36 @@ pub(crate) fn noises_of(
 /// What isn't quiet round an expression, by what isn't round the one above it.
 fn noise_below(quiet: &QuietFunctions, known: &[Noise], parent: Option<usize>, tree: &Core) -> Noise
     ensures beside { (types : Table) → result.beside ≡ noises.is_beside known.now (is_noisy (view_of_unit types quiet.now) (view types tree.now)) parent }
-    ensures operands { (types : Table) → result.operands ≡ noises.noisy_operands (view_of_unit types quiet.now) (view types tree.now) }
+    ensures operands { (types : Table) → IsPureBelow known.now parent (view types tree.now) → result.operands ≡ noises.noisy_operands (view_of_unit types quiet.now) (view types tree.now) }
+    ensures pure { (types : Table) → IsPureBelow known.now parent (view types tree.now) → result.pure ≡ true → stable.is_pure (view types tree.now) ≡ true }
 {
-    let operands = noisy_operands(quiet, tree);
+    let pure = is_pure_below(known, parent, tree);
+    let operands = if pure { 0 } else { noisy_operands(quiet, tree) };
     let beside = match parent {
         Some(above) => is_beside(quiet, noise_at(known, above), tree),
         None => false,
     };
-    Noise { beside, operands }
+    Noise {
+        beside,
+        operands,
+        pure,
+    }
+}
+
+/// Whether it is known that an expression neither calls nor stores, by what is known of the one above it. An expression that leaves its
+/// operands unsequenced is gone through for it, as its operands are to be.
+fn is_pure_below(known: &[Noise], parent: Option<usize>, tree: &Core) -> bool
+    ensures { (types : Table) → IsPureBelow known.now parent (view types tree.now) → result ≡ true → stable.is_pure (view types tree.now) ≡ true }
+{
+    if let Some(above) = parent {
+        if noise_at(known, above).pure {
+            return true;
+        }
+    }
+    if !is_unsequenced(&tree.form) {
+        return false;
+    }
+    is_pure(tree)
 }
 
 /// What isn't quiet round the place with this number.
@@ -69,6 +94,7 @@ pub(crate) fn noise_at(known: &[Noise], number: usize) -> Noise
         None => Noise {
             beside: false,
             operands: 0,
+            pure: false,
         },
     }
 }

@@ -60,7 +60,10 @@ impl<'a> Model for Surroundings<'a> {
 
 impl<'a> Surroundings<'a> {
     /// Those of a unit, of which it is known which functions are quiet. Goes through the places a few times; the operands of an
-    /// expression that leaves them unsequenced are gone through again, so this is linear for each level of such expressions.
+    /// expression that leaves them unsequenced are gone through again where one of them calls or stores, so this is linear for each
+    /// level of such expressions.
+    // A function of its own in each program, so that profiles tell what it costs.
+    #[inline(never)]
     pub fn of(
         alloc: Global,
         sites: &Sites<'a>,

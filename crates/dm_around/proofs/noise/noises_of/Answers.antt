@@ -7,7 +7,7 @@ use Rattle.dm_sites.specs.Links.{linked}
 use Rattle.dm_sites.specs.Seen.{seen}
 use Rattle.dm_sites.specs.Sites.{Site}
 use Rattle.dm_around.specs.declared.noise.Noise.{Noise}
-use Rattle.dm_around.specs.Noises.{is_noisy, is_beside, noisy_operands}
+use Rattle.dm_around.specs.Noises.{is_noisy, is_beside, noisy_operands, IsPureBelow}
 use Rattle.dm_around.proofs.ParentLemmas.{all_of, none-past, get-less}
 use Rattle.dm_around.proofs.NoiseLemmas.{NoisesSoFar, no-noises, noises-next}
 use Rattle.dm_around.proofs.noise.noises_of.Goals as goal
@@ -38,8 +38,16 @@ loop-site-preserved c =
     c.noise_below-noise.ensures.beside types
     ∙ (ap (λ (unit : CoreUnit). is_beside c.as_slice.result.now (is_noisy (view_of_unit types unit) (tree types)) c.parent_at-parent.result) c.requires.quiet
     ∙ ap₂ (λ (them : List Noise) (parent : Option ℕ). is_beside them (is_noisy (view_of_unit types one) (tree types)) parent) c.as_slice.ensures.value (c.parent_at-parent.ensures ∙ ap (linked parents) again)))
-    (λ types. c.noise_below-noise.ensures.operands types ∙ ap (λ (unit : CoreUnit). noisy_operands (view_of_unit types unit) (tree types)) c.requires.quiet))
+    (λ types is. c.noise_below-noise.ensures.operands types (below types is) ∙ ap (λ (unit : CoreUnit). noisy_operands (view_of_unit types unit) (tree types)) c.requires.quiet)
+    (λ types is pure. c.noise_below-noise.ensures.pure types (below types is) pure))
   where
+    below : (types : Table) → IsPureBelow c.loop-site.noises.items (linked c.args.parents.now (length c.loop-site.noises.items)) (view types c.in-Some.site.now.tree.now)
+        → IsPureBelow c.as_slice.result.now c.parent_at-parent.result (view types c.in-Some.site.now.tree.now)
+    below types is =
+        let again : c.len-in-Some.result ≡ length c.loop-site.noises.items = search rules in
+        subst (λ (them : List Noise). IsPureBelow them c.parent_at-parent.result (view types c.in-Some.site.now.tree.now)) (sym c.as_slice.ensures.value)
+        (subst (λ (parent : Option ℕ). IsPureBelow c.loop-site.noises.items parent (view types c.in-Some.site.now.tree.now)) (sym (c.parent_at-parent.ensures ∙ ap (linked c.args.parents.now) again)) is)
+
     by : (types : Table) (site : Site) → slice_get (all_of types c.args.sites.now) (length c.loop-site.noises.items) ≡ Some site
         → Some (seen types (all_of types c.args.sites.now) c.in-Some.site.now) ≡ slice_get (all_of types c.args.sites.now) (length c.loop-site.noises.items)
         → site.tree ≡ view types c.in-Some.site.now.tree.now
