@@ -16,8 +16,7 @@ use Rattle.dm_tree.specs.Views.{opened_form, view}
 use Rattle.dm_effect.proofs.WalkLemmas.{comma-asked, node-asked}
 use Rattle.dm_stable.specs.declared.marks.Mark.{Mark}
 use Rattle.dm_stable.specs.declared.marks.Mark.TheVariants.{No, Outside, Yes, Open}
-use Rattle.dm_stable.specs.declared.marks.Deed.{Deed}
-use Rattle.dm_stable.specs.Marks.{Adds, Tells, joined, mark_at, does, Follows, Notes}
+use Rattle.dm_stable.specs.Marks.{Adds, Deed, Tells, joined, mark_at, does, Follows, Notes}
 
 pub or-none : (b : Bool) → (b || false) ≡ b
 or-none true = refl

@@ -5,7 +5,6 @@ use Rattle.std.specs.Prelude.{flat_map}
 use Rattle.std.proofs.lemmas.List.Folds.{list_any-append}
 use mathlib.Core.Path.{fun_ext}
 use Rattle.dm_type.specs.Tables.{Table}
-use Rattle.dm_tree.specs.declared.tree.Core.{Core}
 use Rattle.dm_tree.specs.declared.tree.Local.{Local as CoreLocal}
 use Rattle.dm_tree.specs.declared.unit.CoreExternalForm.TheVariants as code
 use Rattle.dm_tree.specs.Trees.{Tree, spans_of}
@@ -16,9 +15,7 @@ use Rattle.dm_effect.specs.Entities.{addresses_here, is_addressed, locals_here, 
 use Rattle.dm_effect.specs.Questions.{as_local}
 use Rattle.dm_effect.specs.Safe.{defines_here, has_parameter, initialises_apart, is_defined, is_initialised, is_parameter}
 use Rattle.dm_effect.proofs.ExternalLemmas.{any-flat, declared-found}
-use Rattle.dm_stable.specs.declared.marks.Deed.{Deed}
-use Rattle.dm_stable.specs.declared.marks.Deed.TheVariants.{Addresses, Defines, Initialises, Receives}
-use Rattle.dm_stable.specs.Marks.{does, does_local, found, own, receives}
+use Rattle.dm_stable.specs.Marks.{Deed, Addresses, Defines, Initialises, Receives, does, does_local, found, own}
 
 none-any : {X : Type 0} (all : List X) → list_any (λ x. false) all ≡ false
 none-any [] = refl
@@ -53,12 +50,6 @@ module _ (types : Table) (d token : ℕ) where
   own-declares Defines locals = sym (declared-found types (does_local Defines d token) locals)
   own-declares Initialises locals = sym (declared-found types (does_local Initialises d token) locals)
   own-declares Receives locals = none-any (map as_local (map (view_of_local types) locals))
-
-  pub own-defines : (deed : Deed) (f : ℕ) (parameters : List ℕ) (body : Core) → receives deed d parameters ≡ own deed d token (view_of_form types (code.Function f parameters body))
-  own-defines Addresses f parameters body = refl
-  own-defines Defines f parameters body = refl
-  own-defines Initialises f parameters body = refl
-  own-defines Receives f parameters body = refl
 
 -- ---- a unit
 

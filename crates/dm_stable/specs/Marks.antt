@@ -1,9 +1,10 @@
 -- What is noted of the answers to questions about objects, for each token at which an argument may begin.
 --     Tells mark token answer      a mark allows the answer at the token
 --     mark_at marks d      that of the object of a number
+--     marks_of deed marks      those that are kept of a deed
 --     Follows added old new      new marks take into account what is added
 --     found deed d token one      an external declaration does the deed, at its declarators or parameters or at a node in it
-use Rattle.std.specs.Prelude.{◌≡◌, ℕ, Bool, true, false, ◌&&◌, ◌||◌, ◌==◌, not, nat_le, nat_lt, List, Option, Some, None, unwrap_or, slice_get}
+use Rattle.std.specs.Prelude.{◌≡◌, ℕ, Bool, true, false, ◌&&◌, ◌||◌, not, nat_le, nat_lt, List, Option, Some, None, unwrap_or, slice_get}
 use Rattle.std.specs.List.{list_any}
 use Rattle.dm_token.specs.declared.place.Span.{Span}
 use Rattle.dm_tree.specs.Trees.{Tree}
@@ -13,8 +14,15 @@ use Rattle.dm_effect.specs.Entities.{addresses_here, locals_here, locals_of_form
 use Rattle.dm_effect.specs.Safe.{defines_here, has_parameter, initialises_apart}
 use Rattle.dm_stable.specs.declared.marks.Mark.{Mark}
 use Rattle.dm_stable.specs.declared.marks.Mark.TheVariants.{No, Outside, Yes, Open}
-use Rattle.dm_stable.specs.declared.marks.Deed.{Deed}
-use Rattle.dm_stable.specs.declared.marks.Deed.TheVariants.{Addresses, Defines, Initialises, Receives}
+use Rattle.dm_stable.specs.declared.marks.Marks.{Marks}
+
+-- what may be done to an object: its address is taken by its name, a declarator defines it, a declarator initialises it outside of
+-- whose initialiser an argument stands, or it is a parameter of a function definition
+pub data Deed : Type 0 where
+  Addresses : Deed
+  Defines : Deed
+  Initialises : Deed
+  Receives : Deed
 
 -- the token is one of the span
 abbrev pub is_within : Span → ℕ → Bool
@@ -44,6 +52,12 @@ joined Open b = Open
 abbrev pub mark_at : List Mark → ℕ → Mark
 mark_at marks d = unwrap_or (slice_get marks d) Open
 
+abbrev pub marks_of : Deed → Marks → List Mark
+marks_of Addresses marks = marks.addressed.items
+marks_of Defines marks = marks.defined.items
+marks_of Initialises marks = marks.initialised.items
+marks_of Receives marks = marks.received.items
+
 -- a mark for one object is added
 abbrev pub Adds : ℕ → Mark → ℕ → ℕ → Bool → Type 0
 Adds object mark d token answer = (object ≡ d → Tells mark token answer) × ((object ≡ d → ⊥) → answer ≡ false)
@@ -61,11 +75,6 @@ does_name deed d tree = false
 
 abbrev pub does : Deed → ℕ → ℕ → Tree → Bool
 does deed d token tree = does_name deed d tree || list_any (does_local deed d token) (locals_here tree)
-
--- what one does with parameters
-abbrev pub receives : Deed → ℕ → List ℕ → Bool
-receives Receives d parameters = list_any (λ number. number == d) parameters
-receives deed d parameters = false
 
 -- an external declaration itself, and with what is in it
 abbrev pub own : Deed → ℕ → ℕ → ExternalForm → Bool

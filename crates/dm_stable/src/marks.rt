@@ -7,28 +7,28 @@ ghost use Rattle.dm_tree.specs.Views.{view, view_of_local};
 ghost use Rattle.dm_meaning.specs.Wholes.{view_of_initial};
 ghost use Rattle.dm_effect.specs.Entities.{addresses_here, is_this, locals_here};
 ghost use Rattle.dm_effect.specs.Questions.{as_local};
-ghost use Rattle.dm_effect.specs.Safe.{holds};
-ghost use Rattle.dm_stable.specs.Marks as marks_of;
-ghost use Rattle.dm_stable.specs.Marks.{Adds, Follows, Tells, does, does_local, does_name, mark_at, receives};
+ghost use Rattle.dm_effect.specs.Safe.{defines_here, holds, initialises_apart};
+ghost use Rattle.dm_stable.specs.Marks as specs;
+ghost use Rattle.dm_stable.specs.Marks.{Adds, Deed, Follows, Tells, does, does_local, mark_at, marks_of};
 
 use crate::names::object_named;
 use dm_token::Span;
 use dm_tree::{Core, Form, Initial, Local};
 
-/// What a tree may do to an object.
-#[derive(Clone, Copy)]
-pub(crate) enum Deed {
-    /// It takes its address by its name.
-    Addresses,
-    /// It is a declaration that defines it.
-    Defines,
-    /// It is a declaration that initialises it, and an argument stands outside of the initialiser.
-    Initialises,
-    /// It is a function definition of which it is a parameter.
-    Receives,
+/// The marks of each object, by what is done to it.
+#[derive(Drop)]
+pub(crate) struct Marks {
+    /// Its address is taken by its name.
+    pub addressed: Vec<Mark>,
+    /// A declarator defines it.
+    pub defined: Vec<Mark>,
+    /// A declarator initialises it, and an argument stands outside of the initialiser.
+    pub initialised: Vec<Mark>,
+    /// It is a parameter of a function definition.
+    pub received: Vec<Mark>,
 }
 
-/// Whether something does that, where an argument begins at a token.
+/// Whether something is done, where an argument begins at a token.
 #[derive(Clone, Copy)]
 pub(crate) enum Mark {
     No,
@@ -41,7 +41,7 @@ pub(crate) enum Mark {
 
 /// What two marks of one object say together.
 fn joined(first: Mark, second: Mark) -> Mark
-    ensures { result ≡ marks_of.joined first second }
+    ensures { result ≡ specs.joined first second }
 {
     match first {
         Mark::No => second,
@@ -69,21 +69,19 @@ fn note(marks: &mut Vec<Mark>, object: u32, mark: Mark)
 }
 
 /// What a node does.
-pub(crate) fn note_node(node: &Core, deed: Deed, marks: &mut Vec<Mark>)
-    ensures { (types : Table) → Follows (λ d token. does deed d token (view types node.now)) marks.old.items marks.new.items }
+pub(crate) fn note_node(node: &Core, marks: &mut Marks)
+    ensures { (types : Table) (deed : Deed) → Follows (λ d token. does deed d token (view types node.now)) (marks_of deed marks.old) (marks_of deed marks.new) }
 {
-    note_address(node, deed, marks);
-    note_locals(locals_of(node), deed, marks);
+    note_address(node, &mut marks.addressed);
+    note_locals(locals_of(node), marks);
 }
 
 /// What a node does if it is `&` of an object's name.
-fn note_address(node: &Core, deed: Deed, marks: &mut Vec<Mark>)
-    ensures { (types : Table) → Follows (λ d token. does_name deed d (view types node.now)) marks.old.items marks.new.items }
+fn note_address(node: &Core, addressed: &mut Vec<Mark>)
+    ensures { (types : Table) → Follows (λ d token. addresses_here d (view types node.now)) addressed.old.items addressed.new.items }
 {
-    if let Deed::Addresses = deed {
-        if let Some(object) = object_addressed(node) {
-            note(marks, object, Mark::Yes);
-        }
+    if let Some(object) = object_addressed(node) {
+        note(addressed, object, Mark::Yes);
     }
 }
 
@@ -108,52 +106,50 @@ fn locals_of(node: &Core) -> &[Local]
 }
 
 /// What a function definition does with these parameters.
-pub(crate) fn note_parameters(parameters: &[u32], deed: Deed, marks: &mut Vec<Mark>)
-    ensures { Follows (λ d token. receives deed d parameters.now) marks.old.items marks.new.items }
+pub(crate) fn note_parameters(parameters: &[u32], received: &mut Vec<Mark>)
+    ensures { Follows (λ d token. list_any (λ number. number == d) parameters.now) received.old.items received.new.items }
 {
-    if let Deed::Receives = deed {
-        note_all(parameters, marks);
-    }
-}
-
-/// What is done to each of some objects.
-fn note_all(objects: &[u32], marks: &mut Vec<Mark>)
-    ensures { Follows (λ d token. list_any (λ number. number == d) objects.now) marks.old.items marks.new.items }
-{
-    let mut left = objects;
+    let mut left = parameters;
     while let Some((object, rest)) = left.split_first() {
-        note(marks, *object, Mark::Yes);
+        note(received, *object, Mark::Yes);
         left = rest;
     }
 }
 
 /// What some declarators do.
-pub(crate) fn note_locals(locals: &[Local], deed: Deed, marks: &mut Vec<Mark>)
-    ensures { (types : Table) → Follows (λ d token. list_any (does_local deed d token) (map as_local (map (view_of_local types) locals.now))) marks.old.items marks.new.items }
+pub(crate) fn note_locals(locals: &[Local], marks: &mut Marks)
+    ensures { (types : Table) (deed : Deed) → Follows (λ d token. list_any (does_local deed d token) (map as_local (map (view_of_local types) locals.now))) (marks_of deed marks.old) (marks_of deed marks.new) }
 {
     let mut left = locals;
     while let Some((local, rest)) = left.split_first() {
-        note_local(local, deed, marks);
+        note_local(local, marks);
         left = rest;
     }
 }
 
 /// What a declarator does.
-fn note_local(local: &Local, deed: Deed, marks: &mut Vec<Mark>)
-    ensures { (types : Table) → Follows (λ d token. does_local deed d token (as_local (view_of_local types local.now))) marks.old.items marks.new.items }
+fn note_local(local: &Local, marks: &mut Marks)
+    ensures { (types : Table) (deed : Deed) → Follows (λ d token. does_local deed d token (as_local (view_of_local types local.now))) (marks_of deed marks.old) (marks_of deed marks.new) }
 {
-    match deed {
-        Deed::Addresses | Deed::Receives => {}
-        Deed::Defines => {
-            if local.defines {
-                note(marks, local.declared, Mark::Yes);
-            }
-        }
-        Deed::Initialises => {
-            if let Some(initial) = &local.initial {
-                note(marks, local.declared, outside(initial));
-            }
-        }
+    note_definition(local, &mut marks.defined);
+    note_initialiser(local, &mut marks.initialised);
+}
+
+/// What a declarator does if it defines its object.
+fn note_definition(local: &Local, defined: &mut Vec<Mark>)
+    ensures { (types : Table) → Follows (λ d token. defines_here d (as_local (view_of_local types local.now))) defined.old.items defined.new.items }
+{
+    if local.defines {
+        note(defined, local.declared, Mark::Yes);
+    }
+}
+
+/// What a declarator does if it has an initialiser.
+fn note_initialiser(local: &Local, initialised: &mut Vec<Mark>)
+    ensures { (types : Table) → Follows (λ d token. initialises_apart token d (as_local (view_of_local types local.now))) initialised.old.items initialised.new.items }
+{
+    if let Some(initial) = &local.initial {
+        note(initialised, local.declared, outside(initial));
     }
 }
 

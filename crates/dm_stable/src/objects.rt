@@ -6,10 +6,11 @@ ghost use Rattle.dm_type.specs.Tables.{Table};
 ghost use Rattle.dm_tree.specs.Views.{view, view_of_external, view_of_form, view_of_unit};
 ghost use Rattle.dm_effect.specs.Entities as entities;
 ghost use Rattle.dm_effect.specs.Safe as safe;
-ghost use Rattle.dm_stable.specs.Marks.{Follows, Tells, found, mark_at, own, told_by};
+ghost use Rattle.dm_stable.specs.Marks.{Deed, Follows, Tells, found, mark_at, marks_of, own, told_by};
+ghost use Rattle.dm_stable.specs.Objects.{AreNoted};
 
 use crate::marking::{note_initials_of, note_tree, note_trees};
-use crate::marks::{Deed, Mark, note_locals, note_parameters};
+use crate::marks::{Mark, Marks, note_locals, note_parameters};
 use dm_token::Memory;
 use dm_tree::{Core, CoreExternal, CoreExternalForm, CoreUnit};
 use std::alloc::Global;
@@ -19,10 +20,7 @@ use std::marker::Model;
 #[derive(Drop)]
 pub struct Objects<'a> {
     unit: &'a CoreUnit,
-    addressed: Vec<Mark>,
-    defined: Vec<Mark>,
-    initialised: Vec<Mark>,
-    parameters: Vec<Mark>,
+    marks: Marks,
 }
 
 impl<'a> Model for Objects<'a> {
@@ -39,25 +37,16 @@ impl<'a> Model for Objects<'a> {
 
     ghost view = { λ all. all.unit.now };
 
-    ghost invariant = { λ all. AreNoted all.unit.now all.addressed.items all.defined.items all.initialised.items all.parameters.items };
+    ghost invariant = { λ all. AreNoted all.unit.now all.marks };
 }
 
 impl<'a> Objects<'a> {
-    /// What the trees of a unit do, found in one pass for each deed.
+    /// What the trees of a unit do, found in one pass over them.
     pub fn of(alloc: Global, unit: &'a CoreUnit) -> Result<Objects<'a>, Memory>
         ensures { IfOk result (λ made. made ≡ unit.now) }
     {
-        let addressed = noted(alloc, unit, Deed::Addresses)?;
-        let defined = noted(alloc, unit, Deed::Defines)?;
-        let initialised = noted(alloc, unit, Deed::Initialises)?;
-        let parameters = noted(alloc, unit, Deed::Receives)?;
-        Ok(Objects {
-            unit,
-            addressed,
-            defined,
-            initialised,
-            parameters,
-        })
+        let marks = noted(alloc, unit)?;
+        Ok(Objects { unit, marks })
     }
 
     /// The unit.
@@ -71,7 +60,7 @@ impl<'a> Objects<'a> {
     pub fn is_addressed(&self, object: u32) -> bool
         ensures { (types : Table) → result ≡ entities.is_addressed (view_of_unit types self.now) object }
     {
-        match told(mark_of(self.addressed.as_slice(), object), 0) {
+        match told(mark_of(self.marks.addressed.as_slice(), object), 0) {
             Some(answer) => answer,
             None => dm_effect::is_addressed(self.unit, object),
         }
@@ -81,7 +70,7 @@ impl<'a> Objects<'a> {
     pub fn is_defined(&self, object: u32) -> bool
         ensures { (types : Table) → result ≡ safe.is_defined (view_of_unit types self.now) object }
     {
-        match told(mark_of(self.defined.as_slice(), object), 0) {
+        match told(mark_of(self.marks.defined.as_slice(), object), 0) {
             Some(answer) => answer,
             None => dm_effect::is_defined(self.unit, object),
         }
@@ -92,7 +81,7 @@ impl<'a> Objects<'a> {
         ensures { (types : Table) → result ≡ safe.is_initialised (view_of_unit types self.now) (view types argument.now) object }
     {
         match told(
-            mark_of(self.initialised.as_slice(), object),
+            mark_of(self.marks.initialised.as_slice(), object),
             argument.inner.first,
         ) {
             Some(answer) => answer,
@@ -104,7 +93,7 @@ impl<'a> Objects<'a> {
     pub fn is_parameter(&self, object: u32) -> bool
         ensures { (types : Table) → result ≡ safe.is_parameter (view_of_unit types self.now) object }
     {
-        match told(mark_of(self.parameters.as_slice(), object), 0) {
+        match told(mark_of(self.marks.received.as_slice(), object), 0) {
             Some(answer) => answer,
             None => dm_effect::is_parameter(self.unit, object),
         }
@@ -133,13 +122,29 @@ fn told(mark: Mark, token: u32) -> Option<bool>
     }
 }
 
-/// What is noted of a deed in a unit.
-fn noted(alloc: Global, unit: &CoreUnit, deed: Deed) -> Result<Vec<Mark>, Memory>
-    ensures { IfOk result (λ made. (types : Table) (d token : ℕ) → Tells (mark_at made.items d) token (list_any (found deed d token) (map (view_of_external types) unit.now.externals))) }
+/// What is noted of a unit.
+fn noted(alloc: Global, unit: &CoreUnit) -> Result<Marks, Memory>
+    ensures { IfOk result (λ made. AreNoted unit.now made) }
 {
-    let mut marks = unmarked(alloc, unit.declared.len())?;
-    note_externals(unit.externals.items(), deed, &mut marks);
+    let mut marks = no_marks(alloc, unit.declared.len())?;
+    note_externals(unit.externals.items(), &mut marks);
     Ok(marks)
+}
+
+/// The marks of so many objects to which nothing is done.
+fn no_marks(alloc: Global, count: usize) -> Result<Marks, Memory>
+    ensures { IfOk result (λ made. (deed : Deed) (d token : ℕ) → Tells (mark_at (marks_of deed made) d) token false) }
+{
+    let addressed = unmarked(alloc, count)?;
+    let defined = unmarked(alloc, count)?;
+    let initialised = unmarked(alloc, count)?;
+    let received = unmarked(alloc, count)?;
+    Ok(Marks {
+        addressed,
+        defined,
+        initialised,
+        received,
+    })
 }
 
 /// So many marks for objects to which nothing is done.
@@ -154,42 +159,42 @@ fn unmarked(alloc: Global, count: usize) -> Result<Vec<Mark>, Memory>
 }
 
 /// What some external declarations do.
-fn note_externals(externals: &[CoreExternal], deed: Deed, marks: &mut Vec<Mark>)
-    ensures { (types : Table) → Follows (λ d token. list_any (found deed d token) (map (view_of_external types) externals.now)) marks.old.items marks.new.items }
+fn note_externals(externals: &[CoreExternal], marks: &mut Marks)
+    ensures { (types : Table) (deed : Deed) → Follows (λ d token. list_any (found deed d token) (map (view_of_external types) externals.now)) (marks_of deed marks.old) (marks_of deed marks.new) }
 {
     let mut left = externals;
     while let Some((external, rest)) = left.split_first() {
-        note_external(external, deed, marks);
+        note_external(external, marks);
         left = rest;
     }
 }
 
 /// What an external declaration does.
-fn note_external(external: &CoreExternal, deed: Deed, marks: &mut Vec<Mark>)
-    ensures { (types : Table) → Follows (λ d token. found deed d token (view_of_external types external.now)) marks.old.items marks.new.items }
+fn note_external(external: &CoreExternal, marks: &mut Marks)
+    ensures { (types : Table) (deed : Deed) → Follows (λ d token. found deed d token (view_of_external types external.now)) (marks_of deed marks.old) (marks_of deed marks.new) }
 {
-    note_own(&external.form, deed, marks);
-    note_trees(external.constants.items(), deed, marks);
+    note_own(&external.form, marks);
+    note_trees(external.constants.items(), marks);
     match &external.form {
-        CoreExternalForm::Declaration(locals) => note_initials_of(locals.items(), deed, marks),
+        CoreExternalForm::Declaration(locals) => note_initials_of(locals.items(), marks),
         CoreExternalForm::Function {
             function: _,
             parameters: _,
             body,
-        } => note_tree(body, deed, marks),
+        } => note_tree(body, marks),
     }
 }
 
 /// What its own declarators or parameters do.
-fn note_own(form: &CoreExternalForm, deed: Deed, marks: &mut Vec<Mark>)
-    ensures { (types : Table) → Follows (λ d token. own deed d token (view_of_form types form.now)) marks.old.items marks.new.items }
+fn note_own(form: &CoreExternalForm, marks: &mut Marks)
+    ensures { (types : Table) (deed : Deed) → Follows (λ d token. own deed d token (view_of_form types form.now)) (marks_of deed marks.old) (marks_of deed marks.new) }
 {
     match form {
-        CoreExternalForm::Declaration(locals) => note_locals(locals.items(), deed, marks),
+        CoreExternalForm::Declaration(locals) => note_locals(locals.items(), marks),
         CoreExternalForm::Function {
             function: _,
             parameters,
             body: _,
-        } => note_parameters(parameters.items(), deed, marks),
+        } => note_parameters(parameters.items(), &mut marks.received),
     }
 }

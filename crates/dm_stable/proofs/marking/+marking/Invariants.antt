@@ -11,7 +11,7 @@ use Rattle.dm_tree.specs.Views.{expressions_of_items, expressions_of_locals, vie
 use Rattle.dm_meaning.specs.Wholes.{view_of_initial}
 use Rattle.dm_effect.proofs.WalkLemmas.{depth_of}
 use Rattle.dm_stable.specs.declared.marks.Mark.{Mark}
-use Rattle.dm_stable.specs.Marks.{Notes}
+use Rattle.dm_stable.specs.Marks.{Deed, Notes, marks_of}
 use Rattle.dm_stable.proofs.MarkLemmas.{NotesIn}
 use Rattle.dm_stable.proofs.marking.+marking.Given as goal
 
@@ -42,12 +42,12 @@ decreases-note_initials l = 8 * most size-Initial l.initials.now + 5
 abbrev pub invariant-note_tree-loop-at : goal.invariant-note_tree-loop-at
 invariant-note_tree-loop-at l =
     (size-Core l.at ≤ size-Core l.fn.tree)
-    × ((types : Table) (final : List Mark) → Notes l.deed (all_in (view types l.at)) l.marks.items final → Notes l.deed (all_in (view types l.fn.tree)) l.initial.marks.items final)
+    × ((types : Table) (deed : Deed) (final : List Mark) → Notes deed (all_in (view types l.at)) (marks_of deed l.marks) final → Notes deed (all_in (view types l.fn.tree)) (marks_of deed l.initial.marks) final)
 
 abbrev pub invariant-note_trees-loop-tree : goal.invariant-note_trees-loop-tree
 invariant-note_trees-loop-tree l =
     (most size-Core l.left ≤ most size-Core l.fn.all)
-    × ((types : Table) (final : List Mark) → NotesIn l.deed (map (view types) l.left) l.marks.items final → NotesIn l.deed (map (view types) l.fn.all) l.initial.marks.items final)
+    × ((types : Table) (deed : Deed) (final : List Mark) → NotesIn deed (map (view types) l.left) (marks_of deed l.marks) final → NotesIn deed (map (view types) l.fn.all) (marks_of deed l.initial.marks) final)
 
 abbrev pub decreases-note_trees-loop-tree : goal.decreases-note_trees-loop-tree
 decreases-note_trees-loop-tree l = length l.left
@@ -55,7 +55,7 @@ decreases-note_trees-loop-tree l = length l.left
 abbrev pub invariant-note_initials_of-loop-local : goal.invariant-note_initials_of-loop-local
 invariant-note_initials_of-loop-local l =
     (most size-Local l.left ≤ most size-Local l.fn.locals)
-    × ((types : Table) (final : List Mark) → NotesIn l.deed (expressions_of_locals (map (view_of_local types) l.left)) l.marks.items final → NotesIn l.deed (expressions_of_locals (map (view_of_local types) l.fn.locals)) l.initial.marks.items final)
+    × ((types : Table) (deed : Deed) (final : List Mark) → NotesIn deed (expressions_of_locals (map (view_of_local types) l.left)) (marks_of deed l.marks) final → NotesIn deed (expressions_of_locals (map (view_of_local types) l.fn.locals)) (marks_of deed l.initial.marks) final)
 
 abbrev pub decreases-note_initials_of-loop-local : goal.decreases-note_initials_of-loop-local
 decreases-note_initials_of-loop-local l = length l.left
@@ -63,7 +63,7 @@ decreases-note_initials_of-loop-local l = length l.left
 abbrev pub invariant-note_initials-loop-initial : goal.invariant-note_initials-loop-initial
 invariant-note_initials-loop-initial l =
     (most size-Initial l.left ≤ most size-Initial l.fn.initials)
-    × ((types : Table) (final : List Mark) → NotesIn l.deed (expressions_of_items (map (view_of_initial types) l.left)) l.marks.items final → NotesIn l.deed (expressions_of_items (map (view_of_initial types) l.fn.initials)) l.initial.marks.items final)
+    × ((types : Table) (deed : Deed) (final : List Mark) → NotesIn deed (expressions_of_items (map (view_of_initial types) l.left)) (marks_of deed l.marks) final → NotesIn deed (expressions_of_items (map (view_of_initial types) l.fn.initials)) (marks_of deed l.initial.marks) final)
 
 abbrev pub decreases-note_initials-loop-initial : goal.decreases-note_initials-loop-initial
 decreases-note_initials-loop-initial l = length l.left

@@ -5,14 +5,14 @@ use Rattle.dm_type.specs.Tables.{Table}
 use Rattle.dm_tree.specs.Views.{view_of_local}
 use Rattle.dm_effect.specs.Questions.{as_local}
 use Rattle.dm_stable.specs.declared.marks.Mark.{Mark}
-use Rattle.dm_stable.specs.Marks.{Follows, does_local}
+use Rattle.dm_stable.specs.Marks.{Deed, Follows, does_local, marks_of}
 use Rattle.dm_stable.proofs.marks.note_locals.Given as goal
 
 abbrev pub invariant-loop-local : goal.invariant-loop-local
 invariant-loop-local l =
-    (types : Table) (final : List Mark)
-    → Follows (λ d token. list_any (does_local l.deed d token) (map as_local (map (view_of_local types) l.left))) l.marks.items final
-    → Follows (λ d token. list_any (does_local l.deed d token) (map as_local (map (view_of_local types) l.locals))) l.initial.marks.items final
+    (types : Table) (deed : Deed) (final : List Mark)
+    → Follows (λ d token. list_any (does_local deed d token) (map as_local (map (view_of_local types) l.left))) (marks_of deed l.marks) final
+    → Follows (λ d token. list_any (does_local deed d token) (map as_local (map (view_of_local types) l.locals))) (marks_of deed l.initial.marks) final
 
 abbrev pub decreases-loop-local : goal.decreases-loop-local
 decreases-loop-local l = length l.left

@@ -8,8 +8,7 @@ use Rattle.dm_tree.specs.Views.{view, view_of_unit}
 use Rattle.dm_tree.proofs.ViewLemmas.{view-core}
 use Rattle.dm_effect.specs.Safe.{is_initialised}
 use Rattle.dm_stable.specs.declared.marks.Mark.{Mark}
-use Rattle.dm_stable.specs.declared.marks.Deed.TheVariants.{Initialises}
-use Rattle.dm_stable.specs.Marks.{found, mark_at, told_by}
+use Rattle.dm_stable.specs.Marks.{Initialises, found, mark_at, told_by}
 use Rattle.dm_stable.proofs.ObjectLemmas.{initialisers-noted}
 use Rattle.dm_stable.proofs.objects.Objects.is_initialised.Goals as goal
 
@@ -20,10 +19,10 @@ returns-in-Some c types =
     let argument : Tree = view types c.args.argument.now in
     let one = view_of_unit types c.self.inside.unit.now in
     let first : token ≡ (spans_of argument).inner.first = sym (ap (λ (tree : Tree). (spans_of tree).inner.first) (view-core types c.args.argument.now)) in
-    let told : told_by (mark_at c.self.inside.initialised.items d) token ≡ Some c.in-Some.answer =
+    let told : told_by (mark_at c.self.inside.marks.initialised.items d) token ≡ Some c.in-Some.answer =
     sym (c.in-Some.ensures ∙ ap (λ (mark : Mark). told_by mark token) (c.mark_of.ensures ∙ ap (λ (marks : List Mark). mark_at marks d) c.as_slice.ensures.value)) in
     subst (λ (unit : CoreUnit). c.in-Some.answer ≡ is_initialised (view_of_unit types unit) argument d) c.self.view_is
-    (c.self.invariant.initialisers types d token c.in-Some.answer told
+    (c.self.invariant Initialises types d token c.in-Some.answer told
     ∙ (ap (λ (n : ℕ). list_any (found Initialises d n) one.externals) first ∙ initialisers-noted types one argument d))
 
 pub returns-in-None : goal.returns-in-None
