@@ -34,9 +34,6 @@ call-parts : (types : Table) (core named : Core) (arguments : List Core) → (ou
     → trees_of (view types core) ≡ more_trees (view types named) (trees (map (view types) arguments))
 call-parts types core named arguments is = trees-seen types core ∙ ap (λ (o : Opened). trees o.parts) (ap (opened_form types) is ∙ opened-Call types named arguments)
 
-pub call-sizes : (core named : Core) (arguments : List Core) → (out-Core core).form ≡ form.Call named arguments → most size-Core arguments < size-Core core
-call-sizes core named arguments is = search (rules, q.the_lemmas)
-
 -- a call, by the function and what stands behind its name
 pub at-call : (it : Rewriting) (f : ℕ) (parameters : List ℕ) (body : Tree) (run : Run) (inner : List Run) (other : Tree) (types : Table) (core named : Core) (arguments : List Core)
     → (out-Core core).form ≡ form.Call named arguments

@@ -1,8 +1,9 @@
 -- Runs and occurrences by the numbers of their spans.
 --     key span      the number of a span; different spans of fewer than 2 to the 64 tokens have different ones
 --     runs_by map span      the runs that a map has for a span
+--     AreStarts marks runs      each token is marked with which a run begins
 --     parameter_by map span      the parameter that it has for a span
-use Rattle.std.specs.Prelude.{◌≡◌, ℕ, nat_eq, ◌+◌, ◌*◌, ◌^◌, ◌<◌, List, [], ◌∷◌, Option, Some, None}
+use Rattle.std.specs.Prelude.{◌≡◌, ℕ, Bool, false, nat_eq, ◌+◌, ◌*◌, ◌^◌, ◌<◌, List, [], ◌∷◌, Option, Some, None, slice_index_or}
 use Rattle.std.specs.Borrow.{Bor}
 use Rattle.std.specs.HashMap as hash
 use Rattle.std.specs.HashMap.{HashMap}
@@ -28,6 +29,9 @@ module _ {A S : Type 0} where
 
   abbrev pub IsRunIndex : HashMap ℕ (Vec (Bor Run) A) S → List Run → Type 0
   IsRunIndex by_span runs = (span : Span) → span.after < 2 ^ 64 → runs_by by_span span ≡ runs_with runs span
+
+abbrev pub AreStarts : List Bool → List Run → Type 0
+AreStarts marks runs = (span : Span) → slice_index_or marks span.first false ≡ false → runs_with runs span ≡ []
 
 -- ---- occurrences
 

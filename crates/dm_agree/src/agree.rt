@@ -16,7 +16,7 @@ use crate::body::{Argument, Pattern, is_same_body};
 use crate::comparison::{Added, AddedFunction, Comparison};
 use crate::index::OccurrenceIndex;
 use crate::names::{is_enumerator, is_function, is_read_of, reads_parameter};
-use crate::parts::parts_of;
+use crate::parts::{operands_of, parts_of};
 use dm_runs::Run;
 use dm_token::Memory;
 use dm_tree::{Core, Form};
@@ -112,9 +112,44 @@ fn node_agrees<'a>(
     if !it.is_same_node(new, old) {
         return Ok(false);
     }
+    if let (Some(operands), Some(others)) = (operands_of(&new.form), operands_of(&old.form)) {
+        if operands.front.len() == others.front.len() {
+            let agree = lists_agree(alloc, it, operands.front, old, others.front)?;
+            if !agree {
+                return Ok(false);
+            }
+            return lists_agree(alloc, it, operands.back, old, others.back);
+        }
+    }
     let parts = parts_of(alloc, &new.form)?;
     let others = parts_of(alloc, &old.form)?;
     all_agree(alloc, it, &parts, old, &others)
+}
+
+/// Whether trees agree one by one with parts of an old node.
+#[cycle(agreement)]
+fn lists_agree<'a>(
+    alloc: Global,
+    it: &Comparison<'a>,
+    list: &[Core],
+    above: &Core,
+    others: &'a [Core],
+) -> Result<bool, Memory>
+    requires new { IsTrue (are_all_known (length it.now.new_types.now.shapes) list.now) }
+    requires old { IsTrue (are_all_known (length it.now.old_types.now.shapes) others.now) }
+    requires added { IsKnownAdded (length it.now.new_types.now.shapes) it.now.added }
+    ensures { IfOk result (λ answer. IsTrue answer ↔ AllAgree (rewriting it.now) (label_of (view it.now.old_types.now above.now)) (spans_of (view it.now.old_types.now above.now))
+        (trees (map (view it.now.new_types.now) list.now)) (trees (map (view it.now.old_types.now) others.now))) }
+{
+    if list.len() != others.len() {
+        return Ok(false);
+    }
+    for i in 0..list.len() {
+        if !part_agrees(alloc, it, &list[i], above, &others[i])? {
+            return Ok(false);
+        }
+    }
+    Ok(true)
 }
 
 fn no_run_stands_below(

@@ -14,6 +14,7 @@ ghost use Rattle.dm_agree.specs.Standing as standing;
 ghost use Rattle.dm_agree.specs.Standing.{narrowing, occurrences_with, runs_with, widened};
 
 use crate::standing::{is_apart, is_value};
+use crate::starts::{is_marked, mark};
 use dm_runs::{Occurrence, Run};
 use dm_token::{Memory, Span};
 use dm_tree::Core;
@@ -49,19 +50,21 @@ pub fn pairs(tree: &Core) -> u32
 #[derive(Drop)]
 pub struct RunIndex<'a> {
     runs: &'a [Run],
+    /// Of each token, whether a run begins with it.
+    starts: Vec<bool>,
     by_span: HashMap<u128, Vec<&'a Run>>,
 }
 
 impl<'a> Model for RunIndex<'a> {
     ghost use Rattle.std.specs.Prelude.{List};
     ghost use Rattle.dm_runs.specs.declared.run.Run.{Run as SeenRun};
-    ghost use Rattle.dm_agree.specs.Index.{IsRunIndex};
+    ghost use Rattle.dm_agree.specs.Index.{AreStarts, IsRunIndex};
 
     ghost Value = { List SeenRun };
 
     ghost view = { λ index. index.runs.now };
 
-    ghost invariant = { λ index. IsRunIndex index.by_span index.runs.now };
+    ghost invariant = { λ index. IsRunIndex index.by_span index.runs.now × AreStarts index.starts.items index.runs.now };
 }
 
 impl<'a> RunIndex<'a> {
@@ -69,11 +72,17 @@ impl<'a> RunIndex<'a> {
     pub fn of(alloc: Global, runs: &'a [Run]) -> Result<RunIndex<'a>, Memory>
         ensures { IfOk result (λ made. made ≡ runs.now) }
     {
+        let mut starts = Vec::new(alloc);
         let mut by_span = HashMap::new(alloc);
         for run in runs {
+            mark(&mut starts, run.span.first)?;
             add_run(alloc, run, &mut by_span)?;
         }
-        Ok(RunIndex { runs, by_span })
+        Ok(RunIndex {
+            runs,
+            starts,
+            by_span,
+        })
     }
 
     /// The runs that stand at a tree, from the outside in.
@@ -128,6 +137,9 @@ impl<'a> RunIndex<'a> {
     fn push_widened(&self, inner: Span, pairs: u32, found: &mut Vec<&'a Run>) -> Result<(), Memory>
         ensures { OnOk result (runs_in found.new.items ≡ runs_in found.old.items ++ runs_with self.now (widened inner pairs)) }
     {
+        if !is_marked(&self.starts, inner.first.saturating_sub(pairs)) {
+            return Ok(());
+        }
         if let Some(group) = self.by_span.get(&widened_key(inner, pairs)) {
             for run in group {
                 found.push(*run)?;

@@ -11,6 +11,7 @@ mod moves;
 mod names;
 mod parts;
 mod standing;
+mod starts;
 mod types;
 
 pub use agree::agrees_whole;
@@ -18,6 +19,7 @@ pub use comparison::{Added, AddedFunction, Comparison};
 pub use index::{RunIndex, pairs};
 pub use initial::are_same_declarators;
 pub use moves::{Block, is_moved};
-pub use parts::{parts_of, push_locals};
+pub use parts::{Operands, operands_of, parts_of, push_locals};
 pub use standing::is_value;
+pub use starts::{is_marked, mark};
 pub use types::is_same_type;

@@ -1,6 +1,6 @@
 //! The trees directly below a node.
 
-ghost use Rattle.std.specs.Prelude.{◌≡◌, ◌++◌, ◌≤◌, ℕ, IfOk, IsTrue, OnOk, map, flat_map};
+ghost use Rattle.std.specs.Prelude.{◌≡◌, ◌++◌, ◌≤◌, ℕ, IfOk, IfSome, IsTrue, OnOk, map, flat_map};
 ghost use Rattle.std.specs.Option.{option_copied};
 ghost use denote.Param.Weighed.{most};
 ghost use Rattle.dm_type.specs.Tables.{Table};
@@ -10,11 +10,83 @@ ghost use Rattle.dm_tree.specs.declared.tree.Local.{size-Local};
 ghost use Rattle.dm_tree.specs.TypeNumbers.{all_pass, are_known_in_form, are_known_in_local};
 ghost use Rattle.dm_tree.specs.Views.{expressions_of_items, expressions_of_locals, opened_form, view, view_of_local};
 ghost use Rattle.dm_meaning.specs.Wholes.{view_of_initial};
-ghost use Rattle.dm_agree.specs.Parts.{nows, are_all_known, are_known_in_initial, if_given, there, AreBelow};
+ghost use Rattle.dm_agree.specs.Parts.{nows, are_all_known, are_known_in_initial, if_given, operands_in, there, AreBelow};
 
 use dm_token::{Boxed, Memory};
 use dm_tree::{Core, Form, Initial, Local};
 use std::alloc::Global;
+use std::slice;
+
+/// The trees directly below a node, in order: those in front, and those behind them.
+#[derive(Clone, Copy)]
+pub struct Operands<'a> {
+    pub front: &'a [Core],
+    pub back: &'a [Core],
+}
+
+/// Those of a form, unless they stand in more than two places of it.
+pub fn operands_of(form: &Form) -> Option<Operands<'_>>
+    ensures same { IfSome result (λ operands. (types : Table) → map (view types) (operands_in operands) ≡ (opened_form types form.now).parts) }
+    ensures known { IfSome result (λ operands. (n : ℕ) → IsTrue (are_known_in_form n form.now) → IsTrue (are_all_known n (operands_in operands))) }
+    ensures below { IfSome result (λ operands. AreBelow (size-Form form.now) (operands_in operands)) }
+{
+    match form {
+        Form::Number(_)
+        | Form::Enumerator(_)
+        | Form::Literal(_, _)
+        | Form::Object(_)
+        | Form::Function(_)
+        | Form::Empty
+        | Form::Break
+        | Form::Continue => Some(those(&[], &[])),
+        Form::Read(a)
+        | Form::Decay(a)
+        | Form::Address(a)
+        | Form::Follow(a)
+        | Form::Member(a, _)
+        | Form::Unary(_, a)
+        | Form::SizeofTree(a)
+        | Form::Full(a)
+        | Form::Default(a)
+        | Form::Count {
+            plus: _,
+            before: _,
+            object: a,
+        } => Some(those(slice::from_ref(a.get()), &[])),
+        Form::Binary(_, a, b)
+        | Form::Both(a, b)
+        | Form::Either(a, b)
+        | Form::Comma(a, b)
+        | Form::Store(a, b)
+        | Form::Update(_, _, a, b)
+        | Form::Case(a, b)
+        | Form::While(a, b)
+        | Form::Do(a, b) => Some(those(slice::from_ref(a.get()), slice::from_ref(b.get()))),
+        Form::Convert(a, list) | Form::Call(a, list) | Form::Switch(a, list) => {
+            Some(those(slice::from_ref(a.get()), list.items()))
+        }
+        Form::SizeofKind(_, list) | Form::Block(list) => Some(those(list.items(), &[])),
+        Form::Return(value) => Some(those(listed(value), &[])),
+        Form::Choose(_, _, _) | Form::If(_, _, _) | Form::For(_, _, _, _) | Form::Declare(_, _) =>
+            None,
+    }
+}
+
+fn those<'a>(front: &'a [Core], back: &'a [Core]) -> Operands<'a>
+    ensures { operands_in result ≡ front.now ++ back.now }
+{
+    Operands { front, back }
+}
+
+/// What is inside a box that may be left out, as a list.
+fn listed(tree: &Option<Boxed<Core>>) -> &[Core]
+    ensures { result.now ≡ if_given tree.now }
+{
+    match tree {
+        Some(tree) => slice::from_ref(tree.get()),
+        None => &[],
+    }
+}
 
 /// Those of a form, in order.
 pub fn parts_of(alloc: Global, form: &Form) -> Result<Vec<&Core>, Memory>

@@ -1,12 +1,11 @@
 -- Two units agree where all their parts do.
-use Rattle.std.proofs.Common.{◌≡◌, ◌↔◌, Bool, false, IsTrue, List, map, Option, Some, None, subst}
+use Rattle.std.proofs.Common.{◌≡◌, ◌↔◌, Bool, IsTrue, List, map, Option, Some, subst}
 use Rattle.dm_runs.specs.declared.run.Run.{Run}
 use Rattle.dm_type.specs.Structs.{AreSameStructs}
 use Rattle.dm_type.specs.Tables.{Table}
 use Rattle.dm_tree.specs.Units.{TypedUnit}
 use Rattle.dm_meaning.specs.Replaced.{Zipped}
 use Rattle.dm_agree.specs.Agreement.{Added}
-use Rattle.dm_agree.proofs.StepLemmas.{never}
 use Rattle.std.specs.List.{AllByRecursion}
 use Rattle.dm_align.specs.declared.insertion.Inserted.{Inserted}
 use Rattle.dm_align.specs.Insertions.{put_in, AddsIt, AreAlignedFor, IsOnly}
@@ -21,9 +20,6 @@ module _ (old_types new_types : Table) (old new : TypedUnit) (runs : List Run) w
       (λ e. record { structs = structs; added = added; declared = declared; externals = externals; placed = says.0 e }, λ aligned. says.1 aligned.placed)
 
   module _ (it : Inserted) where
-    pub none-added : IsOnly (AddsIt new_types new it) None → IsTrue false ↔ AreAlignedFor it old_types new_types old new runs
-    none-added none = never (λ whole. none whole.0 (whole.1, whole.2.added))
-
     module _ (found : Added) (only : IsOnly (AddsIt new_types new it) (Some found)) where
       -- what is added is known
       pub as-found : AreAlignedFor it old_types new_types old new runs → AreAligned old_types new_types old new runs (Some (put_in it found))

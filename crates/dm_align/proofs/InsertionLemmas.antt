@@ -3,8 +3,8 @@ use Rattle.std.proofs.Common.{◌≡◌, ◌≤◌, ◌<◌, ◌+◌, ℕ, zero,
 use Rattle.std.specs.List.{list_all}
 use Rattle.std.specs.Option.{IsSomeAnd}
 use Rattle.std.specs.Prelude.{IfSome, IfNone}
-use Rattle.std.proofs.lemmas.Bool.{and_parts, true≢false, false≢true}
-use Rattle.dm_type.specs.CTypes.{CType, void as void_type, integer, pointer, array, struct, function as function_type, const}
+use Rattle.std.proofs.lemmas.Bool.{and_parts}
+use Rattle.dm_type.specs.CTypes.{CType}
 use Rattle.dm_type.specs.Tables.{Table}
 use Rattle.dm_tree.specs.declared.unit.CoreExternalForm.TheVariants as code
 use Rattle.dm_tree.specs.declared.unit.Sort.TheVariants.{Function}
@@ -56,21 +56,6 @@ pub value-body : (result : CType) (body : Tree) (items : List Tree) → is_funct
 value-body result body [] object found = absurd (cc)
 value-body result body (item ∷ []) object found = item-body result body (is_void result) item object refl found
 value-body result body (item ∷ next ∷ items) object found = absurd (cc)
-
--- what has no value is no function
-void-object : (result : CType) → is_void result ≡ true → is_function_type result ≡ false
-void-object void_type e = refl
-void-object (integer kind) e = refl
-void-object (pointer type) e = refl
-void-object (array type n) e = refl
-void-object (struct n) e = refl
-void-object (const type) e = refl
-void-object (function_type result kinds) e = absurd (false≢true e)
-
-pub body-object : (result : CType) (body : Tree) (items : List Tree) → IsBodyOf result body items → is_function_type result ≡ false
-body-object result body (node return kind spans (more_trees value no_trees) ∷ []) is = is.2
-body-object result body (node full kind spans (more_trees value no_trees) ∷ []) is = void-object result is.1
-body-object result body items is = absurd is
 
 pub no-value : (void : Bool) (items : List Tree) → (length items ≡ 1 → ⊥) → None ≡ value_in void items
 no-value void [] other = refl
@@ -150,16 +135,6 @@ module _ (types : Table) (new : TypedUnit) (it : Inserted) (entry : Declaration)
       → IsOnly (FormAddsIt types new it (defines_function g others whole)) None
   no-function kind g others whole value x adds =
       let only = function-only kind g others whole x adds in let gone = value ∙ only.4 in absurd (cc)
-
-  -- a function that returns one adds nothing
-  returned-object : it.kind ≡ kinds.Function → (g : ℕ) (others : List ℕ) (whole : Tree) (added : Added) → FormAddsIt types new it (defines_function g others whole) added → is_function_type (result_of entry.kind) ≡ false
-  returned-object kind g others whole nothing adds = absurd adds.1
-  returned-object kind g others whole (added_function f parameters body) adds = body-object (result_of entry.kind) body (parts_of whole) (there f _ adds.0.1 adds.1.3.1).1.2
-  returned-object kind g others whole (added_enumerator d value) adds = absurd (subst (λ (k : As). IsOfKind k (added_enumerator d value)) kind adds.0.0)
-  returned-object kind g others whole (added_constant d value) adds = absurd (subst (λ (k : As). IsOfKind k (added_constant d value)) kind adds.0.0)
-
-  pub none-returned : it.kind ≡ kinds.Function → (g : ℕ) (others : List ℕ) (whole : Tree) → is_function_type (result_of entry.kind) ≡ true → IsOnly (FormAddsIt types new it (defines_function g others whole)) None
-  none-returned kind g others whole function x adds = absurd (true≢false (sym function ∙ returned-object kind g others whole x adds))
 
 -- what has a form is what the unit has
 module _ (types : Table) (new : TypedUnit) (it : Inserted) (external : External) (at : slice_get new.externals it.external ≡ Some external) where

@@ -1,5 +1,5 @@
 -- Numbers that are different ones of a range, from the last one on.
-use Rattle.std.proofs.Common.{◌≡◌, ◌↔◌, ℕ, Bool, true, false, not, ◌||◌, cond, nat_eq, ◌==◌, IsTrue, List, [], ◌∷◌, ◌++◌, refl, sym, ap, ◌∙◌, subst, append_assoc, append-nil}
+use Rattle.std.proofs.Common.{◌≡◌, ◌↔◌, ℕ, Bool, true, false, not, ◌||◌, cond, nat_eq, ◌==◌, IsTrue, List, [], ◌∷◌, ◌++◌, refl, sym, ap, ◌∙◌, subst, append_assoc}
 use Rattle.std.specs.List.{AllByRecursion, list_any}
 use Rattle.std.proofs.lemmas.Bool.{false≢true, and_parts, and_from}
 use Rattle.dm_agree.proofs.StepLemmas.{never}
@@ -35,9 +35,6 @@ module _ (P : ℕ → Type 0) where
     pub good : AreGood done
     pub same : (d : ℕ) → has d ≡ list_any (λ c. c == d) done
 
-  pub none-seen : (numbers : List ℕ) (has : ℕ → Bool) → ((d : ℕ) → has d ≡ false) → AreSeen numbers numbers has
-  none-seen numbers has none = record { done = []; split = sym (append-nil numbers); good = (tt, refl); same = none }
-
   more : (d q : ℕ) (rest : Bool) → cond (nat_eq d q) true rest ≡ ((d == q) || rest)
   more d q rest = elim (nat_eq d q) as (λ b. cond b true rest ≡ (b || rest)) [ true ↦ refl | false ↦ refl ]
 
@@ -49,6 +46,3 @@ module _ (P : ℕ → Type 0) where
     good = ((put, seen.good.0), and_from (not (list_any (λ c. c == d) seen.done)) (are_different seen.done) (ap not (sym (seen.same d) ∙ fresh)) seen.good.1);
     same = λ q. update q ∙ (ap (λ rest. cond (nat_eq d q) true rest) (seen.same q) ∙ more d q (list_any (λ c. c == q) seen.done));
   }
-
-  pub all-seen : (numbers left : List ℕ) (has : ℕ → Bool) → AreSeen numbers left has → left ≡ [] → IsTrue true ↔ AreGood numbers
-  all-seen numbers left has seen none = (λ e. subst AreGood (sym (seen.split ∙ ap (λ front. front ++ seen.done) none)) seen.good, λ good. refl)

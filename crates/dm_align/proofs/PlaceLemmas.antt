@@ -1,8 +1,8 @@
 -- The places of expressions so far, and those in trees that wait.
-use Rattle.std.proofs.Common.{◌≡◌, ◌↔◌, ◌<◌, ◌+◌, ◌-◌, ℕ, zero, suc, Bool, true, false, ◌&&◌, ◌||◌, ◌==◌, cond, IsTrue, Bor, List, [], ◌∷◌, ◌++◌, map, flat_map, length, take, get_or, refl, sym, ap, ◌∙◌, subst, arith}
-use Rattle.std.specs.HashSet.{HashSet, contains}
+use Rattle.std.proofs.Common.{◌≡◌, ◌↔◌, ◌<◌, ◌+◌, ◌-◌, ℕ, zero, suc, Bool, true, false, ◌&&◌, ◌||◌, ◌==◌, IsTrue, Bor, List, [], ◌∷◌, ◌++◌, map, flat_map, length, take, get_or, slice_index_or, append_assoc, refl, sym, ap, ◌∙◌, subst, arith}
+use Rattle.std.specs.HashSet.{HashSet}
 use Rattle.std.specs.List.{AllByRecursion, list_any, sum_by}
-use Rattle.std.proofs.lemmas.Bool.{eqb-true, eq-eqb}
+use Rattle.std.proofs.lemmas.Bool.{eq-eqb}
 use Rattle.std.proofs.lemmas.List.Folds.{list_any-append, list_any_more}
 use Rattle.std.proofs.lemmas.List.Sums.{sum_by-append, sum_by-cons}
 use Rattle.std.proofs.Math.Bool.{or-true, or-false, or_assoc}
@@ -24,19 +24,10 @@ use Rattle.dm_agree.proofs.StandingLemmas.{all-extents, bare, no-extents}
 use Rattle.dm_agree.proofs.StepLemmas.{denied}
 use Rattle.dm_align.specs.declared.places.Extent.{Extent}
 use Rattle.dm_align.specs.declared.places.Waiting.{Waiting}
-use Rattle.dm_align.specs.Places.{extent_of, same, has, stands_in, is_unevaluated_in, is_unevaluated_below, waits, waits_unevaluated, waiting_of, nodes_left}
+use Rattle.dm_align.specs.Places.{AreAdded, has, is_wanted, stands_in, is_unevaluated_in, is_unevaluated_below, waits, waits_unevaluated, waiting_of, nodes_left}
 use Rattle.dm_align.specs.Units.{is_in_sizeof, is_sizeof}
 
 -- ---- tests
-
-same-truth : (b c : Bool) → (b ≡ true → c ≡ true) → (c ≡ true → b ≡ true) → b ≡ c
-same-truth true c to back = sym (to refl)
-same-truth false true to back = back refl
-same-truth false false to back = refl
-
-or-cond : (b c : Bool) → cond b true c ≡ (b || c)
-or-cond true c = refl
-or-cond false c = refl
 
 pub beside : (h s w p : Bool) → ((h || s) || (w || p)) ≡ (h || (w || (s || p)))
 beside true s w p = refl
@@ -90,41 +81,40 @@ sum-map f g (x ∷ xs) =
 
 -- ---- extents
 
-equal-back : (a b : ℕ) → (a == b) ≡ (b == a)
-equal-back a b = same-truth (a == b) (b == a) (λ e. eq-eqb b a (sym (eqb-true a b e))) (λ e. eq-eqb a b (sym (eqb-true b a e)))
-
-same-span : (a b : Span) → same (extent_of a) (extent_of b) ≡ is_same_span b a
-same-span a b = ap (λ one. one && (a.after == b.after)) (equal-back a.first b.first) ∙ ap (λ one. (b.first == a.first) && one) (equal-back a.after b.after)
-
-module _ {S : Type 0} (old now : HashSet Extent S) (added span : Span) (update : (q : Extent) → contains same now q ≡ cond (same (extent_of added) q) true (contains same old q)) where
-  has-more : has now span ≡ (is_same_span span added || has old span)
-  has-more = update (extent_of span) ∙ (or-cond (same (extent_of added) (extent_of span)) (has old span) ∙ ap (λ one. one || has old span) (same-span added span))
-
-  swap : (s h n : Bool) → ((s || h) || n) ≡ (h || (s || n))
-  swap true h n = sym (or-true h)
-  swap false h n = refl
-
 pub narrower : {S : Type 0} (old now : HashSet Extent S) (inner span : Span) (left : ℕ) (whole : Bool) → 0 < left
-    → ((q : Extent) → contains same now q ≡ cond (same (extent_of (widened inner left)) q) true (contains same old q))
+    → has now span ≡ (is_same_span span (widened inner left) || has old span)
     → (has old span || list_any (is_same_span span) (narrowing inner left)) ≡ whole → (has now span || list_any (is_same_span span) (narrowing inner (left - 1))) ≡ whole
 narrower old now inner span zero whole some update so_far = absurd (omega arith)
 narrower old now inner span (suc left) whole some update so_far =
     let less : suc left - 1 ≡ left = omega arith in
     ap (λ n. has now span || list_any (is_same_span span) (narrowing inner n)) less
-    ∙ (ap (λ one. one || list_any (is_same_span span) (narrowing inner left)) (has-more old now (widened inner (suc left)) span update)
-    ∙ (swap old now (widened inner (suc left)) span update (is_same_span span (widened inner (suc left))) (has old span) (list_any (is_same_span span) (narrowing inner left)) ∙ so_far))
+    ∙ (ap (λ one. one || list_any (is_same_span span) (narrowing inner left)) update
+    ∙ (swap (is_same_span span (widened inner (suc left))) (has old span) (list_any (is_same_span span) (narrowing inner left)) ∙ so_far))
+  where
+    swap : (s h n : Bool) → ((s || h) || n) ≡ (h || (s || n))
+    swap true h n = sym (or-true h)
+    swap false h n = refl
 
 pub narrowest-there : {S : Type 0} (old now : HashSet Extent S) (inner span : Span) (left : ℕ) (whole : Bool) → left ≡ 0
-    → ((q : Extent) → contains same now q ≡ cond (same (extent_of (widened inner 0)) q) true (contains same old q))
+    → has now span ≡ (is_same_span span (widened inner 0) || has old span)
     → (has old span || list_any (is_same_span span) (narrowing inner left)) ≡ whole → has now span ≡ whole
 narrowest-there old now inner span left whole none update so_far =
-    has-more old now (widened inner 0) span update
+    update
     ∙ (ap (λ one. is_same_span span one || has old span) (bare inner)
     ∙ (around (is_same_span span inner) (has old span) ∙ (ap (λ n. has old span || list_any (is_same_span span) (narrowing inner n)) (sym none) ∙ so_far)))
   where
     around : (s h : Bool) → (s || h) ≡ (h || (s || false))
     around true h = sym (or-true h)
     around false h = sym (or-false h)
+
+-- ---- marked tokens
+
+module _ (before after : List Bool) (added : Span) (marks : (n : ℕ) → slice_index_or after n false ≡ (slice_index_or before n false || added.first == n)) where
+  pub begun-kept : (span : Span) → IsTrue (is_wanted before span) → IsTrue (is_wanted after span)
+  begun-kept span wanted = marks span.first ∙ ap (λ test. test || added.first == span.first) wanted
+
+  pub begun-marked : IsTrue (is_wanted after added)
+  begun-marked = marks added.first ∙ (ap (λ test. is_wanted before added || test) (eq-eqb added.first added.first refl) ∙ or-true (is_wanted before added))
 
 -- ---- trees
 
@@ -206,6 +196,39 @@ nodes-entered core parts u before after are is =
     let shown = sum-map nodes_in (view no_type) (nows parts) in
     let refs = sum-map (λ (c : Core). nodes_in (view no_type c)) (λ (one : Bor Core). one.now) parts in
     omega (arith, all, parts_nodes, whole, below_it, shown, refs)
+
+-- ---- lists of trees that wait
+
+waiting-together : (u : Bool) (refs others : List (Bor Core)) → map (waiting_of u) (refs ++ others) ≡ map (waiting_of u) refs ++ map (waiting_of u) others
+waiting-together u [] others = refl
+waiting-together u (x ∷ refs) others = ap (λ (list : List Waiting). waiting_of u x ∷ list) (waiting-together u refs others)
+
+nows-together : (refs others : List (Bor Core)) → nows (refs ++ others) ≡ nows refs ++ nows others
+nows-together [] others = refl
+nows-together (x ∷ refs) others = ap (λ (list : List Core). x.now ∷ list) (nows-together refs others)
+
+-- one tree more waits
+pub nows-more : (refs : List (Bor Core)) (one : Bor Core) (left rest all : List Core) → left ≡ one.now ∷ rest → nows refs ++ left ≡ all → nows (refs ++ one ∷ []) ++ rest ≡ all
+nows-more refs one left rest all is so_far = moved refs ∙ (ap (λ (list : List Core). nows refs ++ list) (sym is) ∙ so_far)
+  where
+    moved : (refs : List (Bor Core)) → nows (refs ++ one ∷ []) ++ rest ≡ nows refs ++ one.now ∷ rest
+    moved [] = refl
+    moved (x ∷ refs) = ap (λ (list : List Core). x.now ∷ list) (moved refs)
+
+pub waiting-more : (u : Bool) (refs : List (Bor Core)) (one : Bor Core) (before now after : List Waiting) → now ≡ before ++ map (waiting_of u) refs → after ≡ now ++ waiting_of u one ∷ []
+    → after ≡ before ++ map (waiting_of u) (refs ++ one ∷ [])
+waiting-more u refs one before now after so_far is =
+    is ∙ (ap (λ (list : List Waiting). list ++ waiting_of u one ∷ []) so_far
+    ∙ (append_assoc before (map (waiting_of u) refs) (waiting_of u one ∷ []) ∙ ap (λ (list : List Waiting). before ++ list) (sym (waiting-together u refs (one ∷ [])))))
+
+-- those of two lists wait, one behind the other
+pub added-together : (u : Bool) (front behind : List Core) (before amid after : List Waiting) → AreAdded u front before amid → AreAdded u behind amid after → AreAdded u (front ++ behind) before after
+added-together u front behind before amid after first second = (
+  first.0 ++ second.0,
+  nows-together first.0 second.0 ∙ (λ i. first.1 i ++ second.1 i),
+  second.2 ∙ (ap (λ (list : List Waiting). list ++ map (waiting_of u) second.0) first.2
+      ∙ (append_assoc before (map (waiting_of u) first.0) (map (waiting_of u) second.0) ∙ ap (λ (list : List Waiting). before ++ list) (sym (waiting-together u first.0 second.0)))),
+)
 
 -- what waits last is taken
 pub waits-last : (p : Waiting → Bool) (all front : List Waiting) (one : Waiting) → all ≡ front ++ one ∷ [] → list_any p all ≡ (list_any p front || p one)

@@ -41,9 +41,6 @@ module _ {A B : Type 0} (R : A → B → Type 0) where
   within (x ∷ cs) zero c here = omega arith
   within (x ∷ cs) (suc k) c here = let less = within cs k c here in omega arith
 
-  pub none-yet : (xs : List A) (ys : List B) → AreSoFar xs ys 0
-  none-yet xs ys k less x y here there = absurd (omega arith)
-
   pub other-lengths : (xs : List A) (ys : List B) → (length xs ≡ length ys → ⊥) → IsTrue false ↔ Zipped R xs ys
   other-lengths xs ys other = never (λ z. other (zipped-length xs ys z))
 

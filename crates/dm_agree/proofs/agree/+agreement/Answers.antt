@@ -20,7 +20,7 @@ use Rattle.dm_agree.specs.Index.{first_parameter}
 use Rattle.dm_agree.specs.Parts.{nows, are_all_known}
 use Rattle.dm_agree.specs.Runs.{runs_in}
 use Rattle.dm_agree.specs.Standing.{runs_below}
-use Rattle.dm_agree.proofs.AgreeLemmas.{apart-runs, at-nothing, at-function, at-enumerator, at-constant, seen-parts, PartsAgree, counts-agree, next-part, known-get, none-found, size-get, form-size, comma-parts, comma-sizes, with-known}
+use Rattle.dm_agree.proofs.AgreeLemmas.{ListsAgree, lengths-agree, next-listed, known-listed, size-listed, known-together, size-together, operands-agree, apart-runs, at-nothing, at-function, at-enumerator, at-constant, seen-parts, PartsAgree, counts-agree, next-part, known-get, none-found, size-get, form-size, comma-parts, comma-sizes, with-known}
 use Rattle.dm_agree.proofs.ArgumentLemmas.{arguments-pass, nothing-there, read-there, run-there}
 use Rattle.dm_agree.proofs.CallLemmas.{at-call, argument-known, argument-seen, argument-size, next-passed, found-known, no-argument-seen, one-argument}
 use Rattle.dm_agree.proofs.PartLemmas.{if-ok}
@@ -63,6 +63,109 @@ node_agrees-returns t c =
     let others = seen-parts it.old_types.now c.args.old.now c.deref-2.result.now c.in_ok-others.others.items c.deref-2.ensures.value (c.in_ok-others.ensures.same it.old_types.now) in
     if-ok c.all_agree.result
     (λ answer says. through (with-known answer node (with-parts R (label_of old) (spans_of old) answer _ _ _ _ parts others says)) (apart-runs R new old)) c.all_agree.ensures
+
+pub node_agrees-lists_agree-requires : goal.node_agrees-lists_agree-requires
+node_agrees-lists_agree-requires t c =
+    let it = c.args.it.now in
+    let pair = c.in-Some-Some in
+    let below = pair.ensures.below in
+    let front = (size-together pair.operands.front.now pair.operands.back.now).0 in
+    let smaller = form-size c.args.new.now in
+    let here = c.decreases in
+    let known = pair.ensures.known (length it.new_types.now.shapes) (known-form (length it.new_types.now.shapes) c.args.new.now c.requires.new) in
+    let others_known = pair.ensures'.known (length it.old_types.now.shapes) (known-form (length it.old_types.now.shapes) c.args.old.now c.requires.old) in (
+      omega (arith, below, front, smaller, here),
+      (
+        (known-together (length it.new_types.now.shapes) pair.operands.front.now pair.operands.back.now known).0,
+        ((known-together (length it.old_types.now.shapes) pair.others.front.now pair.others.back.now others_known).0, c.requires.added),
+      ),
+    )
+
+pub node_agrees-returns-then-not-agree : goal.node_agrees-returns-then-not-agree
+node_agrees-returns-then-not-agree t c =
+    let it = c.args.it.now in
+    let pair = c.in-Some-Some in
+    let whole = operands-agree (rewriting it) it.new_types.now it.old_types.now c.args.new.now c.args.old.now pair.operands.front.now pair.operands.back.now pair.others.front.now pair.others.back.now
+    (c.is_same_node.ensures.0 c.if-not-is_same_node.false) (pair.ensures.same it.new_types.now) (pair.ensures'.same it.old_types.now) c.if-operands-others.true in
+    denied c.in_ok-agree.agree c.in_ok-agree.ensures c.if-not-agree.true (λ agrees. (whole.1 agrees).0)
+
+pub node_agrees-lists_agree-requires-then-operands-others : goal.node_agrees-lists_agree-requires-then-operands-others
+node_agrees-lists_agree-requires-then-operands-others t c =
+    let it = c.args.it.now in
+    let pair = c.in-Some-Some in
+    let below = pair.ensures.below in
+    let behind = (size-together pair.operands.front.now pair.operands.back.now).1 in
+    let smaller = form-size c.args.new.now in
+    let here = c.decreases in
+    let known = pair.ensures.known (length it.new_types.now.shapes) (known-form (length it.new_types.now.shapes) c.args.new.now c.requires.new) in
+    let others_known = pair.ensures'.known (length it.old_types.now.shapes) (known-form (length it.old_types.now.shapes) c.args.old.now c.requires.old) in (
+      omega (arith, below, behind, smaller, here),
+      (
+        (known-together (length it.new_types.now.shapes) pair.operands.front.now pair.operands.back.now known).1,
+        ((known-together (length it.old_types.now.shapes) pair.others.front.now pair.others.back.now others_known).1, c.requires.added),
+      ),
+    )
+
+pub node_agrees-returns-then-operands-others : goal.node_agrees-returns-then-operands-others
+node_agrees-returns-then-operands-others t c =
+    let it = c.args.it.now in
+    let pair = c.in-Some-Some in
+    let whole = operands-agree (rewriting it) it.new_types.now it.old_types.now c.args.new.now c.args.old.now pair.operands.front.now pair.operands.back.now pair.others.front.now pair.others.back.now
+    (c.is_same_node.ensures.0 c.if-not-is_same_node.false) (pair.ensures.same it.new_types.now) (pair.ensures'.same it.old_types.now) c.if-operands-others.true in
+    let front = c.in_ok-agree.ensures.0 c.if-not-agree.false in
+    if-ok c.lists_agree-then-operands-others.result
+    (λ answer behind. (λ passed. whole.0 (front, behind.0 passed), λ agrees. behind.1 (whole.1 agrees).1)) c.lists_agree-then-operands-others.ensures
+
+-- ---- the trees of lists
+
+pub lists_agree-returns-then-list-others : goal.lists_agree-returns-then-list-others
+lists_agree-returns-then-list-others t c =
+    let it = c.args.it.now in
+    let above = view it.old_types.now c.args.above.now in
+    never (λ agree. c.if-list-others.true (lengths-agree (rewriting it) (label_of above) (spans_of above) it.new_types.now it.old_types.now c.args.list.now c.args.others.now agree))
+
+pub lists_agree-part_agrees-requires : goal.lists_agree-part_agrees-requires
+lists_agree-part_agrees-requires t c =
+    let it = c.args.it.now in
+    let lt = c.loop-i-test.true in
+    let counts = c.loop-i.invariant.0 in
+    let size = size-listed c.args.list.now c.loop-i.i c.index-list-i.result lt c.index-list-i.is in
+    let here = c.decreases in (
+      omega (arith, size, here),
+      (
+        known-listed (length it.new_types.now.shapes) c.args.list.now c.loop-i.i c.index-list-i.result lt c.index-list-i.is c.requires.new,
+        (
+          known-listed (length it.old_types.now.shapes) c.args.others.now c.loop-i.i c.index-others-i.result (omega (arith, lt, counts)) c.index-others-i.is c.requires.old,
+          c.requires.added,
+        ),
+      ),
+    )
+
+pub lists_agree-returns-then-not-branch : goal.lists_agree-returns-then-not-branch
+lists_agree-returns-then-not-branch t c =
+    let it = c.args.it.now in
+    let above = view it.old_types.now c.args.above.now in
+    let lt = c.loop-i-test.true in
+    let counts = c.loop-i.invariant.0 in
+    let next = next-listed (rewriting it) (label_of above) (spans_of above) it.new_types.now it.old_types.now c.args.list.now c.args.others.now c.loop-i.i c.index-list-i.result c.index-others-i.result lt (omega (arith, lt, counts))
+    c.index-list-i.is c.index-others-i.is in
+    denied c.in_ok-part_agrees.field-0 c.in_ok-part_agrees.ensures c.if-not-branch.true (λ whole. (next.1 (c.loop-i.invariant.1.1 whole)).0)
+
+pub lists_agree-loop-i-preserved : goal.lists_agree-loop-i-preserved
+lists_agree-loop-i-preserved t c =
+    let it = c.args.it.now in
+    let R = rewriting it in
+    let above = view it.old_types.now c.args.above.now in
+    let lt = c.loop-i-test.true in
+    let counts = c.loop-i.invariant.0 in
+    let next = next-listed R (label_of above) (spans_of above) it.new_types.now it.old_types.now c.args.list.now c.args.others.now c.loop-i.i c.index-list-i.result c.index-others-i.result lt (omega (arith, lt, counts))
+    c.index-list-i.is c.index-others-i.is in
+    let more : suc c.loop-i.i ≡ c.loop-i.i + 1 = omega arith in (
+      counts,
+      subst (λ (n : ℕ). ListsAgree R (label_of above) (spans_of above) it.new_types.now it.old_types.now (drop n c.args.list.now) (drop n c.args.others.now)
+          ↔ ListsAgree R (label_of above) (spans_of above) it.new_types.now it.old_types.now c.args.list.now c.args.others.now) more
+          (λ rest. c.loop-i.invariant.1.0 (next.0 (c.in_ok-part_agrees.ensures.0 c.if-not-branch.false, rest)), λ whole. (next.1 (c.loop-i.invariant.1.1 whole)).1),
+    )
 
 -- ---- commas
 

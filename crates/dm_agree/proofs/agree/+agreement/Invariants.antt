@@ -9,7 +9,7 @@ use Rattle.dm_agree.specs.Agreement.{Agrees}
 use Rattle.dm_agree.specs.Arguments.{AllPassed, seen_all}
 use Rattle.dm_agree.specs.Comparing.{rewriting}
 use Rattle.dm_agree.specs.Parts.{nows}
-use Rattle.dm_agree.proofs.AgreeLemmas.{PartsAgree}
+use Rattle.dm_agree.proofs.AgreeLemmas.{ListsAgree, PartsAgree}
 use Rattle.dm_agree.proofs.agree.+agreement.Given as goal
 
 abbrev pub decreases-agrees : goal.decreases-agrees
@@ -34,6 +34,15 @@ decreases-agrees_apart_from_runs-loop-at l = size-Core l.at
 
 abbrev pub decreases-all_agree : goal.decreases-all_agree
 decreases-all_agree l = 7 * most size-Core (nows l.parts.now) + 5
+
+abbrev pub decreases-lists_agree : goal.decreases-lists_agree
+decreases-lists_agree l = 7 * most size-Core l.list.now + 5
+
+abbrev pub invariant-lists_agree-loop-i : goal.invariant-lists_agree-loop-i
+invariant-lists_agree-loop-i l =
+    (length l.list ≡ length l.others)
+    × (ListsAgree (rewriting l.it) (label_of (view l.it.old_types.now l.above)) (spans_of (view l.it.old_types.now l.above)) l.it.new_types.now l.it.old_types.now (drop l.i l.list) (drop l.i l.others)
+    ↔ ListsAgree (rewriting l.it) (label_of (view l.it.old_types.now l.above)) (spans_of (view l.it.old_types.now l.above)) l.it.new_types.now l.it.old_types.now l.list l.others)
 
 abbrev pub decreases-part_agrees : goal.decreases-part_agrees
 decreases-part_agrees l = 7 * size-Core l.part.now + 4

@@ -13,23 +13,23 @@ loop-one-preserved c =
     let front = c.pop.new.self.items in
     let one : Waiting = c.in-Some.one in
     record {
-      all = λ types span.
-          c.in_ok-enter.ensures.all types span
+      all = λ types span wanted.
+          c.in_ok-enter.ensures.all types span wanted
           ∙ (sym (ap (λ (rest : Bool). has c.loop-one.places.all span || rest) (waits-last (λ (w : Waiting). stands_in span (view types w.tree.now)) all front one c.in-Some.ensures.items))
-          ∙ c.loop-one.invariant.all types span);
-      unevaluated = λ types span.
-          c.in_ok-enter.ensures.unevaluated types span
+          ∙ c.loop-one.invariant.all types span wanted);
+      unevaluated = λ types span wanted.
+          c.in_ok-enter.ensures.unevaluated types span wanted
           ∙ (sym (ap (λ (rest : Bool). has c.loop-one.places.unevaluated span || rest) (waits-last (λ (w : Waiting). is_unevaluated_below w.unevaluated span (view types w.tree.now)) all front one c.in-Some.ensures.items))
-          ∙ c.loop-one.invariant.unevaluated types span);
+          ∙ c.loop-one.invariant.unevaluated types span wanted);
     }
 
 pub returns-clause-all : goal.returns-clause-all
-returns-clause-all c types span =
+returns-clause-all c types span wanted =
     let none : c.loop-one.waiting.items ≡ [] = search rules in
-    sym (or-false (has c.loop-one.places.all span)) ∙ (ap (λ (waiting : List Waiting). has c.loop-one.places.all span || waits types span waiting) (sym none) ∙ c.loop-one.invariant.all types span)
+    sym (or-false (has c.loop-one.places.all span)) ∙ (ap (λ (waiting : List Waiting). has c.loop-one.places.all span || waits types span waiting) (sym none) ∙ c.loop-one.invariant.all types span wanted)
 
 pub returns-clause-unevaluated : goal.returns-clause-unevaluated
-returns-clause-unevaluated c types span =
+returns-clause-unevaluated c types span wanted =
     let none : c.loop-one.waiting.items ≡ [] = search rules in
     sym (or-false (has c.loop-one.places.unevaluated span))
-    ∙ (ap (λ (waiting : List Waiting). has c.loop-one.places.unevaluated span || waits_unevaluated types span waiting) (sym none) ∙ c.loop-one.invariant.unevaluated types span)
+    ∙ (ap (λ (waiting : List Waiting). has c.loop-one.places.unevaluated span || waits_unevaluated types span waiting) (sym none) ∙ c.loop-one.invariant.unevaluated types span wanted)
