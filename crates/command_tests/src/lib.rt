@@ -1,4 +1,4 @@
-//! Tests of what the commands stand on: manifests, reports and generated units.
+//! Tests of what the commands stand on: words, manifests, reports and generated units.
 #![tactic(auto)]
 
 #[cfg(test)]
@@ -7,3 +7,5 @@ mod generated;
 mod manifest;
 #[cfg(test)]
 mod report;
+#[cfg(test)]
+mod words;

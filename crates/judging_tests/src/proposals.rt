@@ -4,7 +4,7 @@
 ghost use Rattle.dm_judge.specs.Units.{AreTyped, AreWhole};
 
 use crate::projects::{Project, project_of};
-use dm_judge::{Proposal, Units, indexes_of, propose_in};
+use dm_judge::{Proposal, Units, indexes_of, names_of, propose_in};
 use dm_readings::definitions;
 use dm_token::{Definition, Place, Text};
 use std::alloc::Global;
@@ -44,10 +44,10 @@ fn put_proposals(
     alloc: Global,
     out: &mut String,
     names: &[Text],
-    units: &Units,
+    units: &mut Units,
     definitions: &[&Definition],
 ) -> Result<(), Fail>
-    requires { AreWhole units.now }
+    requires { AreWhole units.old }
 {
     for definition in definitions {
         out.push_str("\n")?;
@@ -64,14 +64,15 @@ fn proposals(alloc: Global, project: &Project) -> Result<String, Fail>
 {
     let readings = project.readings.as_slice();
     let indexes = indexes_of(alloc, readings)?;
-    let units = Units::of(alloc, indexes.as_slice())?;
+    let names = names_of(alloc, readings)?;
+    let mut units = Units::of(alloc, indexes.as_slice(), names.as_slice())?;
     let found = definitions(alloc, readings)?;
     let mut out = String::new(alloc);
     put_proposals(
         alloc,
         &mut out,
         project.loader.names(),
-        &units,
+        &mut units,
         found.as_slice(),
     )?;
     Ok(out)

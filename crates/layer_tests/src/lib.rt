@@ -1,4 +1,5 @@
-//! Tests of the calls of `dm_type`, `dm_tree`, `dm_syn`, `dm_search`, `dm_expand` and `dm_unit`, called as the layers above call them.
+//! Tests of the calls of `dm_type`, `dm_tree`, `dm_syn`, `dm_search`, `dm_expand`, `dm_unit`, `dm_runs` and `dm_sites`, called as the layers
+//! above call them.
 #![tactic(auto)]
 
 #[cfg(test)]
@@ -8,7 +9,11 @@ mod folders;
 #[cfg(test)]
 mod known_types;
 #[cfg(test)]
+mod runs;
+#[cfg(test)]
 mod search;
+#[cfg(test)]
+mod sites;
 #[cfg(test)]
 mod syntax;
 #[cfg(test)]

@@ -25,7 +25,7 @@ fn unit<R: Abort + AllocGlobal>(rt: &R, define: &str) -> Result<Unit, Fail> {
 }
 
 /// Whether each define is no longer than a file.
-fn are_short(defines: &[Text]) -> bool
+pub fn are_short(defines: &[Text]) -> bool
     ensures { IsTrue result → All (λ define. length define ≤ limit) defines.now }
 {
     defines

@@ -42,7 +42,7 @@ fn names_in(rt: &HostRuntime, folder: &str) -> Result<usize, Fail> {
 #[test]
 fn real_files_are_read(rt: HostRuntime) -> Result<(), Fail> {
     make_folder(&rt, "dm_io_read")?;
-    assert_eq!(rt; read(&rt, "dm_io_read/a.c", 5)?, got(&rt, b"12345")?);
+    assert_eq!(rt; read(&rt, "dm_io_read/a.c", 5)?, got(rt.alloc(), b"12345")?);
     assert_eq!(rt; read(&rt, "dm_io_read/a.c", 4)?, Got::Long);
     for absent in [
         "dm_io_read/b.c",
@@ -80,7 +80,7 @@ fn a_real_file_of_a_mebibyte_is_read_and_written(rt: HostRuntime) -> Result<(), 
         large.as_bytes()
     );
     assert_eq!(rt; names_in(&rt, "dm_io_large")?, 1);
-    let whole = got(&rt, large.as_bytes())?;
+    let whole = got(rt.alloc(), large.as_bytes())?;
     assert_eq!(rt; folder.read(rt.alloc(), &name, 1_048_576)?, whole);
     assert_eq!(rt; folder.read(rt.alloc(), &name, 1_048_575)?, Got::Long);
     fs::remove_dir_all(&rt, "dm_io_large")?;

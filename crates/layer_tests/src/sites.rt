@@ -9,7 +9,6 @@ use dm_tree::{
 use dm_type::{Shape, TypeId, Types};
 use std::alloc::Global;
 use std::process::Abort;
-use std::test::Fail;
 
 /// Some tokens.
 fn tokens(first: u32, after: u32) -> Span {
@@ -94,14 +93,41 @@ fn function(alloc: Global, int: TypeId, value: Core) -> Result<CoreExternal, Mem
     })
 }
 
-/// A unit with a static object, whose initialiser is 7, and a function that returns a value.
-fn unit(alloc: Global, int: TypeId, value: Core) -> Result<CoreUnit, Memory> {
+/// An automatic object and a static one.
+fn objects(alloc: Global, int: TypeId) -> Result<List<Declared>, Memory> {
     let mut declared = List::new(alloc);
     declared.push(object(alloc, int, false)?)?;
     declared.push(object(alloc, int, true)?)?;
+    Ok(declared)
+}
+
+/// Two external declarations.
+fn pair(
+    alloc: Global,
+    first: CoreExternal,
+    second: CoreExternal,
+) -> Result<List<CoreExternal>, Memory> {
     let mut externals = List::new(alloc);
-    externals.push(declaration(alloc, node(Form::Number(7), int, 3, 4))?)?;
-    externals.push(function(alloc, int, value)?)?;
+    externals.push(first)?;
+    externals.push(second)?;
+    Ok(externals)
+}
+
+/// The declaration of a static object, whose initialiser is 7, and a function.
+fn externals(
+    alloc: Global,
+    int: TypeId,
+    function: CoreExternal,
+) -> Result<List<CoreExternal>, Memory> {
+    let static_object = declaration(alloc, node(Form::Number(7), int, 3, 4))?;
+    pair(alloc, static_object, function)
+}
+
+/// A unit with a static object, whose initialiser is 7, and a function that returns a value.
+fn unit(alloc: Global, int: TypeId, value: Core) -> Result<CoreUnit, Memory> {
+    let function = function(alloc, int, value)?;
+    let externals = externals(alloc, int, function)?;
+    let declared = objects(alloc, int)?;
     Ok(CoreUnit {
         argv: int,
         declared,
@@ -109,18 +135,49 @@ fn unit(alloc: Global, int: TypeId, value: Core) -> Result<CoreUnit, Memory> {
     })
 }
 
-/// A unit whose function returns `1 + (x)`, where `1` is the token 11 and `x` the token 14 inside its parentheses.
-fn sum(alloc: Global) -> Result<CoreUnit, Memory> {
-    let mut types = Types::new(alloc)?;
-    let int = types.intern(Shape::Integer(Kind::Int))?;
-    let one = Boxed::new(alloc, node(Form::Number(1), int, 11, 12))?;
+/// `1 + (x)`, where `1` is the token 11 and `x` the token 14 inside its parentheses.
+fn one_and_object(alloc: Global, int: TypeId) -> Result<Core, Memory> {
     let read = enclosed_read(alloc, int, 14, tokens(13, 16))?;
     let read = Boxed::new(alloc, read)?;
-    unit(
-        alloc,
-        int,
-        node(Form::Binary(Op::Add, one, read), int, 11, 16),
-    )
+    let one = Boxed::new(alloc, node(Form::Number(1), int, 11, 12))?;
+    Ok(node(Form::Binary(Op::Add, one, read), int, 11, 16))
+}
+
+/// The number of the type `int`.
+fn int_of(alloc: Global) -> Result<TypeId, Memory> {
+    let mut types = Types::new(alloc)?;
+    types.intern(Shape::Integer(Kind::Int))
+}
+
+/// A unit whose function returns that sum.
+fn sum(alloc: Global) -> Result<CoreUnit, Memory> {
+    let int = int_of(alloc)?;
+    let sum = one_and_object(alloc, int)?;
+    unit(alloc, int, sum)
+}
+
+/// Checks the way to a place.
+fn expect_way<R: Abort + AllocGlobal>(
+    rt: &R,
+    sites: &Sites,
+    number: usize,
+    wanted: &[usize],
+) -> Result<(), Memory> {
+    let way = sites.path(rt.alloc(), number)?;
+    assert!(rt; way.items() == wanted);
+    Ok(())
+}
+
+/// Checks the length of the way to a place.
+fn expect_length<R: Abort + AllocGlobal>(
+    rt: &R,
+    sites: &Sites,
+    number: usize,
+    wanted: usize,
+) -> Result<(), Memory> {
+    let way = sites.path(rt.alloc(), number)?;
+    assert_eq!(rt; way.items().len(), wanted);
+    Ok(())
 }
 
 /// Checks which places are found by which tokens.
@@ -148,26 +205,34 @@ fn expect_initialiser<R: Abort>(rt: &R, sites: &Sites) {
 }
 
 #[test]
-fn places_are_found_by_their_tokens(rt: HostRuntime) -> Result<(), Fail> {
+fn places_are_found_by_their_tokens(rt: HostRuntime) -> Result<(), Memory> {
     let unit = sum(rt.alloc())?;
     let sites = Sites::of(rt.alloc(), &unit)?;
     expect_found(&rt, &sites);
     expect_initialiser(&rt, &sites);
-    let way = sites.path(rt.alloc(), 4)?;
-    assert!(rt; way.items() == [1usize, 0].as_slice());
-    Ok(())
+    expect_way(&rt, &sites, 4, &[1, 0])
 }
 
-/// A unit whose function returns 100,001 numbers behind one another, with commas between them.
-fn commas(alloc: Global) -> Result<CoreUnit, Memory> {
-    let mut types = Types::new(alloc)?;
-    let int = types.intern(Shape::Integer(Kind::Int))?;
+/// 100,001 numbers behind one another, with commas between them.
+fn numbers(alloc: Global, int: TypeId) -> Result<Core, Memory> {
     let mut tree = node(Form::Number(0), int, 20, 21);
     for _part in 0..100000u32 {
-        let last = Boxed::new(alloc, node(Form::Number(1), int, 22, 23))?;
-        let first = Boxed::new(alloc, tree)?;
-        tree = node(Form::Comma(first, last), int, 20, 30);
+        tree = followed(alloc, int, tree)?;
     }
+    Ok(tree)
+}
+
+/// A tree with a comma and one number behind it.
+fn followed(alloc: Global, int: TypeId, tree: Core) -> Result<Core, Memory> {
+    let first = Boxed::new(alloc, tree)?;
+    let last = Boxed::new(alloc, node(Form::Number(1), int, 22, 23))?;
+    Ok(node(Form::Comma(first, last), int, 20, 30))
+}
+
+/// A unit whose function returns these.
+fn commas(alloc: Global) -> Result<CoreUnit, Memory> {
+    let int = int_of(alloc)?;
+    let tree = numbers(alloc, int)?;
     unit(alloc, int, tree)
 }
 
@@ -178,11 +243,9 @@ fn expect_ends<R: Abort>(rt: &R, sites: &Sites) {
 }
 
 #[test]
-fn a_hundred_thousand_commas_are_walked_over(rt: HostRuntime) -> Result<(), Fail> {
+fn a_hundred_thousand_commas_are_walked_over(rt: HostRuntime) -> Result<(), Memory> {
     let unit = commas(rt.alloc())?;
     let sites = Sites::of(rt.alloc(), &unit)?;
     expect_ends(&rt, &sites);
-    let way = sites.path(rt.alloc(), 100001)?;
-    assert_eq!(rt; way.items().len(), 100000);
-    Ok(())
+    expect_length(&rt, &sites, 100001, 100000)
 }

@@ -1,6 +1,6 @@
 //! Words that are not good.
 
-use crate::good::words_of;
+use super::good::words_of;
 use dm_words::read_request;
 use std::process::Abort;
 use std::test::Fail;

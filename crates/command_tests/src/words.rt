@@ -1,0 +1,4 @@
+//! What words ask for.
+
+mod bad;
+mod good;

@@ -1,7 +1,0 @@
-//! Tests of what words ask for.
-#![tactic(auto)]
-
-#[cfg(test)]
-mod bad;
-#[cfg(test)]
-mod good;
