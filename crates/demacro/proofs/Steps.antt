@@ -4,11 +4,10 @@ use Rattle.std.specs.declared.io.ErrorKind.{ErrorKind}
 use Rattle.dm_token.specs.declared.stop.Memory.{Memory}
 use Rattle.dm_lines.specs.Outside.{Outside, Puts, KeepsFiles}
 use Rattle.dm_lines.specs.Statuses as statuses
-use Rattle.dm_words.specs.Requests.{Request, gen, Asks}
-use Rattle.dm_apply.specs.Generation.{EndsGeneratingAs}
+use Rattle.dm_words.specs.Requests.{Request, Asks}
 use Rattle.demacro.specs.Usage.{usage_line}
 use Rattle.demacro.specs.Arguments.{PutsUsage, EndsUnread, is_want_of_memory}
-use Rattle.demacro.specs.Endings.{Ends, EndsAs, EndsForAs, IsWanting, LeavesFolder}
+use Rattle.demacro.specs.Endings.{Ends, EndsAs, EndsForAs, IsWanting}
 
 -- a call ends for want of memory, whatever its words are
 pub ends_wanting : (words : List (List ℕ)) (before after : Outside) → IsWanting before after → Ends words before after statuses.memory_wanted
@@ -35,10 +34,3 @@ ends_unasked words before after (Err error) none keeps puts is unwritten = (keep
 pub ends_asked : (words : List (List ℕ)) (request : Request) (before after : Outside) (result : Result ℕ Memory) → Asks words (Some request) → EndsForAs request before after result → EndsAs words before after result
 ends_asked words request before after (Ok status) asks ends = inl (Some request, asks, ends)
 ends_asked words request before after (Err error) asks ends = ends
-
--- a call for a generated project leaves the folder alone
-pub ends_generating : (count same : ℕ) (before after : Outside) (result : Result ℕ Memory) → count ≡ same → LeavesFolder before after
-    → EndsGeneratingAs count before.written after.written before.sink_faults after.sink_faults result → EndsForAs (gen same) before after result
-ends_generating count same before after (Ok status) is leaves ends =
-    (leaves, subst (λ n. EndsGeneratingAs n before.written after.written before.sink_faults after.sink_faults (Ok status)) is ends)
-ends_generating count same before after (Err error) is leaves ends = (leaves.0, ends)

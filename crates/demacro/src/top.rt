@@ -48,6 +48,7 @@ pub fn run<F: Folder, S: Sink>(alloc: Global, words: &[String], folder: &mut F, 
     ensures folder_later { F.faults folder.old ≤ F.faults folder.new }
     ensures sink_later { S.faults out.old ≤ S.faults out.new }
 {
+    // The laws on which the clauses `applied` and `complete` rest.
     one_request();
     complete_request();
     match run_words(alloc, words, folder, out) {

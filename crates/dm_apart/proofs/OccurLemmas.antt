@@ -21,10 +21,6 @@ use Rattle.dm_runs.specs.Runs.{expanded, first_part, is_at, occurrence_in, run_i
 use Rattle.dm_runs.specs.Spans.{span_of, tokens_under}
 use Rattle.dm_apart.specs.Apart.{HasOccurrence, IsNamed, IsReadAs}
 
-or_right : (a b : Bool) → b ≡ true → (a || b) ≡ true
-or_right true b e = refl
-or_right false b e = e
-
 -- ---- names
 
 abbrev AnyOf : {A : Type 0} → List A → (A → Bool) → Type 0

@@ -205,11 +205,6 @@ module _ (change : Called) (closed quiet : ℕ → Bool) (safe : Tree → Bool) 
   unfolding Goes
   wrong_later program s t step (n, u, goes, cause, place, e) = (suc n, u, (t, step, goes), cause, place, e)
 
-  wrong_after : (program : Program) (n : ℕ) (s t : State) → Goes (machine_of program) n s t → GoesWrong (machine_of program) t → GoesWrong (machine_of program) s
-  unfolding Goes
-  wrong_after program zero s t e wrong = subst (GoesWrong (machine_of program)) (sym e) wrong
-  wrong_after program (suc n) s t (middle, step, rest) wrong = wrong_later program s middle step (wrong_after program n middle t rest wrong)
-
   -- where a run goes wrong beside more objects, it goes wrong without them
   wrong_without : (n : ℕ) (program : Program) (more : Memory) (state u : State) → IsSettled state → HasAll more state.world.memory → Goes (machine_of program) n (with_memory state more) u
       → (cause : Cause) (place : Place) → u.standing ≡ undefined cause place → GoesWrong (machine_of program) state

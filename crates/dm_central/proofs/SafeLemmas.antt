@@ -114,9 +114,6 @@ module _ (change : Called) (stage : Stage) (mode : Mode) (world : World) (locks 
   unbegun_none : (beside : List Effect) (run other : Run) → AreUnbegun change stage mode beside run other → (lock : At) → IsAmong lock (locks_in other) → ⊥
   unbegun_none beside run other h lock l = subst (IsAmong lock) (ap locks_in h.stands ∙ no_locks h.was) l
 
-  if_effects : (b : Bool) (xs : List Effect) → b ≡ true → (if b then xs else []) ≡ xs
-  if_effects b xs e = ap (λ t. if t then xs else []) e
-
   -- those of the others are among their effects
   open_lock : (before beside : List Effect) (opens : Open) (parts others : Runs) → RunsAgree change stage mode world before beside opens parts others → (lock : At) → IsAmong lock (locks_in_all others) → Blocks (open_effects stage opens others) lock
   open_lock before beside opens no_runs no_runs h lock l = absurd l

@@ -52,9 +52,6 @@ DeclaredRises automatic low one high = Rises automatic low (numbers_in one.local
 pub local_wide : IsWide LocalRises
 local_wide automatic lower low high higher local l h r = wider automatic lower low high higher (local.declarator.declared ∷ []) l h r
 
-pub locals_wide : IsWide LocalsRise
-locals_wide automatic lower low high higher locals l h r = wider automatic lower low high higher (numbers_in locals) l h r
-
 -- ---- the number of an entry
 
 typedef_fixed : (sort : Sort) → is_typedef sort ≡ true → is_automatic_sort sort ≡ false

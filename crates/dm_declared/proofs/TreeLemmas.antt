@@ -2,7 +2,7 @@
 --     Goes automatic low tree high      the numbers that its declarators declare rise, and no item of a `switch` in it is a declaration
 --     GoAll automatic low parts high      so do those of some trees
 use Rattle.std.specs.Prelude.{◌≡◌, refl, ℕ, ◌≤◌, Bool, true, false, not, List, [], ◌∷◌, ◌++◌}
-use Rattle.std.proofs.Common.{sym, ap, ap₂, ◌∙◌, subst, true≢false, append_assoc, arith}
+use Rattle.std.proofs.Common.{sym, ap₂, subst, true≢false, arith}
 use Rattle.dm_tree.specs.Trees.{Label, declare, switch, is_statement, Tree, Trees, node, no_trees, more_trees, trees}
 use Rattle.dm_effect.specs.Scoped.{declared_here, declared_by}
 use Rattle.dm_meaning.specs.Wholes.{is_expression, are_expressions, all_expressions}
@@ -69,18 +69,3 @@ module _ (automatic : ℕ → Bool) where
   expressions_go low high (first ∷ rest) e h =
       value_then low low high first (trees rest) (and_left (is_expression first) (all_expressions rest) e) (omega arith)
       (expressions_go low high rest (and_right (is_expression first) (all_expressions rest) e) h)
-
-  -- the numbers of lists behind one another, and their switches
-  numbers_list : (some more : List Tree) → numbers_below_all (trees (some ++ more)) ≡ numbers_below_all (trees some) ++ numbers_below_all (trees more)
-  numbers_list [] more = refl
-  numbers_list (first ∷ rest) more = ap (λ ds. numbers_below first ++ ds) (numbers_list rest more) ∙ sym (append_assoc (numbers_below first) (numbers_below_all (trees rest)) (numbers_below_all (trees more)))
-
-  switches_list : (some more : List Tree) → AllSwitchesDeclareNothing (trees some) → AllSwitchesDeclareNothing (trees more) → AllSwitchesDeclareNothing (trees (some ++ more))
-  switches_list [] more g h = h
-  switches_list (first ∷ rest) more g h = (g.0, switches_list rest more g.1 h)
-
-  pub list_then : (low mid high : ℕ) (some more : List Tree) → GoAll automatic low (trees some) mid → GoAll automatic mid (trees more) high → GoAll automatic low (trees (some ++ more)) high
-  list_then low mid high some more g h = (
-    subst (λ ds. Rises automatic low ds high) (sym (numbers_list some more)) (joined automatic low mid high (numbers_below_all (trees some)) (numbers_below_all (trees more)) g.0 h.0),
-    switches_list some more g.1 h.1,
-  )

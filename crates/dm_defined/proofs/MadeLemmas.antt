@@ -58,10 +58,6 @@ all_append : {A : Type 0} (P : A → Type 0) (front back : List A) → AllByRecu
 all_append P [] back h k = k
 all_append P (x ∷ front) back h k = (h.0, all_append P front back h.1 k)
 
-all_both : {A : Type 0} (P Q : A → Type 0) (items : List A) → AllByRecursion P items → AllByRecursion Q items → AllByRecursion (λ x. P x × Q x) items
-all_both P Q [] h k = tt
-all_both P Q (x ∷ items) h k = ((h.0, k.0), all_both P Q items h.1 k.1)
-
 -- ---- numbers of names
 
 abbrev called : Catalogue → ℕ → List ℕ

@@ -23,10 +23,6 @@ abbrev pub Ascend : ℕ → List PpToken → Type 0
 Ascend from [] = Unit {0}
 Ascend from (t ∷ ts) = (from ≤ t.place.byte) × Ascend (t.place.byte + 1) ts
 
-ascend_weaker : (from later : ℕ) (ts : List PpToken) → from ≤ later → Ascend later ts → Ascend from ts
-ascend_weaker from later [] le h = tt
-ascend_weaker from later (t ∷ ts) le h = (let begins = h.0 in omega (arith, le, begins), h.1)
-
 -- ---- the tokens of a cut
 
 no_kind : {A : Type 0} (x : A) → None ≡ Some x → ⊥

@@ -30,10 +30,6 @@ printable-other byte other is isn't = by (eqb byte other) refl
     by true e = absurd (true≢false (sym is ∙ ap printable (eqb-true byte other e) ∙ isn't))
     by false e = refl
 
-and-false : (a b : Bool) → a ≡ false → (a && b) ≡ false
-and-false true b e = absurd (true≢false e)
-and-false false b e = refl
-
 and-left : (a b : Bool) → b ≡ false → (a && b) ≡ false
 and-left true b e = e
 and-left false b e = refl

@@ -35,7 +35,7 @@ use Rattle.dm_estanding.proofs.DeclaringLemmas.{below-held}
 use Rattle.dm_estanding.proofs.DefiningLemmas.{summary-renamed}
 use Rattle.dm_estanding.proofs.LawfulLemmas.{remembers-itself, remembers-on, opened-lawful, opened-remembers, closed-lawful, closed-remembers, knowing-names, knowing-lawful, knowing-remembers}
 use Rattle.dm_estanding.proofs.ScopeLemmas.{take-appended}
-use Rattle.dm_estanding.proofs.WithinLemmas.{within-itself, within-on, within-grown}
+use Rattle.dm_estanding.proofs.WithinLemmas.{within-itself, within-on}
 
 -- ---- progress
 
@@ -129,21 +129,6 @@ stands-grown later old new links after s g same stands = record {
   known = stands.known ∙ grown later old new g;
   links = subst (λ it. Summarises later it s.known.declared s.linked) (sym same) stands.links;
 }
-
--- types are numbered in between
-pub grows : {A : Type 0} (old now new : Held) (whole left : List Shape → Standing → Progress A) → Arrives old now whole left → Grows now.known new.known → new.links ≡ now.links
-    → new.retyped.items ≡ now.retyped.items → Arrives old new whole left
-grows old now new whole left a g links retyped =
-    moves old now new whole left left (within-grown now now new (within-itself now) g retyped) a
-    (λ later on behind stands lawful. (
-      behind,
-      refl,
-      record {
-        stands = stands-grown later now.known new.known now.links new.links behind g links stands;
-        lawful = lawful;
-        remembers = remembers-itself behind;
-      },
-    ))
 
 -- a rule holds
 pub holds : {A : Type 0} (old now : Held) (whole next : List Shape → Standing → Progress A) (test : List Shape → Standing → Bool) (rule at : ℕ)

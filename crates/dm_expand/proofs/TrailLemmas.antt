@@ -163,10 +163,6 @@ same-outer (first ∷ outer) (one ∷ other) mark last is =
     let inner : outer ≡ other = same-outer outer other mark last rest in
     cc
 
-pub no-marks : (marks : List Mark) → length marks ≡ 0 → marks ≡ []
-no-marks [] none = refl
-no-marks (mark ∷ marks) none = absurd (omega (arith, none))
-
 -- the first mark is that of a beginning
 pub first-front : (front whole : List Mark) → IsPrefix front whole → (length front ≡ 0 → whole ≡ []) → slice_get front 0 ≡ slice_get whole 0
 first-front [] whole is all = ap (λ (marks : List Mark). slice_get marks 0) (sym (all refl))

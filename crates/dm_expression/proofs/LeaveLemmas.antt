@@ -28,14 +28,6 @@ use Rattle.dm_expression.proofs.TakenLemmas.{weight-append}
 
 -- ---- locks in front of the place, of the operands, and behind the place
 
-take-front : {X : Type 0} (xs ys : List X) → take (length xs) (xs ++ ys) ≡ xs
-take-front [] ys = refl
-take-front (x ∷ xs) ys = ap (λ rest. x ∷ rest) (take-front xs ys)
-
-drop-front : {X : Type 0} (xs ys : List X) → drop (length xs) (xs ++ ys) ≡ ys
-drop-front [] ys = refl
-drop-front (x ∷ xs) ys = drop-front xs ys
-
 drop-twice : {X : Type 0} (m n : ℕ) (xs : List X) → drop n (drop m xs) ≡ drop (m + n) xs
 drop-twice zero n xs = ap (λ k. drop k xs) (none-before n)
   where

@@ -1,26 +1,17 @@
--- The step of a node, by its form in the code, and the locks that it sees.
-use Rattle.std.proofs.Common.{rules, ◌≡◌, ℕ, suc, ◌+◌, ◌-◌, Bool, true, false, List, [], ◌∷◌, ◌++◌, map, length, take, drop, refl, sym, ap, ap₂, subst, ◌∙◌, arith}
+-- The locks that the step of a node sees.
+use Rattle.std.proofs.Common.{◌≡◌, ℕ, suc, ◌+◌, ◌-◌, List, [], ◌∷◌, ◌++◌, map, length, take, drop, refl, sym, ap, ap₂, subst, ◌∙◌, arith}
 use Rattle.std.proofs.lemmas.List.{length-drop, take-append-drop, map-append}
-use Rattle.dm_token.specs.declared.place.Place.{Place}
-use Rattle.dm_type.specs.CTypes.{CType}
-use Rattle.dm_type.specs.Tables.{Table, type_of}
-use Rattle.dm_tree.specs.declared.tree.Core.{Core, out-Core}
+use Rattle.dm_type.specs.Tables.{Table}
 use Rattle.dm_tree.specs.declared.tree.Core as q
-use Rattle.dm_tree.specs.declared.tree.Form.TheVariants as form
-use Rattle.dm_tree.specs.Trees as label
-use Rattle.dm_tree.specs.Trees.{Label, both, either, choose, comma, call, sizeof_tree, Tree, node}
-use Rattle.dm_tree.specs.Views.{Opened, opened, opened_form, view, node_of}
-use Rattle.dm_tree.proofs.ViewLemmas.{view-core, opened-Both, opened-Either, opened-Choose, opened-Comma}
+use Rattle.dm_tree.specs.Trees.{Tree, node}
+use Rattle.dm_tree.specs.Views.{view}
 use Rattle.dm_meaning.specs.Values.{At}
-use Rattle.dm_meaning.specs.Operations.{World, Scene, truth_of}
-use Rattle.dm_meaning.specs.Running.{Run, done, no_runs, more_runs, begun, locks_in, locks_in_all, open_of}
-use Rattle.dm_meaning.specs.Expressions.{goes, by_truth, both_chosen, either_chosen, operand_chosen, going_on, call_step, function_named, value_of}
-use Rattle.dm_meaning.specs.Running as running
+use Rattle.dm_meaning.specs.Running.{Run, locks_in, locks_in_all, open_of}
 use Rattle.dm_row.specs.declared.item.Item.{Item}
 use Rattle.dm_row.specs.declared.item.Item.TheVariants.{Done, Waits}
 use Rattle.dm_row.specs.Counts.{weight_in}
 use Rattle.dm_postfix.specs.Postfix.{Evaluated, Slots, no_slots, operand, closed, arity, closed_locks, locks_of, AreUnlocked}
-use Rattle.dm_postfix.specs.Reductions.{as_operand, filled, step_at}
+use Rattle.dm_postfix.specs.Reductions.{filled}
 use Rattle.dm_postfix.proofs.BegunLemmas.{closed-begun}
 use Rattle.dm_postfix.proofs.HoleLemmas.{locks-items}
 use Rattle.dm_expression.specs.declared.waiting.Doing.{Doing}
@@ -30,66 +21,6 @@ use Rattle.dm_expression.specs.Left.{seen}
 use Rattle.dm_expression.specs.Standing.{viewed, Stands}
 use Rattle.dm_expression.specs.Taken.{dones}
 use Rattle.dm_expression.specs.Waiting.{waiting_of}
-
--- ---- nodes that evaluate some of their operands
-
--- a result as a tree
-abbrev pub run_done : Evaluated → Run
-run_done one = done one.kind one.result one.locks
-
-module _ (types : Table) (core : Core) (scene : Scene) (world : World) (held : List At) where
-  abbrev kind-of-core : CType
-  kind-of-core = type_of types (out-Core core).kind
-
-  abbrev place-of-core : Place
-  place-of-core = (out-Core core).place
-
-  abbrev tree-of : Opened → Tree
-  tree-of form = node_of form kind-of-core (out-Core core).inner (out-Core core).outer place-of-core
-
-  by-form : (form : Opened) (operands : List Evaluated) → opened_form types (out-Core core).form ≡ form
-      → step_at scene world held (waiting_of Evaluates (view types core)) operands ≡ step_at scene world held (waiting_of Evaluates (tree-of form)) operands
-  by-form form operands is = ap (λ tree. step_at scene world held (waiting_of Evaluates tree) operands) (view-core types core ∙ ap tree-of is)
-
-  pub step-both : (a b : Core) (one : Evaluated) → (out-Core core).form ≡ form.Both a b
-      → step_at scene world held (waiting_of Evaluates (view types core)) (one ∷ [])
-      ≡ by_truth world place-of-core (truth_of world.memory (value_of one.result)) (both_chosen kind-of-core place-of-core (more_runs (run_done one) (more_runs (begun (view types b)) no_runs)))
-  step-both a b one is = by-form (opened label.both (view types a ∷ view types b ∷ [])) (one ∷ []) (ap (opened_form types) is ∙ opened-Both types a b)
-
-  pub step-either : (a b : Core) (one : Evaluated) → (out-Core core).form ≡ form.Either a b
-      → step_at scene world held (waiting_of Evaluates (view types core)) (one ∷ [])
-      ≡ by_truth world place-of-core (truth_of world.memory (value_of one.result)) (either_chosen kind-of-core place-of-core (more_runs (run_done one) (more_runs (begun (view types b)) no_runs)))
-  step-either a b one is = by-form (opened label.either (view types a ∷ view types b ∷ [])) (one ∷ []) (ap (opened_form types) is ∙ opened-Either types a b)
-
-  pub step-choose : (a b c : Core) (one : Evaluated) → (out-Core core).form ≡ form.Choose a b c
-      → step_at scene world held (waiting_of Evaluates (view types core)) (one ∷ [])
-      ≡ by_truth world place-of-core (truth_of world.memory (value_of one.result))
-      (operand_chosen kind-of-core place-of-core (more_runs (run_done one) (more_runs (begun (view types b)) (more_runs (begun (view types c)) no_runs))))
-  step-choose a b c one is = by-form (opened label.choose (view types a ∷ view types b ∷ view types c ∷ [])) (one ∷ []) (ap (opened_form types) is ∙ opened-Choose types a b c)
-
-  pub step-comma : (a b : Core) (one : Evaluated) → (out-Core core).form ≡ form.Comma a b
-      → step_at scene world held (waiting_of Evaluates (view types core)) (one ∷ []) ≡ goes world (going_on running.gives_value kind-of-core place-of-core (begun (view types b)))
-  step-comma a b one is = by-form (opened label.comma (view types a ∷ view types b ∷ [])) (one ∷ []) (ap (opened_form types) is ∙ opened-Comma types a b)
-
-  opened-Call : (f : Core) (arguments : List Core) → opened_form types (form.Call f arguments) ≡ opened label.call (view types f ∷ map (view types) arguments)
-  opened-Call f arguments = search (rules, q.the_lemmas)
-
-  pub step-call : (f : Core) (arguments : List Core) (all : List Evaluated) → (out-Core core).form ≡ form.Call f arguments
-      → step_at scene world held (waiting_of Evaluates (view types core)) all
-      ≡ call_step scene world kind-of-core place-of-core (map (λ a. value_of a.result) (map as_operand all)) (function_named (begun (view types f)))
-  step-call f arguments all is = by-form (opened label.call (view types f ∷ map (view types) arguments)) all (ap (opened_form types) is ∙ opened-Call f arguments)
-
--- ---- all other nodes
-
--- a node whose step is that of its operator
-abbrev pub is_plain : Label → Bool
-is_plain both = false
-is_plain either = false
-is_plain choose = false
-is_plain comma = false
-is_plain call = false
-is_plain sizeof_tree = false
-is_plain label = true
 
 -- ---- locks
 

@@ -95,12 +95,6 @@ ready-viewed see types locks n (Waits one operands ∷ xs) h =
 
 module _ {R L : Type 0} (see : R → List L → postfix.Evaluated) (types : Table) (choice : ℕ) (old new : List (Item R Waiting) × List (Item R Waiting)) (locks first own last : List L) (run : Run) (all : Taken R)
     (stands : Stands see types old locks run) (taken : IsTaken choice old new all) (split : locks ≡ first ++ (own ++ last)) (first_weighed : length first ≡ weight_in new.0) (own_weighed : length own ≡ all.locks) where
-  front : List postfix.Item
-  front = viewed see types first new.0
-
-  behind : List postfix.Item
-  behind = viewed see types last new.1
-
   abbrev pub node_taken : postfix.Waiting
   node_taken = view_of_waiting types all.node
 

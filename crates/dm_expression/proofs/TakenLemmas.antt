@@ -1,5 +1,5 @@
 -- Results taken in front of the place, one after another.
-use Rattle.std.proofs.Common.{◌≡◌, ℕ, suc, ◌+◌, ◌-◌, ◌<◌, ◌≤◌, Bool, true, false, nat_lt, List, [], ◌∷◌, ◌++◌, if◌then◌else◌, refl, sym, ap, ap₂, subst, ◌∙◌, arith, append_assoc, append-nil, ltb-true}
+use Rattle.std.proofs.Common.{◌≡◌, ℕ, suc, ◌+◌, ◌-◌, ◌≤◌, List, [], ◌∷◌, ◌++◌, refl, sym, ap, ap₂, subst, ◌∙◌, arith, append_assoc, append-nil}
 use Rattle.dm_row.specs.declared.item.Item.{Item}
 use Rattle.dm_row.specs.declared.item.Item.TheVariants.{Done, Waits}
 use Rattle.dm_row.specs.Counts.{ready_in, results_after, weight_by, weight_in}
@@ -70,13 +70,6 @@ taken choice number old middle after new all count h there front operands locks 
   as_many = operands.as_many;
   chosen = ap (ready_in 0) (sym operands.in_front ∙ front) ∙ (h.counted ∙ chosen);
 }
-
-pub number-below : (choice count : ℕ) → 0 < count → number_of choice count < count
-number-below choice count some = below (nat_lt choice (count - 1)) refl
-  where
-    below : (b : Bool) → nat_lt choice (count - 1) ≡ b → (if b then choice else count - 1) < count
-    below true e = let h = ltb-true choice (count - 1) e in omega (arith, h, some)
-    below false e = omega (arith, some)
 
 pub weight-less : {R N : Type 0} (count : ℕ) (before after : List (Item R N) × List (Item R N)) (found : List R) → IsOperands count before after found → weight_in after.0 ≤ weight_in before.0
 weight-less {N = N} count before after found h = let all = ap weight_in h.in_front ∙ weight-append after.0 (dones h.pairs) in from (weight_in before.0) (weight_in after.0) (weight_in (dones {N = N} h.pairs)) all

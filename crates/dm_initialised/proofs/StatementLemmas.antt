@@ -139,9 +139,6 @@ module _ (program : Program) (needs : ℕ → Bool) (settled : IsSettledProgram 
     stays : (tasks : List Task) → TasksIn scope tasks → TurnedSet (onward objects tasks memory)
     stays tasks h = (stay_same memory, scope, set, h)
 
-    then_ends : (tasks : List Task) → TasksIn scope (tasks ++ ends objects ∷ rest) → TurnedSet (onward objects (tasks ++ ends objects ∷ rest) memory)
-    then_ends tasks h = stays (tasks ++ ends objects ∷ rest) h
-
     ending : (later : Scope) → TasksIn later (ends objects ∷ rest)
     ending later = (scope, set, waits)
 

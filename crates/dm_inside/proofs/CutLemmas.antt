@@ -159,9 +159,6 @@ module _ (bytes : List ℕ) where
 
   -- A DEFINITION
 
-  some-of : (body : List PpToken) (definition : Definition) → definition.body ≡ body → IsSome (body_end definition) → IsSome (option_map (λ (token : PpToken). token.end) (last_token body))
-  some-of body definition e some = subst (λ tokens. IsSome (option_map (λ (token : PpToken). token.end) (last_token tokens))) e some
-
   -- that of a `#`, a word, a name and what stands behind it
   line-lies : (hash word name : PpToken) (behind : List PpToken) (origin : Origin) (plain : Bool) → Row bytes 0 (hash ∷ word ∷ name ∷ behind) → IsSome (body_end (definition_of hash name behind origin plain))
       → LiesIn bytes (definition_of hash name behind origin plain)

@@ -81,10 +81,6 @@ module _ (bytes : List ℕ) where
       by (inl e) = ap is_gap e ∙ none.0
       by (inr e) = ap is_gap e
 
-  append-bytes : (xs ys : List Character) → bytes_of xs ++ bytes_of ys ≡ bytes_of (xs ++ ys)
-  append-bytes [] ys = refl
-  append-bytes (x ∷ xs) ys = ap (λ bs. x.byte ∷ bs) (append-bytes xs ys)
-
   all-behind : {A : Type 0} (P : A → Type 0) (xs ys : List A) → AllByRecursion P (xs ++ ys) → AllByRecursion P ys
   all-behind P [] ys all = all
   all-behind P (x ∷ xs) ys all = all-behind P xs ys all.1

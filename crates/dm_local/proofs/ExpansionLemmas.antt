@@ -163,10 +163,6 @@ module _ (In : Place → Type 0) where
   operands-in blank [] all = (tt, tt)
   operands-in blank (item ∷ items) all = tokens-in (item ∷ items) all
 
-  made-in : (site : Site) (kind : PpKind) (spelling : List ℕ) (blank : Bool) (hidden : HiddenNumbers) → SiteIn site → ItemIn (made site kind spelling blank hidden)
-  unfolding made
-  made-in site kind spelling blank hidden all = all.name
-
   -- PASTES
 
   joined_as-in : (site : Site) (left right : Item) (kind : Option PpKind) → SiteIn site → Stands PieceIn (joined_as site left right kind)
@@ -371,10 +367,6 @@ module _ (In : Place → Type 0) where
   numbered-in : (read : List Definition) (number : ℕ) → DefinitionsIn read → IfSome (numbered read number) MacroIn
   unfolding numbered
   numbered-in read number all = some-then (λ (one : Definition). TokensIn one.body) MacroIn _ (slice_get read number) (all-at (λ (one : Definition). TokensIn one.body) read number all) (λ one stands. stands)
-
-  in_place-in : (item : Item) (kind : PpKind) (spelling : List ℕ) → ItemIn item → ItemIn (in_place_of item kind spelling)
-  unfolding in_place_of
-  in_place-in item kind spelling stands = stands
 
   name-in : (instance : ℕ) (expansions : List made_of.Expansion) (other : Place) → ExpansionsIn expansions → In other → In (name_of instance expansions other)
   unfolding name_of

@@ -167,10 +167,6 @@ module _ (E : List made_of.Expansion) where
   operands-in blank [] all = (tt, tt)
   operands-in blank (item ∷ items) all = tokens-in (item ∷ items) all
 
-  made-in : (site : Site) (kind : PpKind) (spelling : List ℕ) (blank : Bool) (hidden : HiddenNumbers) → SiteIn site → ItemIn (made site kind spelling blank hidden)
-  unfolding made
-  made-in site kind spelling blank hidden all = body-in site all
-
   -- PASTES
 
   joined_as-in : (site : Site) (left right : Item) (kind : Option PpKind) → SiteIn site → Holds PieceIn (joined_as site left right kind)
@@ -324,10 +320,6 @@ module _ (E : List made_of.Expansion) where
   unfolding invoked object_like
   invoked-in macro None name rest first all = record { name = first; arguments = tt; rest = all }
   invoked-in macro (Some parameters) name rest first all = function_like-in macro name rest first all
-
-  in_place-in : (item : Item) (kind : PpKind) (spelling : List ℕ) → ItemIn item → ItemIn (in_place_of item kind spelling)
-  unfolding in_place_of
-  in_place-in item kind spelling stands = stands
 
   predefined-in : (names : List (List ℕ)) (root : Place) (item : Item) → ItemIn item → ItemIn (predefined names root item)
   unfolding predefined in_place_of

@@ -127,9 +127,6 @@ module _ (P : Spans → Type 0) where
         by true = (type-each (integer (promote one)) a left, type-each (integer (promote other)) b right)
         by false = (type-each (integer (common one other)) a left, type-each (integer (common one other)) b right)
 
-    both : (kind : CType) → Found EachPair (Some (pair a b kind))
-    both kind = (left, right)
-
     ordered-each : Found EachPair (ordered a b)
     ordered-each = found-if EachPair (point_alike (kind_of a) (kind_of b)) (Some (pair a b (integer k.Int))) None (left, right) tt
 

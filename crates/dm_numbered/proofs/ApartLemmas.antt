@@ -96,12 +96,6 @@ adds-before {a} {b} {d} {e} {old} {mid} {new} low high one two l m n =
       risen = omega (arith, l, m, n, r, s);
     }
 
--- ---- names of declarators
-
-start_of : Option ℕ → ℕ → ℕ
-start_of None first = first
-start_of (Some n) first = n + 1
-
 -- ---- numbers
 
 apart-numbers : (n m : ℕ) → (n ≡ m → ⊥) → (n == m) ≡ false

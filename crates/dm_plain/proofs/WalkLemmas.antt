@@ -20,10 +20,6 @@ use Rattle.dm_plain.specs.Walks.{is_local, is_first_inside, are_others_inside, n
 
 -- ---- lists
 
-any-map : {A B : Type 0} (p : B → Bool) (f : A → B) (xs : List A) → list_any p (map f xs) ≡ list_any (λ x. p (f x)) xs
-any-map p f [] = refl
-any-map p f (x ∷ xs) = ap (λ rest. p (f x) || rest) (any-map p f xs)
-
 sum-map : {A B : Type 0} (f : B → ℕ) (g : A → B) (xs : List A) → sum_by f (map g xs) ≡ sum_by (λ x. f (g x)) xs
 sum-map f g [] = refl
 sum-map f g (x ∷ xs) =
@@ -106,12 +102,6 @@ nodes-entered core parts first others before after are is =
 
 pub waits-last : (p : Waiting → Bool) (all front : List Waiting) (one : Waiting) → all ≡ front ++ one ∷ [] → list_any p all ≡ (list_any p front || p one)
 waits-last p all front one is = ap (list_any p) is ∙ (list_any-append p front (one ∷ []) ∙ ap (λ last. list_any p front || last) (or-false (p one)))
-
-pub nodes-last : (all front : List Waiting) (one : Waiting) → all ≡ front ++ one ∷ [] → nodes_left all ≡ nodes_left front + nodes_in (view no_type one.tree.now)
-nodes-last all front one is =
-    let both = ap (sum_by nodes) is ∙ sum_by-append nodes front (one ∷ []) in
-    let last = sum_by-cons nodes one [] in
-    omega (arith, both, last)
 
 -- the tree that is taken names nothing itself
 pub nothing-here : (automatic : ℕ → Bool) (inside : Bool) (tree : Tree) → (inside && is_local automatic (label_of tree)) ≡ false → names_local automatic inside tree ≡ names_inside automatic inside tree

@@ -96,9 +96,6 @@ placed-by run before operands node after size one =
       parts = sym whole.are_parts ∙ (ap (λ (n : Waiting). filled n.slots one.one.1.operands) waits ∙ ap (filled node.slots) results);
     }
 
-at-most : (m n k : ℕ) → n ≡ k → m ≡ n → m ≤ k
-at-most m n k e f = omega (arith, e, f)
-
 enough-results : (before : List Item) (operands : List Evaluated) (n : ℕ) → length operands ≡ n → n ≤ results_behind 0 (before ++ map evaluated operands)
 enough-results before operands n size =
     let all = behind-append 0 before (map evaluated operands) ∙ behind-results (results_behind 0 before) operands in

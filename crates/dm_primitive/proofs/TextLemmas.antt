@@ -12,10 +12,6 @@ use Rattle.dm_primitive.specs.declared.text.Character.{Character}
 use Rattle.dm_primitive.specs.declared.text.Character.TheVariants.{Byte, End, Refused}
 use Rattle.dm_primitive.specs.Texts.{Text, behind, and_character}
 
-pub behind-none : (text : Text) → behind [] text ≡ text
-behind-none (Ok bytes) = refl
-behind-none (Err cause) = refl
-
 pub behind-more : (bytes : List ℕ) (byte : ℕ) (text : Text) → behind (bytes ++ byte ∷ []) text ≡ behind bytes (behind (byte ∷ []) text)
 behind-more bytes byte (Ok more) = ap Ok (append_assoc bytes (byte ∷ []) more)
 behind-more bytes byte (Err cause) = refl

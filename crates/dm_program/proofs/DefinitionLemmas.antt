@@ -189,9 +189,6 @@ module _ (source : Source) where
 
   -- ---- `main`
 
-  pub none-before : IsBefore source source.unit.externals
-  none-before = record { front = []; whole = refl; same = refl }
-
   more-before : (rest : List CoreExternal) (external : CoreExternal) (left : List CoreExternal) → left ≡ external ∷ rest → (h : IsBefore source left)
       → main_in (meant source) (defined (external ∷ rest)) ≡ main_in (meant source) (defined rest) → IsBefore source rest
   more-before rest external left is h skips = record {

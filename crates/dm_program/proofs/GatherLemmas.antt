@@ -1,5 +1,5 @@
 -- Objects of static storage duration, found one after another.
-use Rattle.std.proofs.Common.{◌≡◌, ℕ, zero, suc, ◌<◌, ◌==◌, Bool, true, false, ◌⊎◌, inl, inr, if◌then◌else◌, is_some, List, [], ◌∷◌, ◌++◌, map, length, get_or, set, replicate, Option, Some, None, option_map, slice_get, Bor, refl, ap, sym, subst, ◌∙◌, arith}
+use Rattle.std.proofs.Common.{◌≡◌, ℕ, zero, suc, ◌<◌, ◌==◌, Bool, true, false, ◌⊎◌, inl, inr, if◌then◌else◌, is_some, List, [], ◌∷◌, ◌++◌, map, length, get_or, set, Option, Some, None, option_map, slice_get, Bor, refl, ap, sym, subst, ◌∙◌, arith}
 use Rattle.std.specs.List.{All}
 use Rattle.std.proofs.lemmas.Bool.{eqb-true, eqb-false, eq-eqb, ne_eqb}
 use Rattle.std.proofs.lemmas.List.Elements.{All-push, All-set}
@@ -160,18 +160,6 @@ placed-append places statics number one is inside none h = record {
     back-by i x (inr h2) =
         ap (λ (s : Static). place_of (set places number (Some (length statics))) s.declared) (sym h2.1) ∙ ap (place_of (set places number (Some (length statics)))) is
         ∙ ap place_in (set-here places number (Some (length statics)) inside) ∙ ap (λ k. Some k) (sym h2.0)
-
--- a number more
-snoc : {A : Type 0} (n : ℕ) (none : A) → replicate n none ++ none ∷ [] ≡ replicate (suc n) none
-snoc zero none = refl
-snoc (suc n) none = ap (λ ys. none ∷ ys) (snoc n none)
-
-longer : {A : Type 0} (ys : List A) (y : A) → length (ys ++ y ∷ []) ≡ suc (length ys)
-longer [] y = refl
-longer (x ∷ ys) y = ap suc (longer ys y)
-
-pub none-more : {A : Type 0} (xs : List A) (none : A) → xs ≡ replicate (length xs) none → xs ++ none ∷ [] ≡ replicate (length (xs ++ none ∷ [])) none
-none-more xs none is = ap (λ ys. ys ++ none ∷ []) is ∙ snoc (length xs) none ∙ ap (λ n. replicate n none) (sym (longer xs none))
 
 -- ---- one object is defined
 

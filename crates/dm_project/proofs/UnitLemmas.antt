@@ -3,18 +3,17 @@ use Rattle.std.proofs.Common.{◌≡◌, inl, inr, ℕ, ◌+◌, ◌<◌, ◌≤
 use Rattle.std.proofs.lemmas.List.{at_drop_more, at_drop_all}
 use Rattle.std.specs.List.{position_or_len}
 use Rattle.std.proofs.lemmas.Bool.{cond-true, cond-false, ltb-false}
-use Rattle.dm_token.specs.LimitNumbers as limits
 use Rattle.dm_token.specs.declared.stop.Stop.{Stop}
 use Rattle.dm_token.specs.declared.stop.Stop.TheVariants.{Memory, ReadFault}
 use Rattle.dm_token.specs.declared.unit.Unit.{Unit as Source}
 use Rattle.dm_io.specs.Files.{Files}
-use Rattle.dm_search.specs.Loaded.{Loaded, number_of}
+use Rattle.dm_search.specs.Loaded.{Loaded}
 use Rattle.dm_unit.specs.States.{limit}
 use Rattle.dm_unit.specs.Units.{setting_of}
 use Rattle.dm_unit.specs.Views.{stop_of}
 use Rattle.dm_reading.specs.declared.reading.Reading.{Reading}
 use Rattle.dm_readings.specs.Reading.{IsReading}
-use Rattle.dm_readings.specs.Units.{Ending, ending, stopped, behind, most_project_tokens, token_count, ReadsNext, ReadsUnits}
+use Rattle.dm_readings.specs.Units.{Ending, ending, stopped, behind, token_count, ReadsNext, ReadsUnits}
 
 -- readings before others
 abbrev pub all_behind : List Reading → Ending → Ending
@@ -65,16 +64,6 @@ module _ (files : Files) where
   -- memory is wanted behind a unit's reading
   pub next-memory : (unit : Source) (spent : ℕ) (old new : Loaded) → ReadsNext files unit spent old (Err Memory) new
   next-memory unit spent old new = inl (inl tt)
-
-  -- a stop of a unit's reading
-  pub next-stop : (unit : Source) (spent : ℕ) (old : Loaded) (given : Result Reading Stop) (stop : Stop) (new : Loaded) → given ≡ Err stop
-      → IsReading (setting_of old new files unit) unit old given new → ReadsNext files unit spent old (Err stop) new
-  next-stop unit spent old given stop new is reading = inl (subst (λ (r : Result Reading Stop). IsReading (setting_of old new files unit) unit old r new) is reading)
-
-  -- its tokens are too many, or few enough
-  pub next-many : (unit : Source) (spent : ℕ) (old : Loaded) (reading : Reading) (stop : Stop) (new : Loaded) → IsReading (setting_of old new files unit) unit old (Ok reading) new
-      → most_project_tokens < spent + length reading.pp.tokens → stop ≡ limit limits.project_tokens (number_of new unit.file) → ReadsNext files unit spent old (Err stop) new
-  next-many unit spent old reading stop new is many names = inr (reading, is, many, names)
 
   -- a stop that is handed on
   pub next-handed : (unit : Source) (spent : ℕ) (old : Loaded) (result : Result Reading Stop) (fault : Stop) (new : Loaded) → IsErrAnd result (λ e. e ≡ fault)

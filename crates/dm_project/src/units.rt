@@ -146,6 +146,7 @@ pub(crate) fn read_next<F: Folder, L: Ledger>(
 pub(crate) fn number_names(loader: &Loader)
     ensures { IsNumbered loader.now }
 {
+    // The proof needs their clauses: no two names are the same, the headers' come first, and each has a slot for its bytes.
     loader.names_differ();
     let _names = loader.names();
 }

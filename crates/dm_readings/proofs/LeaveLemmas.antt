@@ -150,20 +150,6 @@ memory-no-fault file e = cc
 abbrev pub NoFault : Option Stop → Type 0
 NoFault stop = (file : ℕ) → stop ≡ Some (ReadFault file) → ⊥
 
--- nothing is done
-pub leaves-refl : (told : Option Files) (room : List ℕ → ℕ) (faults : ℕ) (l : Loaded) → length l.names < most_names → Leaves told told room room faults faults l l None
-leaves-refl told room faults l roomy = record {
-  files_stay = refl;
-  rooms_stay = λ other. refl;
-  later = omega arith;
-  failed = λ file e. absurd (cc);
-  unknown = λ file e. absurd (cc);
-  grows = λ not. grows-refl None l;
-  roomy = λ not. roomy;
-  served = λ files is name. refl;
-  there = λ there. there;
-}
-
 -- one call and then another
 pub leaves-trans : (t0 t1 t2 : Option Files) (r0 r1 r2 : List ℕ → ℕ) (f0 f1 f2 : ℕ) (l0 l1 l2 : Loaded) (stop : Option Stop) → Leaves t0 t1 r0 r1 f0 f1 l0 l1 None → Leaves t1 t2 r1 r2 f1 f2 l1 l2 stop
     → Leaves t0 t2 r0 r2 f0 f2 l0 l2 stop
@@ -201,13 +187,6 @@ leaves-stop t0 t1 r0 r1 f0 f1 l0 l1 stop none first = record {
 pub stopped-named : {A : Type 0} (result : Result A Stop) → stopped_at result ≡ named_by (stop_of result)
 stopped-named (Ok answer) = refl
 stopped-named (Err stop) = refl
-
-pub memory-stop : {A : Type 0} (result : Result A Stop) → result ≢ Err Memory → stop_of result ≢ Some Memory
-memory-stop (Ok answer) not e = absurd (cc)
-memory-stop (Err stop) not e = not (ap Err (by e))
-  where
-    by : ◌≡◌ {A = Option Stop} (Some stop) (Some Memory) → stop ≡ Memory
-    by e = cc
 
 pub stop-memory : {A : Type 0} (result : Result A Stop) → stop_of result ≢ Some Memory → result ≢ Err Memory
 stop-memory result not e = not (ap stop_of e)

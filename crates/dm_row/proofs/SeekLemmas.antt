@@ -1,9 +1,9 @@
 -- Moving the place in a row.
-use Rattle.std.proofs.Common.{◌≡◌, ℕ, ◌+◌, ◌≤◌, Bool, true, false, ◌&&◌, nat_le, nat_eq, List, [], ◌∷◌, ◌++◌, refl, sym, ap, ◌∙◌, arith, append_assoc, leb-true, eqb-true, eq-eqb}
+use Rattle.std.proofs.Common.{◌≡◌, ℕ, ◌+◌, ◌≤◌, Bool, true, false, ◌&&◌, nat_le, nat_eq, List, [], ◌∷◌, ◌++◌, refl, sym, ap, ◌∙◌, arith, append_assoc, eq-eqb}
 use Rattle.dm_row.specs.declared.item.Item.{Item}
 use Rattle.dm_row.specs.declared.item.Item.TheVariants.{Done, Waits}
 use Rattle.dm_row.specs.Counts.{one_if, ready_in, results_after, is_next_ready}
-use Rattle.dm_row.specs.Sought.{IsBehind, IsSought}
+use Rattle.dm_row.specs.Sought.{IsBehind}
 use Rattle.dm_row.proofs.SideLemmas.{ready-append, results-append}
 
 abbrev pub Sides : Type 0 → Type 0 → Type 0
@@ -46,23 +46,6 @@ on-few first second number h few is =
     let less = still (is_next_ready (results_after 0 first.0) first.1) (ready_in 0 first.0) (ready_in (results_after 0 first.0) (h.item ∷ [])) number few
     (own-few h.item (results_after 0 first.0)) (λ e. own-ready h.item (results_after 0 first.0) second.1 (sym next ∙ e)) is in
     omega (arith, whole, less)
-
-both-true : (a b : Bool) → (a && b) ≡ true → (a ≡ true) × (b ≡ true)
-both-true true b is = (refl, is)
-both-true false b is = absurd (cc)
-
--- the place is at the node
-pub sought : {R N : Type 0} (before after : Sides R N) (number : ℕ) → before.0 ++ before.1 ≡ after.0 ++ after.1
-    → (is_next_ready (results_after 0 after.0) after.1 && nat_eq (ready_in 0 after.0) number) ≡ true → IsSought number before after
-sought {R} {N} before after number same is =
-    let facts = both-true (is_next_ready (results_after 0 after.0) after.1) (nat_eq (ready_in 0 after.0) number) is in
-    from after.1 refl facts.0 (eqb-true (ready_in 0 after.0) number facts.1)
-  where
-    from : (rest : List (Item R N)) → after.1 ≡ rest → is_next_ready (results_after 0 after.0) rest ≡ true → ready_in 0 after.0 ≡ number → IsSought number before after
-    from [] e next counted = absurd (cc)
-    from (Done result weight ∷ rest) e next counted = absurd (cc)
-    from (Waits node operands ∷ rest) e next counted =
-        record { same = same; node = node; operands = operands; rest = rest; there = e; enough = leb-true operands (results_after 0 after.0) next; counted = counted }
 
 -- ---- the last item
 

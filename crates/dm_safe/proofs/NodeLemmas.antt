@@ -31,7 +31,7 @@ use Rattle.dm_meaning.specs.Running.{begun, all_begun, every, only_first, nothin
 use Rattle.dm_meaning.specs.Expressions.{kind_of_run}
 use Rattle.dm_meaning.proofs.AmongLemmas.{among_either}
 use Rattle.dm_meaning.proofs.ConstantLemmas.{bare_is, typed_is}
-use Rattle.dm_meaning.proofs.OptionLemmas.{none_is_some, some_is_some}
+use Rattle.dm_meaning.proofs.OptionLemmas.{none_is_some}
 use Rattle.dm_rewrite.specs.Computed.{Part, joined, after_reads, alone, given_by, after_operands, only, truth_computed, value_computed, both_computed, either_computed, picked_computed, form_computed, found_in, computed, all_computed}
 use Rattle.dm_sound.specs.TypedValues.{AreTyped}
 use Rattle.dm_sound.specs.TypedTrees.{scene_in, IsTyped}
@@ -257,9 +257,6 @@ module _ (scene : Scene) (world : World) (scope : IsTypedScope scene.program) (m
   signed_by s.Plus o kind k y z e = ap (λ r. faulted r (number_alone world kind)) e
   signed_by s.Minus o kind k y z e = ap (λ r. faulted r (number_alone world kind)) e
   signed_by s.Complement o kind k y z e = ap (λ r. faulted r (number_alone world kind)) e
-
-  same_kind : (k j : Kind) (type other : CType) → type ≡ other → integer_kind type ≡ Some k → integer_kind other ≡ Some j → k ≡ j
-  same_kind k j type other e f g = some_is_some k j (sym f ∙ ap integer_kind e ∙ g)
 
   -- the operand of a typed node is one of its tree
   is_operand : (a : Tree) (y : ℤ) (h : ComesTo scene world a y) → IsTrue (not (is_lvalue a)) → IsOperand own a (operand_of h.kind a y)

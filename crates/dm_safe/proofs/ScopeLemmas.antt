@@ -7,7 +7,7 @@ use Rattle.dm_type.specs.CTypes.{CType}
 use Rattle.dm_tree.specs.Trees.{Label, object, convert, both, either, choose, comma, sizeof_kind, block, declare, for_loop, is_statement, Spans, Tree, Trees, node, no_trees, more_trees, label_of, trees_of}
 use Rattle.dm_meaning.specs.Among.{IsAmong}
 use Rattle.dm_meaning.specs.Objects.{Layout}
-use Rattle.dm_meaning.specs.Running.{Doing, evaluates, gives_truth, gives_value, Run, done, to_do, Runs, no_runs, more_runs, begun, all_begun, Open, every, only_first, nothing, first_open, others_open, open_of}
+use Rattle.dm_meaning.specs.Running.{Doing, evaluates, gives_truth, gives_value, Run, done, to_do, Runs, no_runs, more_runs, begun, Open, every, only_first, nothing, first_open, others_open, open_of}
 use Rattle.dm_meaning.specs.Wholes.{is_expression, are_expressions}
 use Rattle.dm_meaning.proofs.OptionLemmas.{and_left, and_right}
 use Rattle.dm_sound.specs.TypedRuns.{only, is_logical, ComesFrom, AllComeFrom}
@@ -35,14 +35,6 @@ abbrev mutual
 not_statement : (b : Bool) → not b ≡ true → b ≡ false
 not_statement true e = absurd (false≢true e)
 not_statement false e = refl
-
-mutual
-  begun_whole : (tree : Tree) → is_expression tree ≡ true → WholeRun (begun tree)
-  begun_whole (node label kind spans parts) e = (not_statement (is_statement label) (and_left (not (is_statement label)) (are_expressions parts) e), all_begun_whole parts (and_right (not (is_statement label)) (are_expressions parts) e))
-
-  all_begun_whole : (trees : Trees) → are_expressions trees ≡ true → WholeRuns (all_begun trees)
-  all_begun_whole no_trees e = tt
-  all_begun_whole (more_trees first rest) e = (begun_whole first (and_left (is_expression first) (are_expressions rest) e), all_begun_whole rest (and_right (is_expression first) (are_expressions rest) e))
 
 pub only_whole : (n : ℕ) (trees : Trees) → are_expressions trees ≡ true → are_expressions (only n trees) ≡ true
 only_whole n no_trees e = refl

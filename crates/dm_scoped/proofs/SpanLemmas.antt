@@ -220,10 +220,6 @@ pub append-apart : (some more list : List Tree) → AreApart some list → AreAp
 append-apart [] more list h g = g
 append-apart (one ∷ some) more list h g = (h.0, append-apart some more list h.1 g)
 
-pub apart-none : (list : List Tree) → AreApart list []
-apart-none [] = tt
-apart-none (one ∷ list) = (tt, apart-none list)
-
 -- ---- arguments
 
 -- trees that stand alike, one by one

@@ -74,10 +74,6 @@ pub ends-so : {A : Type 0} (P : A → Type 0) (t : Standing) (it : A) → IsClea
 unfolding Ends
 ends-so P t it clear h = (clear, h)
 
-pub ends-none : (A : Type 0) (P : A → Type 0) (rule at : ℕ) → Ends P (stops rule at)
-unfolding Ends
-ends-none A P rule at = tt
-
 pub further-ends : {A B : Type 0} (P : A → Type 0) (Q : B → Type 0) (progress : Progress A) (next : Standing → A → Progress B) → Ends P progress
     → ((t : Standing) (it : A) → IsClear t → P it → Ends Q (next t it)) → Ends Q (further progress next)
 unfolding Ends

@@ -90,6 +90,7 @@ impl Loader {
     pub fn names_differ(&self)
         ensures { (file : ℕ) → file < length self.now.names → number_of self.now (name_of self.now file) ≡ file }
     {
+        // The clause `unique` of this call says so.
         let _names = self.numbers.as_slice();
     }
 
@@ -97,6 +98,7 @@ impl Loader {
     pub fn held_are_readable(&self)
         ensures { (file : ℕ) (bytes : Sequence ℕ) → held_at self.now file ≡ Some bytes → IsReadable file bytes }
     {
+        // What holds of the parts of a loader is known where one of them is looked at.
         let _contents = &self.contents;
     }
 

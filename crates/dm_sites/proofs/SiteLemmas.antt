@@ -84,9 +84,6 @@ abbrev pub places_left : ℕ → Option ℕ → ℕ
 places_left count at = option_map_or (λ (m : ℕ). count - m) at 0
 
 module _ (all : List Site) (heads links : List (Option ℕ)) (are : AreLinked all heads links) (span : Span) where
-  pub sought-first : (at : Option ℕ) → at ≡ linked heads (ends span) → IsSought all span at
-  sought-first at is = record { from = 0; at_next = is ∙ are.first (ends span); same = refl }
-
   pub sought-none : IsSought all span None → find (is_site_of span) all ≡ None
   sought-none sought = sought.same ∙ none-found span sought.from (drop sought.from all) (sym sought.at_next)
 

@@ -34,9 +34,6 @@ typed_look layout memory typed (elsewhere identifier) block e = absurd (none_is_
 unknown_is : (type : CType) (f : Bool) → unknown ≡ object_of type f → ⊥
 unknown_is type f e = cc
 
-unknown_outside : unknown ≡ outside → ⊥
-unknown_outside e = cc
-
 -- the value of a place that leads to an object
 there_in : (layout : Layout) (path : Path) (o : Option Block) → ((block : Block) → o ≡ Some block → HasType layout block.kind block.contents) → (type : CType) (f : Bool)
     → reached_in layout path o ≡ object_of type f → HasType layout type (or_unset (value_in path o))

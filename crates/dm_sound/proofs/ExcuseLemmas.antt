@@ -14,7 +14,7 @@ use Rattle.dm_meaning.specs.Values.{At, Value, integer_value, unset}
 use Rattle.dm_meaning.specs.Objects.{Layout}
 use Rattle.dm_meaning.specs.Memory.{Memory, written}
 use Rattle.dm_meaning.specs.Programs.{Program, Definition, layout, declaration_of, definition_of}
-use Rattle.dm_meaning.specs.Operations.{Result, Objects, Scene, Truth, holds, untold, truth_of}
+use Rattle.dm_meaning.specs.Operations.{Result, Objects, Truth, holds, untold, truth_of}
 use Rattle.dm_meaning.specs.Running.{Run, done, to_do, begun, locks_in, Hole}
 use Rattle.dm_meaning.specs.Expressions.{Move, goes, calls, fails, exits, by_truth, value_of, moves}
 use Rattle.dm_meaning.specs.States.{Use, drops, chooses, selects, repeats, continues, returns, initialises, Task, begins, declares, initials, evaluates, again, tests, ends, ends_switch, leaves, skips, hands_back, Caller, State}
@@ -135,9 +135,6 @@ module _ (program : Program) (sound : IsTypedProgram program) (state : State) (t
   -- ---- the end of a full expression
 
   module _ (names : ℕ → ℕ) where
-    scene : Scene
-    scene = scene_of program state
-
     tested_apart : (place : Place) (truth : Truth) (following : Bool → Turned) → ((cause : Cause) → truth ≡ untold cause → cause ≡ OtherType → ⊥) → ((b : Bool) → IsOnward (following b)) → IsOther (turned state (by_test place truth following)) → ⊥
     tested_apart place (holds b) following never h o = onward_apart (following b) (h b) o
     tested_apart place (untold cause) following never h (there, e) = never cause refl (cause_is cause OtherType place there e)

@@ -53,9 +53,6 @@ module _ (scene : Scene) where
 
   -- ---- nodes
 
-  abbrev Same : Trees → Trees → Type 0
-  Same trees others = AreSame trees others
-
   -- a node with one operand
   one_part : (label : Label) (kind : CType) (parts others : Trees) → AreSame parts others → ((xs : List Tree) → FitsExpression scene label kind xs → (a : Tree) × (xs ≡ a ∷ []))
       → ((a b : Tree) → IsSame a b → FitsExpression scene label kind (a ∷ []) → FitsExpression scene label kind (b ∷ [])) → FitsExpression scene label kind (listed parts) → FitsExpression scene label kind (listed others)

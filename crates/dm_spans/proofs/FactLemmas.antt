@@ -10,7 +10,6 @@ use Rattle.dm_tree.specs.Scenes.{Scene, designates, is_lvalue, are_lvalues, IsLv
 use Rattle.dm_tree.specs.Trees.{Tree, Trees, node, no_trees, more_trees, label_of, kind_of, is_statement}
 use Rattle.dm_tree.specs.Typing.{IsCondition}
 use Rattle.dm_tree.specs.Units.{Declaration}
-use Rattle.dm_meaning.specs.Wholes.{is_expression, are_expressions}
 use Rattle.dm_spans.specs.SameTrees.{IsSame, AreSame}
 
 pub same_label : (tree other : Tree) → IsSame tree other → label_of other ≡ label_of tree
@@ -28,16 +27,6 @@ mutual
   same_lvalues no_trees (more_trees other others) h = absurd h
   same_lvalues (more_trees first rest) no_trees h = absurd h
   same_lvalues (more_trees first rest) (more_trees other others) h = ap (λ b. b ∷ are_lvalues others) (same_lvalue first other h.0) ∙ ap (λ bs. is_lvalue first ∷ bs) (same_lvalues rest others h.1)
-
-mutual
-  pub same_expression : (tree other : Tree) → IsSame tree other → is_expression other ≡ is_expression tree
-  same_expression (node label kind spans parts) (node other other_kind other_spans others) h = ap (λ l. not (is_statement l) && are_expressions others) h.0 ∙ ap (λ b. not (is_statement label) && b) (same_expressions parts others h.2)
-
-  same_expressions : (trees others : Trees) → AreSame trees others → are_expressions others ≡ are_expressions trees
-  same_expressions no_trees no_trees h = refl
-  same_expressions no_trees (more_trees other others) h = absurd h
-  same_expressions (more_trees first rest) no_trees h = absurd h
-  same_expressions (more_trees first rest) (more_trees other others) h = ap (λ b. b && are_expressions others) (same_expression first other h.0) ∙ ap (λ b. is_expression first && b) (same_expressions rest others h.1)
 
 -- ---- constants
 

@@ -4,20 +4,18 @@ use Rattle.std.proofs.lemmas.List.{length-map, map-append}
 use Rattle.std.proofs.Math.Seq.{drop-append_seam, take-append_seam}
 use Rattle.dm_type.specs.CTypes.{CType, bare}
 use Rattle.dm_type.specs.Tables.{Table}
-use Rattle.dm_tree.specs.declared.tree.Core.{Core}
 use Rattle.dm_tree.specs.declared.tree.Core as q
 use Rattle.dm_tree.specs.declared.tree.Initial.{Initial}
 use Rattle.dm_tree.specs.declared.tree.Initial.TheVariants as initial
-use Rattle.dm_tree.specs.Trees.{expressions_in, in_braces, one_expression}
-use Rattle.dm_tree.specs.TypeNumbers.{all_pass, are_known}
-use Rattle.dm_tree.specs.Views.{OpenedInitial, items_of, expressions_of_items, view}
+use Rattle.dm_tree.specs.Trees.{expressions_in, in_braces}
+use Rattle.dm_tree.specs.Views.{OpenedInitial, items_of, expressions_of_items}
 use Rattle.dm_layout.specs.LaidOut.{laid_out}
 use Rattle.dm_meaning.specs.Objects.{all_zero, inner_type}
 use Rattle.dm_meaning.specs.Statements.{count_items}
 use Rattle.dm_meaning.specs.Units.{static_parts, static_value}
 use Rattle.dm_meaning.specs.Values as values
 use Rattle.dm_program.proofs.InitialLemmas.{initial-counted}
-use Rattle.dm_program.specs.Initials.{are_known_in_initial, view_of_initial}
+use Rattle.dm_program.specs.Initials.{view_of_initial}
 use Rattle.dm_value.specs.declared.value.Value.{Value}
 use Rattle.dm_value.specs.Views.{view_of_value}
 use Rattle.dm_start.specs.declared.scene.Scene.{Scene}
@@ -57,18 +55,9 @@ one-given scene kind n m first left rest given more one all splits next is same 
 
 -- ---- an initialiser by its form
 
-pub initial-Value : (table : Table) (a : Core) → view_of_initial table (initial.Value a) ≡ record { initialiser = one_expression; expressions = view table a ∷ [] }
-initial-Value table a = search (rules, q.the_lemmas)
-
 pub initial-Parts : (table : Table) (items : List Initial)
     → view_of_initial table (initial.Parts items) ≡ record { initialiser = in_braces (items_of (map (view_of_initial table) items)); expressions = expressions_of_items (map (view_of_initial table) items) }
 initial-Parts table items = search (rules, q.the_lemmas)
-
-pub known-Value : (n : ℕ) (a : Core) → are_known_in_initial n (initial.Value a) ≡ are_known n a
-known-Value n a = search (rules, q.the_lemmas)
-
-pub known-Parts : (n : ℕ) (items : List Initial) → are_known_in_initial n (initial.Parts items) ≡ all_pass (map (are_known_in_initial n) items)
-known-Parts n items = search (rules, q.the_lemmas)
 
 -- as many as the list has
 counted : (items : List OpenedInitial) → count_items (items_of items) ≡ length items

@@ -3,9 +3,6 @@ use Rattle.std.proofs.Common.{◌≡◌, ◌≤◌, List, [], ◌∷◌, ◌++�
 use Rattle.std.proofs.lemmas.List.{append-nil}
 use Rattle.dm_token.specs.Prefixes.{IsPrefix}
 
-pub IsPrefix-self : {A : Type 0} (xs : List A) → IsPrefix xs xs
-IsPrefix-self xs = ([], sym (append-nil xs))
-
 -- what begins with a longer list begins with the shorter one
 pub IsPrefix-shorter : {A : Type 0} (xs ys whole : List A) → IsPrefix (xs ++ ys) whole → IsPrefix xs whole
 IsPrefix-shorter xs ys whole (rest, e) = (ys ++ rest, e ∙ append_assoc xs ys rest)

@@ -1,7 +1,6 @@
 -- The walk of `common` from the inner ends of two trails to their outer ends.
-use Rattle.std.proofs.Common.{◌≡◌, ◌≢◌, ◌≤◌, min, List, [], ◌∷◌, ◌++◌, length, sym, ◌∙◌, ap, subst, arith, append_assoc, length-append}
+use Rattle.std.proofs.Common.{◌≡◌, ◌≢◌, ◌≤◌, List, [], ◌∷◌, ◌++◌, length, sym, ◌∙◌, ap, subst, arith, append_assoc, length-append}
 use Rattle.std.proofs.lemmas.List.{append-nil}
-use Rattle.std.proofs.lemmas.List.Prefix.{front_fits}
 use Rattle.dm_token.specs.Prefixes.{IsPrefix, IsLongestCommonPrefix}
 use Rattle.dm_token.proofs.PrefixLemmas.{IsPrefix-shorter, IsPrefix-nested, without_items}
 
@@ -14,16 +13,6 @@ pub record IsWalked {A : Type 0} (first second left right common : List A) : Typ
   pub theirs : IsPrefix (right ++ between) second
   pub within : IsPrefix common first
   pub longest : (shared : List A) → IsPrefix shared first → IsPrefix shared second → length shared ≤ length common
-
-pub IsWalked-start : {A : Type 0} (first second left right : List A) → IsPrefix left first → IsPrefix right second → length left ≡ min (length first) (length second) → length right ≡ min (length first) (length second) → IsWalked first second left right left
-IsWalked-start first second left right p q long longer = record {
-  level = omega arith;
-  between = [];
-  mine = sym (append-nil left);
-  theirs = (q.0, q.1 ∙ ap (λ front. front ++ q.0) (sym (append-nil right)));
-  within = p;
-  longest = λ shared (r, e) (s, f). omega (arith, front_fits first shared r e, front_fits second shared s f);
-}
 
 -- one more item that is the same in both
 pub IsWalked-same : {A : Type 0} (first second left right common xs ys : List A) (x y : A) → IsWalked first second left right common → left ≡ xs ++ x ∷ [] → right ≡ ys ++ y ∷ [] → x ≡ y → IsWalked first second xs ys common

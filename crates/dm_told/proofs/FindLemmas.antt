@@ -9,14 +9,6 @@ module _ {A : Type 0} (P : A → Type 0) where
   all_append [] back h k = k
   all_append (x ∷ front) back h k = (h.0, all_append front back h.1 k)
 
-  pub all_front : (front back : List A) → AllByRecursion P (front ++ back) → AllByRecursion P front
-  all_front [] back h = tt
-  all_front (x ∷ front) back h = (h.0, all_front front back h.1)
-
-  pub all_back : (front back : List A) → AllByRecursion P (front ++ back) → AllByRecursion P back
-  all_back [] back h = h
-  all_back (x ∷ front) back h = all_back front back h.1
-
   pub all_of : ((x : A) → P x) → (items : List A) → AllByRecursion P items
   all_of f [] = tt
   all_of f (x ∷ items) = (f x, all_of f items)

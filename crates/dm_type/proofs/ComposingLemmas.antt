@@ -1,8 +1,8 @@
 -- Composite types step by step.
-use Rattle.std.proofs.Common.{◌≡◌, ℕ, suc, ◌+◌, ◌<◌, ◌≤◌, Bool, true, false, List, [], ◌∷◌, ◌++◌, length, map, reverse, take, drop, get_or, drop-cons, Option, Some, None, if◌then◌else◌, refl, sym, ap, ◌∙◌, subst, arith, min, ◌⊎◌, inl, inr}
-use Rattle.std.specs.Prelude.{All, IsSome, nat_le}
+use Rattle.std.proofs.Common.{◌≡◌, ℕ, suc, ◌+◌, ◌<◌, ◌≤◌, List, [], ◌∷◌, ◌++◌, length, map, reverse, take, drop, get_or, drop-cons, Option, Some, None, if◌then◌else◌, refl, sym, ap, ◌∙◌, subst, arith, min, ◌⊎◌, inl, inr}
+use Rattle.std.specs.Prelude.{All, IsSome}
 use Rattle.std.specs.Option.{option_and_then}
-use Rattle.std.proofs.lemmas.Bool.{leb-true, le-leb, false≢true}
+use Rattle.std.proofs.lemmas.Bool.{le-leb}
 use Rattle.std.proofs.lemmas.List.{map-append, reverse-append, length-append, length-map, length-reverse}
 use Rattle.std.proofs.lemmas.List.Elements.{All-head, All-tail, All-push}
 use Rattle.std.proofs.lemmas.List.Sums.{sum_by-append}
@@ -42,32 +42,6 @@ carried-needs table steps step made more e = go (applied table step made) refl
     go : (o : Option (List CType)) → applied table step made ≡ o → IsSome o
     go None is = absurd (none-some more (sym (carried-stuck table steps step made is) ∙ e))
     go (Some x) is = refl
-
--- how many types a step takes
-abbrev pub takes : Step → ℕ
-takes (Is id) = 0
-takes Pointer = 1
-takes (Array length) = 1
-takes Const = 1
-takes (Function count) = 1 + count
-
-grouped-needs : (result : CType) (count : ℕ) (made : List CType) → IsSome (grouped result count made) → count ≤ length made
-grouped-needs result count made some = go (nat_le count (length made)) refl some
-  where
-    go : (b : Bool) → nat_le count (length made) ≡ b → IsSome (if b then Some (function result (all_of (take count made)) ∷ drop count made) else None) → count ≤ length made
-    go true is h = leb-true count (length made) is
-    go false is h = absurd (false≢true h)
-
-needs : (table : Table) (step : Step) (made : List CType) → IsSome (applied table step made) → takes step ≤ length made
-needs table (Is id) made some = omega arith
-needs table Pointer [] some = absurd (false≢true some)
-needs table Pointer (type ∷ made) some = omega arith
-needs table (Array length) [] some = absurd (false≢true some)
-needs table (Array length) (type ∷ made) some = omega arith
-needs table Const [] some = absurd (false≢true some)
-needs table Const (type ∷ made) some = omega arith
-needs table (Function count) [] some = absurd (false≢true some)
-needs table (Function count) (type ∷ made) some = let n = grouped-needs type count made some in omega (arith, n)
 
 -- a function type of the types in front
 pub grouped-front : (result : CType) (front back : List CType) (count : ℕ) → length front ≡ count

@@ -21,15 +21,6 @@ way (struct number) = 4
 way (function result parameters) = 5
 way (const type) = 6
 
-abbrev way_of : Shape → ℕ
-way_of Void = 0
-way_of (Integer kind) = 1
-way_of (Pointer id) = 2
-way_of (Array id length) = 3
-way_of (Struct number) = 4
-way_of (Function result parameters) = 5
-way_of (Const id) = 6
-
 -- the parts of a type, where it has them
 abbrev kind_in : Kind → CType → Kind
 kind_in other (integer kind) = kind

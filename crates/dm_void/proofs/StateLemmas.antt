@@ -459,9 +459,6 @@ module _ (program : Program) (f : ℕ) (value returned : Tree) (functions : List
       (stands : state.standing ≡ going) (frame : Frame) (callers : List Caller) (waiting : CallersAgree state.callers callers)
       (here : state.frame.function ≡ f) (here_there : frame.function ≡ f) (objects : frame.objects ≡ state.frame.objects)
       (valueless : (place : Place) (kind : CType) (result : Value) (locks : List At) (rest : List Task) → state.frame.tasks ≡ evaluates place (done kind (of_value result) locks) drops ∷ rest → kind ≡ kind_of value → result ≡ unset) where
-    abbrev pub that : State
-    that = beside state frame callers
-
     abbrev pub ThereFound : State → Type 0
     ThereFound later = Found names w state fresh stands frame callers waiting later
 

@@ -1,9 +1,7 @@
 -- What words ask for, part by part.
-use Rattle.std.proofs.Common.{◌≡◌, ◌<◌, ◌+◌, ℕ, zero, suc, Bool, true, false, List, [], ◌∷◌, length, map, Option, Some, None, refl, ap, ap₂, sym, subst, ◌∙◌, arith, ◌==◌, codes, bytes_eq, if◌then◌else◌, option_to_list}
+use Rattle.std.proofs.Common.{◌≡◌, ◌<◌, ◌+◌, ℕ, zero, suc, Bool, true, false, List, [], ◌∷◌, length, map, Option, Some, None, refl, ap, ap₂, sym, subst, ◌∙◌, arith, ◌==◌, if◌then◌else◌, option_to_list}
 use Rattle.std.proofs.lemmas.Bool.{eqb-true, true≢false}
-use Rattle.std.proofs.lemmas.Slice.Eq.{bytes_eq-Decides}
 use Rattle.dm_words.specs.declared.command.Command as code
-use Rattle.dm_words.specs.declared.command.Command.TheVariants.{Plan, Apply, Expand, Run, Gen}
 use Rattle.dm_words.specs.declared.testing.Operands.TheVariants.{Neither}
 use Rattle.dm_words.specs.declared.testing.Found.{Found}
 use Rattle.dm_words.specs.declared.part.Part as read
@@ -221,52 +219,6 @@ nothing_found = record { operands = Neither; json = false; order = None; steps =
 nothing_followed : (given : Given) → followed (held nothing_found) given ≡ given
 nothing_followed given = let same : 0 + given.jsons ≡ given.jsons = omega arith in ap (λ count. record given { jsons = count }) same
 
--- no words
-pub selects_none : (words : List (List ℕ)) → length words ≡ 0 → Selects words None
-selects_none words empty = λ request asked. let same : length words ≡ suc (length asked.behind) = ap length asked.command in absurd (omega arith)
-
--- a word that names no command
-pub selects_unnamed : (word : List ℕ) (others : List (List ℕ)) → named word ≡ None → Selects (word ∷ others) None
-unfolding command_in
-selects_unnamed word others unnamed = λ request asked.
-    let none : None ≡ Some (kind_of request) = sym unnamed ∙ ap command_in asked.command ∙ named-request request in
-    absurd cc
-
-name_of : code.Command → List ℕ
-name_of Plan = codes "plan"
-name_of Apply = codes "apply"
-name_of Expand = codes "expand"
-name_of Run = codes "run"
-name_of Gen = codes "gen"
-
-name_of-request : (request : Request) → command_of request ≡ name_of (kind_of request)
-unfolding name_of
-name_of-request (plan project as_json) = refl
-name_of-request (apply project as_json) = refl
-name_of-request (expand project file) = refl
-name_of-request (run request) = refl
-name_of-request (gen count) = refl
-
-named_by : Bool → Bool → Bool → Bool → Bool → Option code.Command
-named_by is_plan is_apply is_expand is_run is_gen =
-    if is_plan then Some Plan else if is_apply then Some Apply else if is_expand then Some Expand else if is_run then Some Run else if is_gen then Some Gen else None
-
--- what names a command is its name
-names : (word : List ℕ) (command : code.Command) → named word ≡ Some command → word ≡ name_of command
-unfolding name_of named_by
-names word command same =
-    at (bytes_eq word (codes "plan")) refl (bytes_eq word (codes "apply")) refl (bytes_eq word (codes "expand")) refl
-    (bytes_eq word (codes "run")) refl (bytes_eq word (codes "gen")) refl same
-  where
-    at : (p : Bool) → bytes_eq word (codes "plan") ≡ p → (a : Bool) → bytes_eq word (codes "apply") ≡ a → (e : Bool) → bytes_eq word (codes "expand") ≡ e
-        → (r : Bool) → bytes_eq word (codes "run") ≡ r → (g : Bool) → bytes_eq word (codes "gen") ≡ g → named_by p a e r g ≡ Some command → word ≡ name_of command
-    at true is a _ e _ r _ g _ same = (bytes_eq-Decides word (codes "plan")).0 is ∙ ap name_of (some_kind same)
-    at false _ true is e _ r _ g _ same = (bytes_eq-Decides word (codes "apply")).0 is ∙ ap name_of (some_kind same)
-    at false _ false _ true is r _ g _ same = (bytes_eq-Decides word (codes "expand")).0 is ∙ ap name_of (some_kind same)
-    at false _ false _ false _ true is g _ same = (bytes_eq-Decides word (codes "run")).0 is ∙ ap name_of (some_kind same)
-    at false _ false _ false _ false _ true is same = (bytes_eq-Decides word (codes "gen")).0 is ∙ ap name_of (some_kind same)
-    at false _ false _ false _ false _ false _ same = absurd cc
-
 module _ (words others : List (List ℕ)) (word : List ℕ) (are : words ≡ word ∷ others) (command : code.Command) (named_so : named word ≡ Some command) where
   pub selects_bad : Tests command nothing_found others false → Selects words None
   unfolding command_in tail_of
@@ -274,17 +226,3 @@ module _ (words others : List (List ℕ)) (word : List ℕ) (are : words ≡ wor
       let kind : kind_of request ≡ command = some_kind (sym (named-request request) ∙ ap command_in (sym asked.command ∙ are) ∙ named_so) in
       let behind : asked.behind ≡ others = ap tail_of (sym asked.command ∙ are) in
       tests request kind (record { parts = asked.parts; are = subst (λ rest. Are asked.parts rest) behind asked.are; means = subst (λ given. Means given request) (sym (nothing_followed (given_by asked.parts))) asked.means })
-
-  pub selects_good : Tests command nothing_found others true → Selects words (Some command)
-  selects_good tests =
-      let request = tests.0 in (
-        request,
-        tests.1,
-        record {
-          behind = others;
-          command = are ∙ ap (λ first. first ∷ others) (names word command named_so ∙ ap name_of (sym tests.1) ∙ sym (name_of-request request));
-          parts = tests.2.parts;
-          are = tests.2.are;
-          means = subst (λ given. Means given request) (nothing_followed (given_by tests.2.parts)) tests.2.means;
-        },
-      )

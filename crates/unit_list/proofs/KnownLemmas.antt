@@ -1,5 +1,5 @@
 -- The parts of a tree whose types are numbered have types that are.
-use Rattle.std.specs.Prelude.{◌≡◌, ◌<◌, ℕ, ℤ, Bool, true, ◌&&◌, nat_lt, IsTrue, List, length, map, All, Option, Some, None, option_map, IfSome}
+use Rattle.std.specs.Prelude.{◌≡◌, ℕ, ℤ, Bool, true, ◌&&◌, nat_lt, IsTrue, List, length, map, All, Option, Some, None, option_map, IfSome}
 use Rattle.std.specs.List.{list_all}
 use Rattle.std.proofs.Common.{rules, refl, sym, ap, ◌∙◌}
 use Rattle.std.proofs.lemmas.Bool.{and_parts, ltb-true}
@@ -8,29 +8,17 @@ use Rattle.std.proofs.lemmas.List.Elements.{All-weaker}
 use Rattle.std.proofs.lemmas.List.Sums.{AllPass-from_list_all}
 use Rattle.dm_int.specs.declared.Op.{Op}
 use Rattle.dm_type.specs.Tables.{Table, IsId}
-use Rattle.dm_tree.specs.declared.tree.Core.{Core, out-Core}
+use Rattle.dm_tree.specs.declared.tree.Core.{Core}
 use Rattle.dm_tree.specs.declared.tree.Core as q
 use Rattle.dm_tree.specs.declared.tree.Form.{Form}
 use Rattle.dm_tree.specs.declared.tree.Form.TheVariants as form
-use Rattle.dm_tree.specs.declared.tree.Form.TheFolds as folds
 use Rattle.dm_tree.specs.declared.tree.Initial.{Initial}
 use Rattle.dm_tree.specs.declared.tree.Initial.TheVariants as initial
 use Rattle.dm_tree.specs.declared.tree.Local.{Local}
 use Rattle.dm_tree.specs.declared.unit.CoreExternal.{CoreExternal}
 use Rattle.dm_tree.specs.declared.unit.Declared.{Declared}
-use Rattle.dm_tree.specs.TypeNumbers.{are_known, are_known_in_form, are_known_in_local, entry_has_known, external_has_known, form_known, initial_known, core_known, local_known, all_pass, passes_if_there}
+use Rattle.dm_tree.specs.TypeNumbers.{are_known, are_known_in_form, are_known_in_local, entry_has_known, external_has_known, all_pass, passes_if_there}
 use Rattle.unit_list.specs.Known.{are_known_in_initial, IsKnownExternal}
-
-pub known-core : (n : ℕ) (core : Core) → are_known n core ≡ (nat_lt (out-Core core).kind n && are_known_in_form n (out-Core core).form)
-known-core n core = folds.fold_out-Core Bool Bool Bool Bool (form_known n) initial_known (core_known n) local_known core
-
-pub kind-known : (n : ℕ) (core : Core) → IsTrue (are_known n core) → (out-Core core).kind < n
-kind-known n core known =
-    ltb-true (out-Core core).kind n (and_parts (nat_lt (out-Core core).kind n) (are_known_in_form n (out-Core core).form) (sym (known-core n core) ∙ known)).0
-
-pub form-known : (n : ℕ) (core : Core) → IsTrue (are_known n core) → IsTrue (are_known_in_form n (out-Core core).form)
-form-known n core known =
-    (and_parts (nat_lt (out-Core core).kind n) (are_known_in_form n (out-Core core).form) (sym (known-core n core) ∙ known)).1
 
 -- each of a list passes
 pub trees-pass : (n : ℕ) (cores : List Core) → IsTrue (all_pass (map (are_known n) cores)) → All (λ core. IsTrue (are_known n core)) cores
