@@ -8,21 +8,31 @@ import os
 import subprocess
 import sys
 import tempfile
+import time
 
 
-def measure(command):
-    """The processor time in seconds and the peak of resident memory in bytes of a run that ends well.
+def used(command):
+    """The processor time that a run that ends well used, as the user and in the system, the time by the clock, and the peak of
+    resident memory in bytes.
 
     The peak is told by `time`, which is small: a process counts what its parent held when it was started.
     """
     with tempfile.NamedTemporaryFile("r") as told:
         timed = ["/usr/bin/time", "-q", "-f", "%M", "-o", told.name, *command]
+        begin = time.monotonic()
         child = subprocess.Popen(timed, stdout=subprocess.DEVNULL, stderr=subprocess.DEVNULL)
-        _, status, used = os.wait4(child.pid, 0)
+        _, status, usage = os.wait4(child.pid, 0)
+        wall = time.monotonic() - begin
         child.returncode = os.waitstatus_to_exitcode(status)
         if child.returncode != 0:
             sys.exit(f"{command} ended with status {child.returncode}")
-        return used.ru_utime + used.ru_stime, int(told.read()) * 1024
+        return usage.ru_utime, usage.ru_stime, wall, int(told.read()) * 1024
+
+
+def measure(command):
+    """The processor time in seconds and the peak of resident memory in bytes of a run that ends well."""
+    user, system, _, peak = used(command)
+    return user + system, peak
 
 
 def best(command):

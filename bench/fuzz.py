@@ -23,7 +23,7 @@ TOP = os.path.dirname(os.path.dirname(os.path.abspath(__file__)))
 SECONDS = 60
 STACK = 8 << 20
 BATCH = 1000
-CORPUS = ["examples", "examples/stubs", "crates/unit_list/data"]
+CORPUS = ["examples", "examples/stubs", "crates/unit_list/data/src", "crates/unit_list/data/include"]
 NAME = rb"[A-Za-z0-9_+./<>-]*"
 FORMS = {
     1: rb"usage: demacro [^\n]*\n",

@@ -6,7 +6,9 @@ usage: many_runs.py SHAPE PROGRAM FOLDER
 
 SHAPE is `arguments` (all runs are arguments of one call), `commas` (all stand in one comma expression), `nested` (each is the argument of
 the next one, a hundred deep), `occurrences` (a parameter occurs two hundred times in each), `parameters` (a macro has many parameters, each of
-which occurs once in a run) or `definitions` (each run is of another definition).
+which occurs once in a run), `places` (a parameter has many places), `empty` (a macro has many parameters, and all arguments are empty), `sums` (they
+are operands of sums of two hundred), `definitions` (each run is of another definition), `stored` (of at most 4,096, all kept by rule 14) or
+`unused` (4,096 definitions that nothing uses).
 """
 import os
 import sys
@@ -18,13 +20,13 @@ KEPT = "#define SQUARE(x) ((x)*(x))\n"
 
 def arguments(count):
     """Each argument is read beside the others, and beside something that is stored."""
-    kinds = ", ".join("int" for _ in range(count + 1))
-    uses = ", ".join("SQUARE(a)" for _ in range(count))
+    kinds = ",\n".join("int" for _ in range(count + 1))
+    uses = ",\n".join("SQUARE(a)" for _ in range(count))
     return f"{KEPT}int all({kinds});\nstatic int f(int a, int b) {{ int k = all(b++, {uses}); return k + SQUARE(a++); }}\n{MAIN}", 0
 
 
 def commas(count):
-    uses = ", ".join("SQUARE(a)" for _ in range(count))
+    uses = ",\n".join("SQUARE(a)" for _ in range(count))
     return f"{KEPT}int main(void) {{ int a = 1; a = ({uses}); return SQUARE(a++); }}\n", 0
 
 
@@ -48,6 +50,45 @@ def parameters(count):
     return f"#define EACH({', '.join(names)}) ({', '.join(names)})\n" + functions + MAIN, 1
 
 
+def places(count):
+    """One parameter has as many places in the replacement list."""
+    body = "(" + ", ".join("(x)" for _ in range(count // 4)) + ")"
+    functions = "".join(f"static int f{number}(int a) {{ return PLACES(a); }}\n" for number in range(4))
+    return f"#define PLACES(x) {body}\n" + functions + MAIN, 1
+
+
+def empty(count):
+    """The arguments are empty, so it is looked for where each would stand."""
+    names = [f"p{number}" for number in range(count // 4)]
+    body = "0, " + ", ".join(f"{name} 1" for name in names)
+    functions = "".join(f"static int f{number}(void) {{ return NONE({',' * (len(names) - 1)}); }}\n" for number in range(4))
+    return f"#define NONE({', '.join(names)}) ({body})\n" + functions + MAIN, 0
+
+
+def sums(count):
+    """Operands of sums, each of which has two hundred and is as deep as that."""
+    sum_of_runs = " +\n".join("SQUARE(a)" for _ in range(200))
+    functions = "".join(f"static int f{number}(int a) {{ return {sum_of_runs}; }}\n" for number in range(count // 200))
+    return KEPT + functions + "static int g(int a) { return SQUARE(a++); }\n" + MAIN, 0
+
+
+MOST = 4096
+
+
+def stored(count):
+    """At most 4,096 definitions, all of which break rule 14."""
+    made = "".join(f"#define S{number}(x) ((x)*(x))\n" for number in range(min(count, MOST)))
+    functions = "".join(f"static int f{number}(int a) {{ return S{number % MOST}(a++); }}\n" for number in range(count))
+    return made + functions + MAIN, 0
+
+
+def unused(count):
+    """At most 4,096 definitions, all of which break rule 4."""
+    made = "".join(f"#define K{number} {number}\n" for number in range(min(count, MOST)))
+    functions = "".join(f"static int f{number}(int a) {{ return a + {number}; }}\n" for number in range(count))
+    return made + functions + MAIN, 0
+
+
 def definitions(count):
     made = "".join(f"#define S{number}(x) ((x)*(x))\n" for number in range(count))
     functions = "".join(f"static int f{number}(int a) {{ return S{number}(a++); }}\n" for number in range(count))
@@ -60,7 +101,12 @@ SHAPES = {
     "nested": (nested, [5000, 20000]),
     "occurrences": (occurrences, [20000, 80000]),
     "parameters": (parameters, [2000, 8000]),
+    "places": (places, [2000, 8000]),
+    "empty": (empty, [2000, 8000]),
+    "sums": (sums, [2000, 8000]),
     "definitions": (definitions, [1000, 4000]),
+    "stored": (stored, [3750, 15_000]),
+    "unused": (unused, [5000, 20000]),
 }
 
 
