@@ -151,10 +151,10 @@ module _ (bytes : List ℕ) where
   all-lines from [] rows = tt
   all-lines from (line ∷ lines) rows = (row-weaker 0 from line (omega arith) rows.0, rows.1)
 
-  lines-row : (from : ℕ) (tokens : List PpToken) → Row from tokens → LinesFrom from (lines_of tokens)
+  lines-follow : (from : ℕ) (tokens : List PpToken) → Row from tokens → LinesFrom from (lines_of tokens)
   unfolding lines_of
-  lines-row from [] row = tt
-  lines-row from (t ∷ ts) row = by (is_line_start ts) (lines_of ts) (lines-row t.end ts row.4)
+  lines-follow from [] row = tt
+  lines-follow from (t ∷ ts) row = by (is_line_start ts) (lines_of ts) (lines-follow t.end ts row.4)
     where
       first : (lines : List (List PpToken)) → LinesFrom t.end lines → LinesFrom from (in_first_line t lines)
       first [] rows = ((row.0, row.1, row.2, row.3, tt), tt)
@@ -185,7 +185,7 @@ module _ (bytes : List ℕ) where
 
   parts-row : (file : ℕ) → AllByRecursion PartRow (parts_of (result_unwrap_or (reading_of file bytes) []))
   unfolding parts_of
-  parts-row file = parts_in-row (lines_of (result_unwrap_or (reading_of file bytes) [])) (all-lines 0 _ (lines-row 0 (result_unwrap_or (reading_of file bytes) []) (reading-row file)))
+  parts-row file = parts_in-row (lines_of (result_unwrap_or (reading_of file bytes) [])) (all-lines 0 _ (lines-follow 0 (result_unwrap_or (reading_of file bytes) []) (reading-row file)))
 
   part-at : (parts : List Part) (k : ℕ) (part : Part) → AllByRecursion PartRow parts → slice_get parts k ≡ Some part → PartRow part
   part-at [] k part rows is = absurd (no-part is)

@@ -28,12 +28,12 @@ are_once (part ∷ parts) (other ∷ others) words left right =
     ap₂ (λ one more. one ∷ more) both.0 (are_once parts others right.0 (subst (λ behind. Are parts behind) both.1 left.2) right.2)
 
 -- the command of a request is that of its name
-pub named-request : (request : Request) → named (command_of request) ≡ Some (kind_of request)
-named-request (plan project as_json) = refl
-named-request (apply project as_json) = refl
-named-request (expand project file) = refl
-named-request (run request) = refl
-named-request (gen count) = refl
+pub named-asked : (request : Request) → named (command_of request) ≡ Some (kind_of request)
+named-asked (plan project as_json) = refl
+named-asked (apply project as_json) = refl
+named-asked (expand project file) = refl
+named-asked (run request) = refl
+named-asked (gen count) = refl
 
 -- an option has one value
 one_value : (default : ℕ) (given : List (List ℕ)) (a b : ℕ) → IsNumberGiven default given a → IsNumberGiven default given b → a ≡ b
@@ -144,7 +144,7 @@ some_kind {a} {b} same = cc
 
 pub same_kind : (words : List (List ℕ)) (a b : Request) → AsksFor words a → AsksFor words b → kind_of a ≡ kind_of b
 unfolding command_in
-same_kind words a b left right = some_kind (sym (named-request a) ∙ ap command_in (sym left.command ∙ right.command) ∙ named-request b)
+same_kind words a b left right = some_kind (sym (named-asked a) ∙ ap command_in (sym left.command ∙ right.command) ∙ named-asked b)
 
 pub asks_once : (words : List (List ℕ)) (a b : Request) → AsksFor words a → AsksFor words b → a ≡ b
 unfolding tail_of
@@ -223,6 +223,6 @@ module _ (words others : List (List ℕ)) (word : List ℕ) (are : words ≡ wor
   pub selects_bad : Tests command nothing_found others false → Selects words None
   unfolding command_in tail_of
   selects_bad tests = λ request asked.
-      let kind : kind_of request ≡ command = some_kind (sym (named-request request) ∙ ap command_in (sym asked.command ∙ are) ∙ named_so) in
+      let kind : kind_of request ≡ command = some_kind (sym (named-asked request) ∙ ap command_in (sym asked.command ∙ are) ∙ named_so) in
       let behind : asked.behind ≡ others = ap tail_of (sym asked.command ∙ are) in
       tests request kind (record { parts = asked.parts; are = subst (λ rest. Are asked.parts rest) behind asked.are; means = subst (λ given. Means given request) (sym (nothing_followed (given_by asked.parts))) asked.means })
