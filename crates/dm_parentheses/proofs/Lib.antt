@@ -1,0 +1,3 @@
+pub mod JumpLemmas
+pub mod ParenthesesLemmas
+pub mod TableLemmas

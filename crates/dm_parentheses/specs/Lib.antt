@@ -1,0 +1,2 @@
+pub mod Parentheses
+pub mod Table
