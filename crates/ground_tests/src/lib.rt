@@ -1,4 +1,4 @@
-//! Tests of the crates that all others stand on: tokens and texts, spellings, integers, files, scopes, rows and edits.
+//! Tests of the crates that all others stand on: tokens and texts, spellings, integers, files, scopes, rows, parentheses and edits.
 #![tactic(auto)]
 
 #[cfg(test)]
@@ -7,6 +7,8 @@ mod edit;
 mod int;
 #[cfg(test)]
 mod io;
+#[cfg(test)]
+mod parentheses;
 #[cfg(test)]
 mod row;
 #[cfg(test)]
