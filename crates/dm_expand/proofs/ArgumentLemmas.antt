@@ -1,6 +1,7 @@
 -- Invocations, a token at a time.
 use Rattle.std.proofs.Common.{◌≡◌, ℕ, zero, suc, ◌+◌, ◌-◌, ◌<◌, ◌≤◌, Bool, true, false, cond, ◌&&◌, eqb, nat_lt, List, [], ◌∷◌, ◌++◌, length, take, drop, get_or, refl, sym, ap, ◌∙◌, Option, Some, None, append_assoc}
-use Rattle.std.proofs.lemmas.Bool.{cond-true, cond-false, false≢true}
+use Rattle.std.specs.Option.{MatchOption}
+use Rattle.std.proofs.lemmas.Bool.{cond-true, cond-false, false≢true, and_parts, eqb-true}
 use Rattle.std.proofs.lemmas.List.{append-nil, at_drop_more, drop_all, take_all, take_more}
 use Rattle.dm_expand.specs.Items.{Item}
 use Rattle.dm_expand.specs.Arguments.{Enclosed, enclosed_in, inside_too, depth_behind, closes, separates, in_first, separated, exact_arguments}
@@ -22,6 +23,15 @@ pub all_inside-more : (items : List Item) (item : Item) (found : Option Enclosed
 unfolding inside_too
 all_inside-more items item None = refl
 all_inside-more items item (Some enclosed) = ap (λ (inside : List Item). Some (record enclosed { inside = inside })) (sym (append_assoc items (item ∷ []) enclosed.inside))
+
+-- the first token of a list, where there is one
+pub next-is : (next : Option Item) (item : Item) (before after : List Item) → MatchOption next ((before ≡ []) × (after ≡ [])) (λ first. before ≡ first ∷ after) → next ≡ Some item → before ≡ item ∷ after
+next-is None item before after is some = absurd (cc)
+next-is (Some first) item before after is some = let same : first ≡ item = cc in is ∙ ap (λ x. x ∷ after) same
+
+pub next-nothing : (next : Option Item) (before after : List Item) → MatchOption next ((before ≡ []) × (after ≡ [])) (λ first. before ≡ first ∷ after) → next ≡ None → (before ≡ []) × (after ≡ [])
+next-nothing None before after is none = is
+next-nothing (Some first) before after is none = absurd (cc)
 
 -- one token more, which doesn't close the invocation
 pub inside-goes_on : (all : Option Enclosed) (inside : List Item) (depth : ℕ) (item : Item) (others : List Item)
@@ -71,30 +81,6 @@ in_front-nothing commas depth (item ∷ others) =
     by_test true = refl
     by_test false = in_front-first item (separated commas (depth_behind depth item) others)
 
--- one token more
-pub separated-more : (all given : List (List Item)) (current : List Item) (commas depth : ℕ) (item : Item) (others : List Item)
-    → all ≡ given ++ in_front current (separated commas depth (item ∷ others)) → ((separates item && eqb depth 0) && nat_lt 0 commas) ≡ false
-    → all ≡ given ++ in_front (current ++ item ∷ []) (separated commas (depth_behind depth item) others)
-separated-more all given current commas depth item others before is =
-    before ∙ ap (λ x. given ++ in_front current x) (separated-goes_on commas depth item others is) ∙ ap (λ x. given ++ x) (in_front-more current item (separated commas (depth_behind depth item) others))
-
--- one argument more
-pub separated-next : (all given : List (List Item)) (current : List Item) (commas depth : ℕ) (item : Item) (others : List Item)
-    → all ≡ given ++ in_front current (separated commas depth (item ∷ others)) → ((separates item && eqb depth 0) && nat_lt 0 commas) ≡ true
-    → all ≡ (given ++ current ∷ []) ++ in_front [] (separated (commas - 1) depth others)
-separated-next all given current commas depth item others before is =
-    before
-    ∙ ap (λ x. given ++ in_front current x) (separated-comma commas depth item others is)
-    ∙ ap (λ (x : List Item). given ++ (x ∷ separated (commas - 1) depth others)) (append-nil current)
-    ∙ sym (append_assoc given (current ∷ []) (separated (commas - 1) depth others))
-    ∙ ap (λ x. (given ++ current ∷ []) ++ x) (sym (in_front-nothing (commas - 1) depth others))
-
--- the last argument
-pub separated-last : (all given : List (List Item)) (current : List Item) (commas depth : ℕ)
-    → all ≡ given ++ in_front current (separated commas depth []) → all ≡ given ++ current ∷ []
-separated-last all given current commas depth before =
-    before ∙ ap (λ x. given ++ in_front current x) (separated-nothing commas depth) ∙ ap (λ (x : List Item). given ++ x ∷ []) (append-nil current)
-
 -- one token more of a list without a comma so far
 pub unseparated-more : (all : List (List Item)) (items : List Item) (commas depth i : ℕ) (item : Item) → i < length items → item ≡ get_or items i item
     → all ≡ in_front (take i items) (separated commas depth (drop i items)) → ((separates item && eqb depth 0) && nat_lt 0 commas) ≡ false
@@ -107,6 +93,19 @@ unseparated-more all items commas depth i item lt at before is =
     ∙ ap (in_front (take i items)) (separated-goes_on commas depth item rest is)
     ∙ in_front-more (take i items) item (separated commas (depth_behind depth item) rest)
     ∙ ap (λ (xs : List Item). in_front xs (separated commas (depth_behind depth item) rest)) (sym (take_more items i item lt ∙ ap (λ (x : Item). take i items ++ x ∷ []) (sym at)))
+
+-- the first comma of a list
+pub separated-at : (all : List (List Item)) (items : List Item) (commas depth i : ℕ) (item : Item) → i < length items → item ≡ get_or items i item
+    → all ≡ in_front (take i items) (separated commas depth (drop i items)) → ((separates item && eqb depth 0) && nat_lt 0 commas) ≡ true
+    → all ≡ take i items ∷ separated (commas - 1) 0 (drop (i + 1) items)
+separated-at all items commas depth i item lt at before is =
+    let rest : List Item = drop (i + 1) items in
+    before
+    ∙ at_drop_more (λ (xs : List Item). in_front (take i items) (separated commas depth xs)) items i item lt
+    ∙ ap (λ (x : Item). in_front (take i items) (separated commas depth (x ∷ rest))) (sym at)
+    ∙ ap (in_front (take i items)) (separated-comma commas depth item rest is)
+    ∙ ap (λ (xs : List Item). xs ∷ separated (commas - 1) depth rest) (append-nil (take i items))
+    ∙ ap (λ d. take i items ∷ separated (commas - 1) d rest) (eqb-true depth 0 (and_parts _ _ (and_parts _ _ is).0).1)
 
 -- a list without a comma
 pub unseparated-last : (all : List (List Item)) (items : List Item) (commas depth i : ℕ) → length items ≤ i

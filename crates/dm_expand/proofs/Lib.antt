@@ -9,7 +9,9 @@ pub mod NeedsLemmas
 pub mod PasteLemmas
 pub mod ProgressLemmas
 pub mod SearchLemmas
+pub mod ShareLemmas
 pub mod StepLemmas
+pub mod StretchLemmas
 pub mod StringLemmas
 pub mod SubstitutionLemmas
 pub mod TakeLemmas

@@ -237,7 +237,7 @@ taken_up-same macros waits others argument served =
 
 -- It goes on in the same way in a list of the same tokens.
 pub taken_up-level : (macros : Macros) (waits : code_waiting.Waiting) (level : code_level.Level) (argument : Result Output Stop)
-    → level.rest.items ≡ waits.level.rest.items → level.out.items ≡ waits.level.out.items → taken_up macros (record waits { level = level }) argument ≡ taken_up macros waits argument
+    → level.rest ≡ waits.level.rest → level.out.items ≡ waits.level.out.items → taken_up macros (record waits { level = level }) argument ≡ taken_up macros waits argument
 unfolding taken_up completed
 taken_up-level macros waits level argument rest out =
     let site : Site = waits.filling.site in
@@ -245,5 +245,5 @@ taken_up-level macros waits level argument rest out =
     let given : Result Filled Stop = pieces_before (pieces_in waits.filling.pieces) (argument >>= λ output. filled_behind macros site (not (list_any is_hash_hash definition.body)) (parts_from definition waits.whole.behind) (argument_pieces site waits.whole output.tokens) output.progress) in
     let together : Result Output Stop = given >>= put_together site waits.filling.hidden (parts_of definition) in
     let again : List Item → Output → Result Output Stop = λ behind replacement. expanded macros (replacement.tokens ++ behind) replacement.progress in
-    ap (λ (xs : List Item). tokens_before xs (together >>= again level.rest.items)) out
+    ap (λ (xs : List Item). tokens_before xs (together >>= again level.rest)) out
     ∙ ap (λ (xs : List Item). tokens_before waits.level.out.items (together >>= again xs)) rest

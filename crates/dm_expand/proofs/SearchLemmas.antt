@@ -42,7 +42,7 @@ or-false : (a : Bool) → (a || false) ≡ a
 or-false true = refl
 or-false false = refl
 
-otherwise-append : (name : List Mark) (xs ys : List Item) → come_otherwise name (xs ++ ys) ≡ (come_otherwise name xs || come_otherwise name ys)
+pub otherwise-append : (name : List Mark) (xs ys : List Item) → come_otherwise name (xs ++ ys) ≡ (come_otherwise name xs || come_otherwise name ys)
 otherwise-append name [] ys = ap (λ b. b || come_otherwise name ys) (sym (otherwise-nothing name))
 otherwise-append name (x ∷ xs) ys =
     otherwise-step name x (xs ++ ys)
@@ -63,17 +63,26 @@ pub foreign-opening : (name : List Mark) (opening closing : Item) (inside : List
 foreign-opening name opening closing inside fails =
     ap (λ b. not b || come_otherwise name (inside ++ closing ∷ [])) fails ∙ sym (otherwise-step name opening (inside ++ closing ∷ []))
 
-pub foreign-inside : (name : List Mark) (opening closing : Item) (inside : List Item) → true ≡ begins_with name opening.trail → true ≡ come_otherwise name inside → true ≡ come_otherwise name (opening ∷ (inside ++ closing ∷ []))
-foreign-inside name opening closing inside begins other =
-    ap (λ b. b || come_otherwise name (closing ∷ [])) other
-    ∙ sym (otherwise-append name inside (closing ∷ []))
-    ∙ sym (otherwise-passed name opening (inside ++ closing ∷ []) begins)
+or-true : (a b : Bool) → true ≡ b → true ≡ (a || b)
+or-true true b is = refl
+or-true false b is = is
 
-pub foreign-closing : (name : List Mark) (opening closing : Item) (inside : List Item) → true ≡ begins_with name opening.trail → false ≡ come_otherwise name inside → not (begins_with name closing.trail) ≡ come_otherwise name (opening ∷ (inside ++ closing ∷ []))
-foreign-closing name opening closing inside begins none =
-    sym (or-false (not (begins_with name closing.trail)))
-    ∙ ap (λ b. not (begins_with name closing.trail) || b) (sym (otherwise-nothing name))
-    ∙ sym (otherwise-step name closing [])
-    ∙ ap (λ b. b || come_otherwise name (closing ∷ [])) none
-    ∙ sym (otherwise-append name inside (closing ∷ []))
-    ∙ sym (otherwise-passed name opening (inside ++ closing ∷ []) begins)
+-- a `)` alone
+otherwise-one : (name : List Mark) (item : Item) → come_otherwise name (item ∷ []) ≡ not (begins_with name item.trail)
+otherwise-one name item = otherwise-step name item [] ∙ ap (λ b. not (begins_with name item.trail) || b) (otherwise-nothing name) ∙ or-false (not (begins_with name item.trail))
+
+-- all but the `(`
+otherwise-behind : (name : List Mark) (opening closing : Item) (inside : List Item) → true ≡ begins_with name opening.trail
+    → come_otherwise name (opening ∷ (inside ++ closing ∷ [])) ≡ (come_otherwise name inside || not (begins_with name closing.trail))
+otherwise-behind name opening closing inside begins =
+    otherwise-passed name opening (inside ++ closing ∷ []) begins
+    ∙ otherwise-append name inside (closing ∷ [])
+    ∙ ap (λ b. come_otherwise name inside || b) (otherwise-one name closing)
+
+pub foreign-closing : (name : List Mark) (opening closing : Item) (inside : List Item) → true ≡ begins_with name opening.trail → false ≡ begins_with name closing.trail → true ≡ come_otherwise name (opening ∷ (inside ++ closing ∷ []))
+foreign-closing name opening closing inside begins fails =
+    or-true (come_otherwise name inside) (not (begins_with name closing.trail)) (ap not fails) ∙ sym (otherwise-behind name opening closing inside begins)
+
+pub foreign-inside : (name : List Mark) (opening closing : Item) (inside : List Item) → true ≡ begins_with name opening.trail → true ≡ begins_with name closing.trail → come_otherwise name inside ≡ come_otherwise name (opening ∷ (inside ++ closing ∷ []))
+foreign-inside name opening closing inside begins ends =
+    sym (or-false (come_otherwise name inside)) ∙ ap (λ b. come_otherwise name inside || b) (ap not ends) ∙ sym (otherwise-behind name opening closing inside begins)

@@ -77,6 +77,13 @@ unfolding begins_with
 prefix-begins [] rest = refl
 prefix-begins (mark ∷ name) rest = and_from _ _ (same_mark-itself mark) (prefix-begins name rest)
 
+-- a trail begins as what it begins with does
+pub begins-longer : (name longer trail : List Mark) → IsPrefix name longer → begins_with longer trail ≡ true → begins_with name trail ≡ true
+begins-longer name longer trail begins is =
+    let rest : IsPrefix longer trail = begins-prefix longer trail is in
+    let whole : trail ≡ name ++ (begins.0 ++ rest.0) = rest.1 ∙ ap (λ xs. xs ++ rest.0) begins.1 ∙ append_assoc name begins.0 rest.0 in
+    ap (begins_with name) whole ∙ prefix-begins name (begins.0 ++ rest.0)
+
 -- no mark at all is how each trail begins
 pub begins-nothing : (name trail : List Mark) → length name ≡ 0 → true ≡ begins_with name trail
 unfolding begins_with

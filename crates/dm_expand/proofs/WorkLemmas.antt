@@ -93,24 +93,24 @@ taken_up-whole macros waits p =
 
 -- an argument's list is entered
 pub enter-is : (macros : Macros) (waiting : List code_waiting.Waiting) (waits : code_waiting.Waiting) (inner : code_level.Level) (p : Progress)
-    → inner.out.items ≡ [] → inner.rest.items ≡ argument_for waits.filling.site waits.whole.parameter
+    → inner.out.items ≡ [] → inner.rest ≡ argument_for waits.filling.site waits.whole.parameter
     → outward macros waiting (completed_whole macros waits.level waits.filling waits.whole p) ≡ outward macros (waiting ++ waits ∷ []) (scanned_on macros inner p)
 enter-is macros waiting waits inner p nothing argument =
     ap (outward macros waiting) (taken_up-whole macros waits p)
     ∙ ap (λ (xs : List Item). outward macros waiting (taken_up macros waits (expanded macros xs p))) (sym argument)
-    ∙ ap (λ (r : Result Output Stop). outward macros waiting (taken_up macros waits r)) (sym (tokens_before-nothing (expanded macros inner.rest.items p)))
-    ∙ ap (λ (xs : List Item). outward macros waiting (taken_up macros waits (tokens_before xs (expanded macros inner.rest.items p)))) (sym nothing)
+    ∙ ap (λ (r : Result Output Stop). outward macros waiting (taken_up macros waits r)) (sym (tokens_before-nothing (expanded macros inner.rest p)))
+    ∙ ap (λ (xs : List Item). outward macros waiting (taken_up macros waits (tokens_before xs (expanded macros inner.rest p)))) (sym nothing)
     ∙ sym (outward-push macros waiting waits (scanned_on macros inner p))
 
 -- a replacement goes before what follows its invocation
 pub leave-is : (macros : Macros) (level after : code_level.Level) (site : Site) (hidden : HiddenNumbers) (definition : Definition) (pieces : Filled) (tokens : List Item) (q : Progress)
-    → put_together site hidden (parts_of definition) pieces ≡ Ok (gives tokens q) → after.rest.items ≡ tokens ++ level.rest.items → after.out.items ≡ level.out.items
+    → put_together site hidden (parts_of definition) pieces ≡ Ok (gives tokens q) → after.rest ≡ tokens ++ level.rest → after.out.items ≡ level.out.items
     → completed macros level site hidden definition (Ok pieces) ≡ scanned_on macros after q
 unfolding completed
 leave-is macros level after site hidden definition pieces tokens q together rest out =
     ap (λ (r : Result Output Stop). tokens_before level.out.items (r >>= goes_on macros level)) together
     ∙ ap (λ (xs : List Item). tokens_before level.out.items (expanded macros xs q)) (sym rest)
-    ∙ ap (λ (xs : List Item). tokens_before xs (expanded macros after.rest.items q)) (sym out)
+    ∙ ap (λ (xs : List Item). tokens_before xs (expanded macros after.rest q)) (sym out)
 
 pub leave-stops : (macros : Macros) (level : code_level.Level) (site : Site) (hidden : HiddenNumbers) (definition : Definition) (pieces : Filled) (stop : Stop)
     → put_together site hidden (parts_of definition) pieces ≡ Err stop → completed macros level site hidden definition (Ok pieces) ≡ Err stop
@@ -147,14 +147,14 @@ take_up-count-stops macros waits output stop counted =
 
 -- a macro is replaced
 pub replace-is : (macros : Macros) (level : code_level.Level) (invocation : code_invocation.Invocation) (site : Site) (p q : Progress)
-    → site ≡ site_of (invocation_value invocation level.rest.items) p.instance
+    → site ≡ site_of (invocation_value invocation level.rest) p.instance
     → begin invocation.found.number invocation.name invocation.foreign p ≡ Ok q
     → invoked_on macros level invocation p
     ≡ completed macros level site invocation.hidden invocation.found.body.definition.now (pieces_before [] (filled_all (expanded macros) site (not (list_any is_hash_hash invocation.found.body.definition.now.body)) (parts_from invocation.found.body.definition.now 0) q))
 unfolding completed replaced substituted put_together
 replace-is macros level invocation site p q is begun =
     let definition : Definition = invocation.found.body.definition.now in
-    let value = invocation_value invocation level.rest.items in
+    let value = invocation_value invocation level.rest in
     let all : Result Filled Stop → Result Output Stop = λ r. completed macros level site invocation.hidden definition r in
     ap (λ (r : Result Progress Stop). tokens_before level.out.items (r >>= λ begun. substituted (expanded macros) (site_of value p.instance) invocation.hidden (parts_of definition) begun >>= goes_on macros level)) begun
     ∙ ap (λ (s : Site). tokens_before level.out.items (substituted (expanded macros) s invocation.hidden (parts_of definition) q >>= goes_on macros level)) (sym is)
@@ -166,22 +166,22 @@ pub replace-stops : (macros : Macros) (level : code_level.Level) (invocation : c
     → begin invocation.found.number invocation.name invocation.foreign p ≡ Err stop → invoked_on macros level invocation p ≡ Err stop
 unfolding replaced
 replace-stops macros level invocation p stop begun =
-    let value = invocation_value invocation level.rest.items in
+    let value = invocation_value invocation level.rest in
     ap (λ (r : Result Progress Stop). tokens_before level.out.items (r >>= λ begun. substituted (expanded macros) (site_of value p.instance) invocation.hidden (parts_of invocation.found.body.definition.now) begun >>= goes_on macros level)) begun
 
 -- WHAT IS PUT OUT
 
 -- tokens that were put out of a list before
 pub passed-put : (macros : Macros) (level after : code_level.Level) (found : Option code_invocation.Invocation) (p : Progress) (more : List Item)
-    → level.out.items ≡ more ++ after.out.items → after.rest.items ≡ level.rest.items → passed_on macros level found p ≡ tokens_before more (passed_on macros after found p)
+    → level.out.items ≡ more ++ after.out.items → after.rest ≡ level.rest → passed_on macros level found p ≡ tokens_before more (passed_on macros after found p)
 passed-put macros level after None p more out rest =
-    ap (λ (xs : List Item). tokens_before xs (expanded macros level.rest.items p)) out
-    ∙ sym (tokens_before-append more after.out.items (expanded macros level.rest.items p))
+    ap (λ (xs : List Item). tokens_before xs (expanded macros level.rest p)) out
+    ∙ sym (tokens_before-append more after.out.items (expanded macros level.rest p))
     ∙ ap (λ (xs : List Item). tokens_before more (tokens_before after.out.items (expanded macros xs p))) (sym rest)
 passed-put macros level after (Some invocation) p more out rest =
     let made : List Item → Result Output Stop = λ behind. replaced (expanded macros) (invocation_value invocation behind) p in
-    ap (λ (xs : List Item). tokens_before xs (made level.rest.items)) out
-    ∙ sym (tokens_before-append more after.out.items (made level.rest.items))
+    ap (λ (xs : List Item). tokens_before xs (made level.rest)) out
+    ∙ sym (tokens_before-append more after.out.items (made level.rest))
     ∙ ap (λ (xs : List Item). tokens_before more (tokens_before after.out.items (made xs))) (sym rest)
 
 -- tokens that are put out after others

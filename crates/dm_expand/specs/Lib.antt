@@ -5,6 +5,7 @@ pub mod Trails
 pub mod Ways
 pub mod Steps
 pub mod Arguments
+pub mod Shares
 pub mod Strings
 pub mod Pastes
 pub mod Predefined

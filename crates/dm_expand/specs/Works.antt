@@ -93,7 +93,7 @@ put_together site hidden parts pieces = do
 
 -- the list that a replacement goes into is scanned again from there
 abbrev pub goes_on : Macros → code_level.Level → Output → Result Output Stop
-goes_on macros level replacement = expanded macros (replacement.tokens ++ level.rest.items) replacement.progress
+goes_on macros level replacement = expanded macros (replacement.tokens ++ level.rest) replacement.progress
 
 -- what is put out of a list, when the pieces of a replacement in it are given
 unfoldable pub completed : Macros → code_level.Level → Site → HiddenNumbers → Definition → Result Filled Stop → Result Output Stop
@@ -141,12 +141,12 @@ outward macros (waits ∷ others) inner = taken_up macros waits (outward macros 
 
 -- what is put out of a list
 abbrev pub scanned_on : Macros → code_level.Level → Progress → Result Output Stop
-scanned_on macros level progress = tokens_before level.out.items (expanded macros level.rest.items progress)
+scanned_on macros level progress = tokens_before level.out.items (expanded macros level.rest progress)
 
 -- what is put out of a list where a macro is replaced next
 abbrev pub invoked_on : Macros → code_level.Level → code_invocation.Invocation → Progress → Result Output Stop
 invoked_on macros level invocation progress =
-    tokens_before level.out.items (replaced (expanded macros) (invocation_value invocation level.rest.items) progress)
+    tokens_before level.out.items (replaced (expanded macros) (invocation_value invocation level.rest) progress)
 
 -- the same where a macro may be replaced next, and else the list is done
 abbrev pub found_on : Macros → code_level.Level → Option code_invocation.Invocation → Progress → Result Output Stop

@@ -1,8 +1,11 @@
-ghost use Rattle.std.specs.Prelude.{◌≡◌, false, ◌==◌, ◌&&◌, nat_lt, ◌≤◌, ◌<◌, ◌+◌, ◌^◌, [], ◌∷◌, length, IfOk, MatchOption, option_map};
+ghost use Rattle.std.specs.Prelude.{◌≡◌, ◌==◌, ◌&&◌, nat_lt, ◌≤◌, ◌<◌, ◌+◌, ◌-◌, ◌^◌, [], ◌∷◌, take, drop, length, IfOk, MatchOption};
+ghost use Rattle.dm_parentheses.specs.Parentheses.{before_closing};
 ghost use Rattle.dm_expand.specs.Arguments as arguments;
-ghost use Rattle.dm_expand.specs.Views.{enclosed_value, is_one_empty};
+ghost use Rattle.dm_expand.specs.Shares.{signs_of as sign_values};
+ghost use Rattle.dm_expand.specs.Views.{is_one_empty};
 
 use crate::item::Item;
+use crate::stretch::Stretch;
 use dm_macro::{is_comma, is_left_parenthesis, is_right_parenthesis, named_count};
 use dm_token::{Definition, List, Memory};
 use std::alloc::Global;
@@ -11,13 +14,13 @@ use std::collections::VecDeque;
 /// What stands between a `(` and its closing `)`, and that `)`.
 #[derive(Drop)]
 pub struct Enclosed {
-    pub inside: List<Item>,
+    pub inside: Stretch,
     pub closing: Item,
 }
 
-// The depth behind a token, among parentheses.
+/// The depth behind a token, among parentheses.
 #[tactic(auto, unfolding(crate::specs::Arguments::depth_behind, crate::specs::Arguments::opens, crate::specs::Arguments::closes))]
-fn depth_behind(depth: usize, item: &Item) -> usize
+pub fn depth_behind(depth: usize, item: &Item) -> usize
     requires { depth < 2 ^ 63 }
     ensures is { result ≡ arguments.depth_behind depth item.now }
     ensures near { result ≤ depth + 1 }
@@ -39,17 +42,17 @@ fn closes(item: &Item) -> bool
     is_right_parenthesis(&item.pp)
 }
 
-// Whether a token separates arguments.
+/// Whether a token separates arguments.
 #[tactic(auto, unfolding(crate::specs::Arguments::separates))]
-fn separates(item: &Item) -> bool
+pub fn separates(item: &Item) -> bool
     ensures { result ≡ arguments.separates item.now }
 {
     is_comma(&item.pp)
 }
 
-// Whether a token closes the invocation.
+/// Whether a token closes the invocation.
 #[tactic(auto, unfolding(crate::specs::Arguments::closes))]
-fn is_closing(depth: usize, item: &Item) -> bool
+pub fn is_closing(depth: usize, item: &Item) -> bool
     ensures { result ≡ (arguments.closes item.now && depth == 0) }
 {
     closes(item) && depth == 0
@@ -69,66 +72,52 @@ pub fn next_of<T>(queue: &mut VecDeque<T>) -> Option<T>
     queue.pop_front()
 }
 
-/// Takes from a queue what stands behind a `(`, through its closing `)`. There is none where the queue ends first.
-pub fn take_enclosed(alloc: Global, queue: &mut VecDeque<Item>) -> Result<Option<Enclosed>, Memory>
-    ensures found { IfOk result (λ found. arguments.enclosed_in 0 queue.old.items ≡ option_map (enclosed_value queue.new.items) found) }
-    ensures shorter { length queue.new.items ≤ length queue.old.items }
-{
-    let mut inside = Vec::new(alloc);
-    let mut depth = 0;
-    'tokens: while let Some(item) = next_of(queue) {
-        if is_closing(depth, &item) {
-            let inside = List::from_vec(inside);
-            return Ok(Some(Enclosed {
-                inside,
-                closing: item,
-            }));
-        }
-        depth = depth_behind(depth, &item);
-        inside.push(item)?;
-    }
-    Ok(None)
-}
-
-// Whether a comma that no inner parentheses enclose separates arguments, where there may be so many commas.
-fn is_separated(commas: usize, inside: &[Item]) -> bool
-    ensures { result ≡ false → arguments.separated commas 0 inside.now ≡ inside.now ∷ [] }
+/// How many tokens stand before the `)` that closes what a `(` before them opened.
+pub fn count_before_closing(items: &[Item]) -> Option<usize>
+    ensures { result ≡ before_closing 0 (sign_values items.now) }
 {
     let mut depth = 0;
-    for item in inside {
-        if ends_argument(commas, depth, item) {
-            return true;
+    for (count, item) in items.iter().enumerate() {
+        if is_closing(depth, item) {
+            return Some(count);
         }
         depth = depth_behind(depth, item);
     }
-    false
+    None
+}
+
+/// How many tokens stand before the first comma that no parentheses enclose, where there may be so many commas. There is none
+/// where all tokens are one argument.
+pub fn count_before_comma(left: usize, items: &[Item]) -> Option<usize>
+    ensures { MatchOption result (arguments.separated left 0 items.now ≡ items.now ∷ []) (λ count. (count < length items.now)
+        × (arguments.separated left 0 items.now ≡ take count items.now ∷ arguments.separated (left - 1) 0 (drop (count + 1) items.now))) }
+{
+    let mut depth = 0;
+    for (count, item) in items.iter().enumerate() {
+        if ends_argument(left, depth, item) {
+            return Some(count);
+        }
+        depth = depth_behind(depth, item);
+    }
+    None
 }
 
 // The tokens between the commas that no inner parentheses enclose, up to so many commas. What stands behind these is one
 // argument.
-fn separated(alloc: Global, commas: usize, inside: List<Item>) -> Result<List<List<Item>>, Memory>
+fn separated(alloc: Global, commas: usize, inside: Stretch) -> Result<List<Stretch>, Memory>
     ensures { IfOk result (λ given. given ≡ arguments.separated commas 0 inside) }
 {
     let mut given = List::new(alloc);
-    if !is_separated(commas, inside.items()) {
-        given.push(inside)?;
-        return Ok(given);
-    }
-    let mut queue = VecDeque::from(inside.into_vec());
-    let mut current = Vec::new(alloc);
+    let mut rest = inside;
     let mut left = commas;
-    let mut depth = 0;
-    'tokens: while let Some(item) = next_of(&mut queue) {
-        if ends_argument(left, depth, &item) {
-            given.push(List::from_vec(current))?;
-            current = Vec::new(alloc);
-            left = left.saturating_sub(1);
-        } else {
-            depth = depth_behind(depth, &item);
-            current.push(item)?;
-        }
+    'arguments: while let Some(count) = rest.before_comma(left) {
+        given.push(rest.front(count)?)?;
+        rest.skip(count);
+        // The comma.
+        rest.skip(1);
+        left = left.saturating_sub(1);
     }
-    given.push(List::from_vec(current))?;
+    given.push(rest)?;
     Ok(given)
 }
 
@@ -137,8 +126,8 @@ fn separated(alloc: Global, commas: usize, inside: List<Item>) -> Result<List<Li
 pub fn arguments_of(
     alloc: Global,
     definition: &Definition,
-    inside: List<Item>,
-) -> Result<Option<List<List<Item>>>, Memory>
+    inside: Stretch,
+) -> Result<Option<List<Stretch>>, Memory>
     ensures { IfOk result (λ given. given ≡ arguments.arguments_of definition.now inside) }
 {
     let parameters = named_count(definition);
@@ -151,11 +140,7 @@ pub fn arguments_of(
 }
 
 // As many arguments as parameters, where `()` has none for a macro without parameters.
-fn exact_arguments(
-    alloc: Global,
-    parameters: usize,
-    given: List<List<Item>>,
-) -> Option<List<List<Item>>>
+fn exact_arguments(alloc: Global, parameters: usize, given: List<Stretch>) -> Option<List<Stretch>>
     ensures { result ≡ arguments.exact_arguments parameters given }
 {
     if parameters == 0 {
@@ -171,11 +156,11 @@ fn exact_arguments(
 }
 
 // Whether there is one argument, an empty one.
-fn is_nothing(given: &List<List<Item>>) -> bool
+fn is_nothing(given: &List<Stretch>) -> bool
     ensures { result ≡ is_one_empty given.now }
 {
     match given.items() {
-        [only] => only.is_empty(),
+        [only] => only.len() == 0,
         _ => false,
     }
 }
@@ -185,13 +170,13 @@ fn is_nothing(given: &List<List<Item>>) -> bool
 fn variadic_arguments(
     alloc: Global,
     parameters: usize,
-    given: List<List<Item>>,
-) -> Result<Option<List<List<Item>>>, Memory>
+    given: List<Stretch>,
+) -> Result<Option<List<Stretch>>, Memory>
     ensures { IfOk result (λ all. all ≡ arguments.variadic_arguments parameters given) }
 {
     let mut given = given;
     if given.len() == parameters {
-        given.push(List::new(alloc))?;
+        given.push(Stretch::of(alloc, Vec::new(alloc))?)?;
         return Ok(Some(given));
     }
     if parameters < given.len() && given.len() - parameters == 1 {

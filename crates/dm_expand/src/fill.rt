@@ -14,13 +14,14 @@ use crate::hidden::Hidden;
 use crate::item::{Item, copied};
 use crate::paste::{Site, make_token, name_trail};
 use crate::progress::Progress;
+use crate::stretch::Stretch;
 use crate::string::quoted;
 use crate::trails::Way;
 use dm_route::{Route, grown};
 use dm_token::{Mark, Memory, PpKind, PpToken};
 use std::alloc::Global;
 
-/// The argument for a parameter.
+/// The tokens of the argument for a parameter.
 #[tactic(auto, unfolding(crate::specs::Substitution::argument_for))]
 pub fn argument_for<'a>(site: &'a Site, parameter: u32) -> &'a [Item]
     ensures { result.now ≡ substitution.argument_for site.now parameter }
@@ -28,6 +29,17 @@ pub fn argument_for<'a>(site: &'a Site, parameter: u32) -> &'a [Item]
     match site.arguments.items().get(parameter as usize) {
         None => &[],
         Some(argument) => argument.items(),
+    }
+}
+
+/// The argument for a parameter, as a list that shares its tokens.
+#[tactic(auto, unfolding(crate::specs::Substitution::argument_for))]
+pub fn copy_of_argument(alloc: Global, site: &Site, parameter: u32) -> Result<Stretch, Memory>
+    ensures { IfOk result (λ argument. argument ≡ substitution.argument_for site.now parameter) }
+{
+    match site.arguments.items().get(parameter as usize) {
+        None => Stretch::of(alloc, Vec::new(alloc)),
+        Some(argument) => argument.copy(),
     }
 }
 

@@ -7,17 +7,18 @@ ghost use Rattle.dm_expand.specs.Laws.{IsNoName};
 ghost use Rattle.dm_expand.specs.Trails as trails;
 ghost use Rattle.dm_expand.specs.HeadViews.{macros_of, macro_value, head_value, replace_with, Stays, PutsNothing};
 
-use crate::arguments::{Enclosed, arguments_of, next_of, take_enclosed};
+use crate::arguments::{Enclosed, arguments_of};
 use crate::extension::Extensions;
 use crate::hidden::Hidden;
 use crate::item::Item;
 use crate::predefined::{may_be_predefined, replaced};
 use crate::progress::Progress;
-use crate::trails::{begins_with, come_otherwise};
+use crate::queue::Queue;
+use crate::stretch::Stretch;
+use crate::trails::begins_with;
 use dm_macro::{Body, MacroTable, is_identifier, is_left_parenthesis};
 use dm_token::{List, Memory, PpToken, Text, Trail};
 use std::alloc::Global;
-use std::collections::VecDeque;
 
 /// What an expansion looks up: the macros, and the files' names.
 #[derive(Clone, Copy)]
@@ -40,7 +41,7 @@ pub struct Macro<'a> {
 pub struct Invocation<'a> {
     pub found: Macro<'a>,
     pub name: Item,
-    pub arguments: List<List<Item>>,
+    pub arguments: List<Stretch>,
     pub hidden: Hidden,
     pub foreign: bool,
 }
@@ -116,7 +117,7 @@ fn with_arguments<'a>(
     name: Item,
     closing: &Item,
     foreign: bool,
-    arguments: List<List<Item>>,
+    arguments: List<Stretch>,
 ) -> Result<Head<'a>, Memory>
     ensures puts_nothing { IfOk result PutsNothing }
     ensures head { IfOk result (λ head. (rest : List Token) → head_value rest head ≡ replace_with (macro_value found.entry) name arguments (set.insert (set.intersection name.hidden closing.now.hidden) found.entry.number) foreign rest) }
@@ -137,9 +138,10 @@ fn is_foreign(
     alloc: Global,
     name: &Item,
     opening: &Item,
-    enclosed: &Enclosed,
+    enclosed: &mut Enclosed,
 ) -> Result<bool, Memory>
-    ensures { IfOk result (λ foreign. foreign ≡ trails.come_otherwise name.now.trail (opening.now ∷ (enclosed.now.inside ++ enclosed.now.closing ∷ []))) }
+    ensures foreign { IfOk result (λ foreign. foreign ≡ trails.come_otherwise name.now.trail (opening.now ∷ (enclosed.old.inside ++ enclosed.old.closing ∷ []))) }
+    ensures same { enclosed.new ≡ enclosed.old }
 {
     let way = name.trail.trail(alloc)?;
     let foreign = comes_otherwise(alloc, &way, opening, enclosed)?;
@@ -151,21 +153,22 @@ fn comes_otherwise(
     alloc: Global,
     way: &Trail,
     opening: &Item,
-    enclosed: &Enclosed,
+    enclosed: &mut Enclosed,
 ) -> Result<bool, Memory>
-    ensures { IfOk result (λ foreign. foreign ≡ trails.come_otherwise way.now (opening.now ∷ (enclosed.now.inside ++ enclosed.now.closing ∷ []))) }
+    ensures foreign { IfOk result (λ foreign. foreign ≡ trails.come_otherwise way.now (opening.now ∷ (enclosed.old.inside ++ enclosed.old.closing ∷ []))) }
+    ensures same { enclosed.new ≡ enclosed.old }
 {
     let opens = begins_with(alloc, way, &opening.trail)?;
     if !opens {
         return Ok(true);
     }
-    let other = come_otherwise(alloc, way, enclosed.inside.items())?;
-    if other {
-        return Ok(true);
-    }
     let closing = &enclosed.closing;
     let closes = begins_with(alloc, way, &closing.trail)?;
-    Ok(!closes)
+    if !closes {
+        return Ok(true);
+    }
+    let other = enclosed.inside.comes_otherwise(way)?;
+    Ok(other)
 }
 
 // A function-like macro's name and a `(`, and what follows it.
@@ -176,16 +179,16 @@ fn enclosing<'a>(
     found: Macro<'a>,
     name: Item,
     opening: &Item,
-    rest: &mut VecDeque<Item>,
+    rest: &mut Queue,
 ) -> Result<Head<'a>, Memory>
     ensures puts_nothing { IfOk result PutsNothing }
-    ensures head { IfOk result (λ head. head_value rest.new.items head ≡ expansion.enclosing (macro_value found.entry) name opening.now (arguments.enclosed_in 0 rest.old.items)) }
-    ensures shorter { OnOk result (length rest.new.items ≤ length rest.old.items) }
+    ensures head { IfOk result (λ head. head_value rest.new head ≡ expansion.enclosing (macro_value found.entry) name opening.now (arguments.enclosed_in 0 rest.old)) }
+    ensures shorter { OnOk result (length rest.new ≤ length rest.old) }
 {
-    let Some(enclosed) = take_enclosed(alloc, rest)? else {
+    let Some(mut enclosed) = rest.take_enclosed()? else {
         return Ok(Head::Refuse);
     };
-    let foreign = is_foreign(alloc, &name, opening, &enclosed)?;
+    let foreign = is_foreign(alloc, &name, opening, &mut enclosed)?;
     let Enclosed { inside, closing } = enclosed;
     let Some(arguments) = arguments_of(alloc, found.body.definition, inside)? else {
         return Ok(Head::Refuse);
@@ -201,17 +204,17 @@ fn function_like<'a>(
     extensions: &mut Extensions,
     found: Macro<'a>,
     name: Item,
-    rest: &mut VecDeque<Item>,
+    rest: &mut Queue,
 ) -> Result<Head<'a>, Memory>
-    ensures stays { IfOk result (λ head. Stays head rest.old.items rest.new.items) }
-    ensures head { IfOk result (λ head. head_value rest.new.items head ≡ expansion.function_like (macro_value found.entry) name rest.old.items) }
-    ensures shorter { OnOk result (length rest.new.items ≤ length rest.old.items) }
+    ensures stays { IfOk result (λ head. Stays head rest.old rest.new) }
+    ensures head { IfOk result (λ head. head_value rest.new head ≡ expansion.function_like (macro_value found.entry) name rest.old) }
+    ensures shorter { OnOk result (length rest.new ≤ length rest.old) }
 {
-    let Some(next) = next_of(rest) else {
+    let Some(next) = rest.next()? else {
         return Ok(Head::Put(name));
     };
     if !is_left_parenthesis(&next.pp) {
-        rest.push_front(next)?;
+        rest.put_back(next)?;
         return Ok(Head::Put(name));
     }
     let head = enclosing(alloc, extensions, found, name, &next, rest)?;
@@ -225,11 +228,11 @@ fn invoked<'a>(
     extensions: &mut Extensions,
     found: Macro<'a>,
     name: Item,
-    rest: &mut VecDeque<Item>,
+    rest: &mut Queue,
 ) -> Result<Head<'a>, Memory>
-    ensures stays { IfOk result (λ head. Stays head rest.old.items rest.new.items) }
-    ensures head { IfOk result (λ head. head_value rest.new.items head ≡ expansion.invoked (macro_value found.entry) found.entry.body.definition.now.parameters name rest.old.items) }
-    ensures shorter { OnOk result (length rest.new.items ≤ length rest.old.items) }
+    ensures stays { IfOk result (λ head. Stays head rest.old rest.new) }
+    ensures head { IfOk result (λ head. head_value rest.new head ≡ expansion.invoked (macro_value found.entry) found.entry.body.definition.now.parameters name rest.old) }
+    ensures shorter { OnOk result (length rest.new ≤ length rest.old) }
 {
     match &found.body.definition.parameters {
         None => {
@@ -250,11 +253,11 @@ pub fn head_of<'a>(
     extensions: &mut Extensions,
     progress: &Progress,
     item: Item,
-    rest: &mut VecDeque<Item>,
+    rest: &mut Queue,
 ) -> Result<Head<'a>, Memory>
-    ensures stays { IfOk result (λ head. Stays head rest.old.items rest.new.items) }
-    ensures head { IfOk result (λ head. head_value rest.new.items head ≡ expansion.head_of (macros_of macros.now) progress.now item rest.old.items) }
-    ensures shorter { OnOk result (length rest.new.items ≤ length rest.old.items) }
+    ensures stays { IfOk result (λ head. Stays head rest.old rest.new) }
+    ensures head { IfOk result (λ head. head_value rest.new head ≡ expansion.head_of (macros_of macros.now) progress.now item rest.old) }
+    ensures shorter { OnOk result (length rest.new ≤ length rest.old) }
 {
     let Some(found) = macro_of(macros, &item.pp) else {
         let out = replaced(macros.alloc, macros.files, progress, item)?;

@@ -21,6 +21,8 @@ mod needs;
 mod paste;
 mod predefined;
 mod progress;
+mod queue;
+mod stretch;
 mod string;
 mod substitute;
 mod trails;

@@ -1,28 +1,28 @@
 ghost use Rattle.std.specs.Prelude.{◌≡◌, ◌≤◌, ◌<◌, ◌+◌, ◌-◌, suc, not, List as Sequence, [], ◌∷◌, ◌++◌, map, IfOk, IfErr, OnOk, Ok, length};
-ghost use Rattle.std.specs.List.{list_any};
-ghost use Rattle.dm_macro.specs.Signs.{is_hash_hash};
 ghost use Rattle.dm_token.specs.declared.expansion.Mark.TheVariants.{Expansion};
 ghost use Rattle.dm_expand.specs.Laws.{AreNoNames, Follows};
 ghost use Rattle.dm_expand.specs.Steps.{Progress as Progressed};
 ghost use Rattle.dm_expand.specs.declared.machine.Level.{Level as Outer};
-ghost use Rattle.dm_expand.specs.Substitution.{filled_all, argument_for as given};
+ghost use Rattle.dm_expand.specs.Substitution.{argument_for as given};
 ghost use Rattle.dm_expand.specs.Expansion as expansion;
 ghost use Rattle.dm_expand.specs.Items.{Item as Entry};
 ghost use Rattle.dm_expand.specs.Expansion.{Macros as LookedUp, expanded, token_of};
 ghost use Rattle.dm_expand.specs.Views.{StopsAs, IsWithin, pieces_in};
 ghost use Rattle.dm_expand.specs.HeadViews.{macros_of, site_with};
-ghost use Rattle.dm_expand.specs.ListViews.{gives, fills, pieces_before, tokens_before};
-ghost use Rattle.dm_expand.specs.Works.{outward, load, completed, completed_from, completed_whole, waits_in, whole_and_others, taken_up, scanned_on, invoked_on, passed_on, found_on, ArePut, IsEnd, IsLastPlace};
+ghost use Rattle.dm_expand.specs.ListViews.{gives, fills, tokens_before};
+ghost use Rattle.dm_expand.specs.Works.{outward, load, completed, completed_from, completed_whole, waits_in, taken_up, scanned_on, invoked_on, passed_on, found_on, ArePut, IsEnd, IsLastPlace};
 
 use crate::arguments::next_of;
 use crate::extension::Extensions;
 use crate::fill::argument_for;
 use crate::head::{Head, Invocation, Macros, head_of, names_nothing};
 use crate::hidden::Hidden;
-use crate::item::Item;
+use crate::item::{Item, copied};
 use crate::needs::{stay, take_argument};
 use crate::paste::{Pieces, Site};
 use crate::progress::Progress;
+use crate::queue::Queue;
+use crate::stretch::Stretch;
 use crate::substitute::{Whole, complete, fill_from, fill_whole};
 use dm_macro::Body;
 use dm_route::{Joining, grown};
@@ -34,13 +34,10 @@ use std::mem;
 /// How many tokens the outermost list gathers before they are put out.
 const GATHERED: usize = 256;
 
-/// How many tokens a list may have more than a quarter of its room when the room is given back.
-const SPARE: usize = 8;
-
 /// A list that is expanded: what is still to be scanned, and what was put out before it.
 #[derive(Drop)]
 pub struct Level {
-    pub rest: VecDeque<Item>,
+    pub rest: Queue,
     pub out: Vec<Item>,
 }
 
@@ -62,23 +59,6 @@ pub struct Waiting<'a> {
     pub whole: Whole<'a>,
 }
 
-// Puts tokens before others, and moves the fewer of them.
-fn put_before(tokens: Vec<Item>, rest: &mut VecDeque<Item>) -> Result<(), Memory>
-    ensures { OnOk result (rest.new.items ≡ tokens.items ++ rest.old.items) }
-{
-    if rest.len() < tokens.len() {
-        let mut all = VecDeque::from(tokens);
-        all.append(rest)?;
-        *rest = all;
-        return Ok(());
-    }
-    let mut tokens = tokens;
-    'tokens: while let Some(item) = tokens.pop() {
-        rest.push_front(item)?;
-    }
-    Ok(())
-}
-
 // The expansion with this number for an invocation.
 #[tactic(auto, unfolding(crate::specs::Trails::body_trail))]
 fn site_of(
@@ -86,7 +66,7 @@ fn site_of(
     definition: u32,
     instance: u32,
     name: Item,
-    arguments: List<List<Item>>,
+    arguments: List<Stretch>,
 ) -> Result<Site, Memory>
     ensures { IfOk result (λ site. site ≡ site_with name (Expansion definition instance) arguments) }
 {
@@ -116,16 +96,6 @@ fn no_arguments(place: Place) -> Stop
     })
 }
 
-// Gives back the room of a list once most of it is free, so that lists that wait take little more than their tokens. A list
-// that has grown is halved before its room is given back again, so its tokens aren't moved time and again.
-fn give_back(rest: &mut VecDeque<Item>)
-    ensures { rest.new.items ≡ rest.old.items }
-{
-    if rest.capacity() / 4 > rest.len().saturating_add(SPARE) {
-        rest.shrink_to_fit();
-    }
-}
-
 // Makes an argument's list the one that is expanded, and the one before it waits.
 fn enter<'a>(
     alloc: Global,
@@ -145,11 +115,11 @@ fn enter<'a>(
     let body = filling.body;
     let argument = take_argument(alloc, &mut filling.site, body.definition, whole)?;
     let inner = Level {
-        rest: VecDeque::from(argument),
+        rest: Queue::of(alloc, argument),
         out: Vec::new(alloc),
     };
     let mut outer = mem::replace(level, inner);
-    give_back(&mut outer.rest);
+    outer.rest.give_back()?;
     waiting.push(Waiting {
         level: outer,
         filling,
@@ -180,7 +150,7 @@ fn leave(
         pieces,
     } = filling;
     let tokens = complete(alloc, &site, &hidden, body, pieces, progress)?;
-    put_before(tokens, &mut level.rest)?;
+    level.rest.put_before(tokens)?;
     Ok(())
 }
 
@@ -226,7 +196,8 @@ fn fill_at_once<'a>(
     let mut filling = filling;
     let body = filling.body;
     let argument = take_argument(macros.alloc, &mut filling.site, body.definition, whole)?;
-    let filled = fill_in(macros, filling, whole, argument, progress)?;
+    let tokens = copied(macros.alloc, argument.items())?;
+    let filled = fill_in(macros, filling, whole, tokens, progress)?;
     Ok(filled)
 }
 
@@ -310,10 +281,10 @@ fn scan_next<'a>(
 ) -> Result<Option<Invocation<'a>>, Stop>
     requires { IsWithin progress.now }
     ensures found { IfOk result (λ found.
-        tokens_before level.old.out.items (expanded (macros_of macros.now) (item ∷ level.old.rest.items) progress.now) ≡ passed_on (macros_of macros.now) level.new found progress.now) }
-    ensures shorter { OnOk result (length level.new.rest.items ≤ length level.old.rest.items) }
+        tokens_before level.old.out.items (expanded (macros_of macros.now) (item ∷ level.old.rest) progress.now) ≡ passed_on (macros_of macros.now) level.new found progress.now) }
+    ensures shorter { OnOk result (length level.new.rest ≤ length level.old.rest) }
     ensures stop { IfErr result (λ stop.
-        StopsAs (tokens_before level.old.out.items (expanded (macros_of macros.now) (item ∷ level.old.rest.items) progress.now)) stop) }
+        StopsAs (tokens_before level.old.out.items (expanded (macros_of macros.now) (item ∷ level.old.rest) progress.now)) stop) }
 {
     if names_nothing(macros, &item) {
         level.out.push(item)?;
@@ -347,11 +318,11 @@ fn put_all(out: &mut Vec<Item>, put: &mut Vec<Token>) -> Result<(), Memory>
 
 // Puts out what the outermost list has gathered, once that is much, and gives back room that it has left.
 fn put_some(outermost: bool, level: &mut Level, put: &mut Vec<Token>) -> Result<(), Memory>
-    ensures { OnOk result ((more : Sequence Entry) × ArePut outermost put.old.items more put.new.items × (level.old.out.items ≡ more ++ level.new.out.items) × (level.new.rest.items ≡ level.old.rest.items)) }
+    ensures { OnOk result ((more : Sequence Entry) × ArePut outermost put.old.items more put.new.items × (level.old.out.items ≡ more ++ level.new.out.items) × (level.new.rest ≡ level.old.rest)) }
 {
     if outermost && level.out.len() >= GATHERED {
         put_all(&mut level.out, put)?;
-        give_back(&mut level.rest);
+        level.rest.give_back()?;
     }
     Ok(())
 }
@@ -370,7 +341,7 @@ fn scan<'a>(
         × (scanned_on (macros_of macros.now) level.old progress.now ≡ tokens_before more (found_on (macros_of macros.now) level.new found progress.now))) }
     ensures stop { IfErr result (λ stop. StopsAs (scanned_on (macros_of macros.now) level.old progress.now) stop) }
 {
-    'tokens: while let Some(item) = next_of(&mut level.rest) {
+    'tokens: while let Some(item) = level.rest.next()? {
         let found = scan_next(macros, extensions, progress, item, level)?;
         put_some(outermost, level, put)?;
         if found.is_some() {
@@ -457,8 +428,9 @@ pub fn expand_list(
     ensures follows { OnOk result (Follows progress.old progress.new) }
     ensures stop { IfErr result (λ stop. StopsAs (expansion.expanded (macros_of macros.now) tokens.items progress.old) stop) }
 {
+    let source = Stretch::of(macros.alloc, tokens)?;
     let mut level = Level {
-        rest: VecDeque::from(tokens),
+        rest: Queue::of(macros.alloc, source),
         out: Vec::new(macros.alloc),
     };
     let mut waiting = Vec::new(macros.alloc);

@@ -5,6 +5,7 @@ ghost use Rattle.dm_expand.specs.Views.{StopsAs, piece_value, pieces_in, tokens_
 use crate::arguments::next_of;
 use crate::hidden::Hidden;
 use crate::item::Item;
+use crate::stretch::Stretch;
 use dm_lex::one_token;
 use dm_route::Route;
 use dm_token::{List, Mark, Memory, PpKind, PpToken, Refusal, Stop, Text, Trail, refusals};
@@ -18,7 +19,7 @@ use std::mem;
 pub struct Site {
     pub name: Item,
     pub mark: Mark,
-    pub arguments: List<List<Item>>,
+    pub arguments: List<Stretch>,
     /// The trail of the name, with the mark.
     pub inside: Trail,
 }

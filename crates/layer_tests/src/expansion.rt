@@ -398,7 +398,7 @@ fn expect_count<R: Abort + AllocGlobal>(
 #[test]
 fn nesting_takes_no_stack(rt: HostRuntime) -> Result<(), Fail> {
     expect_count(&rt, "(", 10_000, 20_001)?;
-    expect_count(&rt, "ID(", 300, 1)
+    expect_count(&rt, "ID(", 20_000, 1)
 }
 
 /// Checks that a text gives another one, where both stand so many times.

@@ -4,8 +4,8 @@ use Rattle.dm_expand.specs.Items.{Item}
 use Rattle.dm_expand.specs.Trails.{come_otherwise}
 use Rattle.dm_expand.proofs.head.is_foreign.Goals as goal
 
-pub returns : goal.returns
-returns c =
+pub returns-clause-foreign : goal.returns-clause-foreign
+returns-clause-foreign c =
     let all : List Item = c.args.opening.now ∷ (c.args.enclosed.now.inside ++ c.args.enclosed.now.closing ∷ []) in
-    c.in_ok-foreign.ensures
+    c.in_ok-foreign.ensures.foreign
     ∙ ap (λ (marks : List Mark). come_otherwise marks all) (c.in_ok-way.ensures ∙ ap (λ (x : Item). x.trail) c.name.view_is)

@@ -14,15 +14,15 @@ pub returns-clause-ok : goal.returns-clause-ok
 returns-clause-ok c = λ macros progress.
     let waiting : List code_waiting.Waiting = c.args.waiting.now.items in
     let before : code_level.Level = c.args.level.now in
-    let after : code_level.Level = record { rest = c.give_back.new.rest; out = c.replace-outer.result.out } in
+    let after : code_level.Level = record { rest = c.give_back.new.self; out = c.replace-outer.result.out } in
     let waits : code_level.Level → Site → code_waiting.Waiting = λ level site. record { level = level; filling = record c.args.filling { site = site }; whole = c.args.whole } in
-    let inner : code_level.Level = record { rest = c.from.result; out = c.new.result } in
+    let inner : code_level.Level = record { rest = c.of.result; out = c.new.result } in
     let now : Result Output Stop = scanned_on macros inner progress in
     let site : Site = c.args.filling.site in
     let others : List (List Item) = c.in_ok-argument.ensures.served.0 in
-    let rest : after.rest.items ≡ before.rest.items = c.give_back.ensures ∙ ap (λ (level : code_level.Level). level.rest.items) c.replace-outer.ensures.value in
+    let rest : after.rest ≡ before.rest = c.give_back.ensures ∙ ap (λ (level : code_level.Level). level.rest) c.replace-outer.ensures.value in
     let out : after.out.items ≡ before.out.items = ap (λ (level : code_level.Level). level.out.items) c.replace-outer.ensures.value in
-    enter-is macros waiting (waits before site) inner progress c.new.ensures.items (c.from.ensures.0 ∙ c.in_ok-argument.ensures.argument)
+    enter-is macros waiting (waits before site) inner progress c.new.ensures.items (c.of.ensures ∙ c.in_ok-argument.ensures.argument)
     ∙ outward-push macros waiting (waits before site) now
     ∙ ap (outward macros waiting) (sym (taken_up-level macros (waits before site) after now rest out))
     ∙ ap (outward macros waiting) (sym (taken_up-same macros (waits after site) others now c.in_ok-argument.ensures.served.2))
@@ -35,7 +35,7 @@ pub returns-clause-load : goal.returns-clause-load
 returns-clause-load c =
     ap load c.in_ok-push.ensures.items
     ∙ load-push c.args.waiting.now.items (record {
-      level = record { rest = c.give_back.new.rest; out = c.replace-outer.result.out };
+      level = record { rest = c.give_back.new.self; out = c.replace-outer.result.out };
       filling = record c.args.filling { site = c.take_argument.new.site };
       whole = c.args.whole;
     })

@@ -21,11 +21,11 @@ pub expansions-init : goal.expansions-init
 expansions-init c =
     let macros : Macros = macros_of c.args.macros.now in
     let progress : Progress = c.args.progress.now in
-    let rest : Result Output Stop = expanded macros c.from.result.items progress in
+    let rest : Result Output Stop = expanded macros c.of-2.result progress in
     let start : Result Output Stop = tokens_before c.new.result.items rest in (
       [],
       c.new-put.ensures.items,
-      ap (λ (xs : List Item). expanded macros xs progress) (sym c.from.ensures.0)
+      ap (λ (xs : List Item). expanded macros xs progress) (sym (c.of-2.ensures ∙ c.in_ok-source.ensures))
           ∙ sym (tokens_before-nothing rest)
           ∙ ap (λ (xs : List Item). tokens_before xs rest) (sym c.new.ensures.items)
           ∙ sym (outward-nothing macros start)

@@ -20,6 +20,6 @@ returns-in_err-tokens-clause-stop c =
 
 pub returns-clause-ok : goal.returns-clause-ok
 returns-clause-ok c = λ macros.
-    leave-is macros c.args.level.now (record { rest = c.put_before.new.rest; out = c.args.level.now.out }) c.args.filling.site c.args.filling.hidden c.args.filling.body.definition.now
+    leave-is macros c.args.level.now (record { rest = c.put_before.new.self; out = c.args.level.now.out }) c.args.filling.site c.args.filling.hidden c.args.filling.body.definition.now
     (fills (pieces_in c.args.filling.pieces) c.args.progress.now) c.in_ok-tokens.tokens.items c.complete.new.progress
     c.in_ok-tokens.ensures.ok c.in_ok-put_before.ensures refl

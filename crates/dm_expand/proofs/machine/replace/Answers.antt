@@ -40,7 +40,7 @@ returns-in_err-go_on-clause-stop c =
     let definition = c.args.invocation.found.body.definition.now in
     let progress : Progress = c.args.progress.now in
     let now : Progress = c.begin.new.self in
-    let invocation : Invocation = invocation_value c.args.invocation c.args.level.now.rest.items in
+    let invocation : Invocation = invocation_value c.args.invocation c.args.level.now.rest in
     let site : c.in_ok-site.site ≡ site_of invocation progress.instance =
     c.in_ok-site.ensures ∙ ap (λ (n : ℕ). site_with invocation.name (Expansion invocation.macro.number n) invocation.arguments) c.next_instance-instance.ensures in
     let starts : List Piece → Result Output Stop = λ xs. completed macros c.args.level.now c.in_ok-site.site c.args.invocation.hidden definition (pieces_before xs
@@ -56,7 +56,7 @@ returns-clause-ok c =
     let definition = c.args.invocation.found.body.definition.now in
     let progress : Progress = c.args.progress.now in
     let now : Progress = c.begin.new.self in
-    let invocation : Invocation = invocation_value c.args.invocation c.args.level.now.rest.items in
+    let invocation : Invocation = invocation_value c.args.invocation c.args.level.now.rest in
     let site : c.in_ok-site.site ≡ site_of invocation progress.instance =
     c.in_ok-site.ensures ∙ ap (λ (n : ℕ). site_with invocation.name (Expansion invocation.macro.number n) invocation.arguments) c.next_instance-instance.ensures in
     let starts : List Piece → Result Output Stop = λ xs. completed macros c.args.level.now c.in_ok-site.site c.args.invocation.hidden definition (pieces_before xs

@@ -12,4 +12,4 @@ invariant-tokens l =
     × (scanned_on (macros_of l.macros) l.fn.level l.progress ≡ tokens_before more (scanned_on (macros_of l.macros) l.level l.progress))
 
 abbrev pub decreases-tokens : goal.decreases-tokens
-decreases-tokens l = length l.level.rest.items
+decreases-tokens l = length l.level.rest

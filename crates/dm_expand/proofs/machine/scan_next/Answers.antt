@@ -16,7 +16,7 @@ pub returns-then-names_nothing-clause-found : goal.returns-then-names_nothing-cl
 returns-then-names_nothing-clause-found c =
     let macros : expansion.Macros = macros_of c.args.macros.now in
     let progress : Progress = c.args.progress.now in
-    let rest : List Item = c.args.level.now.rest.items in
+    let rest : List Item = c.args.level.now.rest in
     let out : List Item = c.args.level.now.out.items in
     let item : Item = c.args.item in
     ap (tokens_before out) (expanded-put macros item item rest progress (head_of-no_name macros item rest progress (c.names_nothing.ensures c.if-names_nothing.true)))
@@ -27,8 +27,8 @@ pub returns-in_ok-push-in-Put-clause-found : goal.returns-in_ok-push-in-Put-clau
 returns-in_ok-push-in-Put-clause-found c =
     let macros : expansion.Macros = macros_of c.args.macros.now in
     let progress : Progress = c.args.progress.now in
-    let rest : List Item = c.args.level.now.rest.items in
-    let after : List Item = c.head_of.new.rest.items in
+    let rest : List Item = c.args.level.now.rest in
+    let after : List Item = c.head_of.new.rest in
     let out : List Item = c.args.level.now.out.items in
     let item : Item = c.in-Put.item in
     let case : expansion.head_of macros progress c.args.item rest ≡ expansion.put item = sym c.in_ok-item.ensures.head ∙ ap (head_value after) c.in-Put.is in
@@ -41,8 +41,8 @@ returns-in_ok-push-in-Put-clause-found c =
 pub returns-in-Replace-clause-found : goal.returns-in-Replace-clause-found
 returns-in-Replace-clause-found c =
     let macros : expansion.Macros = macros_of c.args.macros.now in
-    let rest : List Item = c.args.level.now.rest.items in
-    let after : List Item = c.head_of.new.rest.items in
+    let rest : List Item = c.args.level.now.rest in
+    let after : List Item = c.head_of.new.rest in
     let invocation : expansion.Invocation = invocation_value c.in-Replace.invocation after in
     let case : expansion.head_of macros c.args.progress.now c.args.item rest ≡ expansion.replace invocation = sym c.in_ok-item.ensures.head ∙ ap (head_value after) c.in-Replace.is in
     ap (tokens_before c.args.level.now.out.items) (expanded-replace macros c.args.item rest invocation c.args.progress.now c.requires.spent case)
@@ -50,8 +50,8 @@ returns-in-Replace-clause-found c =
 pub returns-in-Refuse-clause-stop : goal.returns-in-Refuse-clause-stop
 returns-in-Refuse-clause-stop c =
     let macros : expansion.Macros = macros_of c.args.macros.now in
-    let rest : List Item = c.args.level.now.rest.items in
-    let after : List Item = c.head_of.new.rest.items in
+    let rest : List Item = c.args.level.now.rest in
+    let after : List Item = c.head_of.new.rest in
     let case : expansion.head_of macros c.args.progress.now c.args.item rest ≡ expansion.refuse = sym c.in_ok-item.ensures.head ∙ ap (head_value after) c.in-Refuse.is in
     stops-as _ c.no_arguments.result
     (ap (tokens_before c.args.level.now.out.items) (expanded-refuse macros c.args.item rest c.args.progress.now case)

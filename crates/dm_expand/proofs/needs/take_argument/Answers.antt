@@ -9,7 +9,7 @@ returns-then-whole-clause-served c =
     let definition = c.args.definition.now in
     let parameter : ℕ = c.args.whole.parameter in
     let behind : ℕ = c.args.whole.behind in
-    (set c.args.site.now.arguments parameter [], c.take_out.ensures.left, unnamed-served c.args.site.now (parameters_of definition) parameter (take behind definition.body) (drop behind definition.body) (c.requires c.if-whole.true))
+    (set c.args.site.now.arguments parameter [], c.in_ok-taken.ensures.left, unnamed-served c.args.site.now (parameters_of definition) parameter (take behind definition.body) (drop behind definition.body) (c.requires c.if-whole.true))
 
 pub returns-clause-served : goal.returns-clause-served
 returns-clause-served c = (c.args.site.now.arguments, refl, all-served c.args.site.now (parts_from c.args.definition.now c.args.whole.behind))
