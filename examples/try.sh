@@ -33,7 +33,7 @@ cat <<'TEXT'
 A kept macro has the least rule that it breaks and the first place that breaks it: docs/RULES.md has a page for each rule, and
 docs/GUIDE.md tells how to use the tool on a code base.
 
-This build isn't proved: it is slow, and checks itself as it runs. To prove and build the program, in an hour or more:
+This build isn't proved: it is slow, and checks itself as it runs. To prove and build the program, in one and a half to two hours:
 
     python3 tools/build.py
 TEXT
