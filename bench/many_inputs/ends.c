@@ -268,6 +268,12 @@ static void check_cause(int status, struct refusal refused)
         fault("status %d, and no write was refused", status);
 }
 
+/* Whether what a call put was cut where its file could grow no further; the status names an earlier fault then. */
+static int is_cut(struct refusal refused, const struct text *output)
+{
+    return refused.file_size >= 0 && output->length == (size_t)refused.file_size;
+}
+
 void check_end(const struct input *input, struct refusal refused, const struct end *end, const struct files *before, const struct files *now)
 {
     static const char *const WHAT[] = { "done", "usage", "manifest", "refusal", "limit", "read fault", "write fault" };
@@ -276,7 +282,7 @@ void check_end(const struct input *input, struct refusal refused, const struct e
         fault("it ended with %d", end->status);
     else if (end->status == 0)
         check_done(input, &end->output, before, now);
-    else if (end->status <= 6)
+    else if (end->status <= 6 && !is_cut(refused, &end->output))
         check_form(FORM_OF_STATUS[end->status], &end->output, WHAT[end->status]);
     else if (end->status == 8 && end->output.length > 0)
         fault("status 8 put %s", shown(&end->output));
