@@ -48,15 +48,15 @@ inside-closes all inside depth item others before is =
 pub inside-nothing : (all : Option Enclosed) (inside : List Item) (depth : ℕ) → all ≡ all_inside inside (enclosed_in depth []) → all ≡ None
 inside-nothing all inside depth before = before ∙ ap (all_inside inside) (enclosed_in-nothing depth)
 
-separated-comma : (commas depth : ℕ) (item : Item) (others : List Item) → ((separates item && eqb depth 0) && nat_lt 0 commas) ≡ true → separated commas depth (item ∷ others) ≡ [] ∷ separated (commas - 1) depth others
+pub separated-comma : (commas depth : ℕ) (item : Item) (others : List Item) → ((separates item && eqb depth 0) && nat_lt 0 commas) ≡ true → separated commas depth (item ∷ others) ≡ [] ∷ separated (commas - 1) depth others
 unfolding separated
 separated-comma commas depth item others is = cond-true _ _ _ is
 
-separated-goes_on : (commas depth : ℕ) (item : Item) (others : List Item) → ((separates item && eqb depth 0) && nat_lt 0 commas) ≡ false → separated commas depth (item ∷ others) ≡ in_first item (separated commas (depth_behind depth item) others)
+pub separated-goes_on : (commas depth : ℕ) (item : Item) (others : List Item) → ((separates item && eqb depth 0) && nat_lt 0 commas) ≡ false → separated commas depth (item ∷ others) ≡ in_first item (separated commas (depth_behind depth item) others)
 unfolding separated
 separated-goes_on commas depth item others is = cond-false _ _ _ is
 
-separated-nothing : (commas depth : ℕ) → separated commas depth [] ≡ [] ∷ []
+pub separated-nothing : (commas depth : ℕ) → separated commas depth [] ≡ [] ∷ []
 unfolding separated
 separated-nothing commas depth = refl
 

@@ -13,6 +13,7 @@ use Rattle.dm_expand.specs.Items.{Item}
 use Rattle.dm_expand.specs.Arguments as arguments
 use Rattle.dm_expand.specs.Arguments.{Enclosed}
 use Rattle.dm_expand.specs.Shares.{sign_of, signs_of}
+use Rattle.dm_expand.proofs.ArgumentLemmas.{separated-comma, separated-goes_on, separated-nothing}
 
 -- WHAT A TOKEN IS
 
@@ -187,18 +188,9 @@ no-comma depth left item is =
       | inr other ↦ ap (λ b. (b && eqb depth 0) && nat_lt 0 left) other
     ]
 
-further-in : (left depth : ℕ) (item : Item) (others : List Item) → ((arguments.separates item && eqb depth 0) && nat_lt 0 left) ≡ false
-    → arguments.separated left depth (item ∷ others) ≡ arguments.in_first item (arguments.separated left (arguments.depth_behind depth item) others)
-unfolding arguments.separated
-further-in left depth item others is = cond-false _ _ _ is
-
 in_first-more : (item : Item) (argument : List Item) (others : List (List Item)) → arguments.in_first item (argument ∷ others) ≡ (item ∷ argument) ∷ others
 unfolding arguments.in_first
 in_first-more item argument others = refl
-
-separated-here : (left depth : ℕ) (item : Item) (others : List Item) → ((arguments.separates item && eqb depth 0) && nat_lt 0 left) ≡ true → arguments.separated left depth (item ∷ others) ≡ [] ∷ arguments.separated (left - 1) depth others
-unfolding arguments.separated
-separated-here left depth item others is = cond-true _ _ _ is
 
 comma-here : (left depth : ℕ) (first : Item) (others : List Item) (i : ℕ) (item : Item) → (signs.ends (sign_of first) && eqb depth 0) ≡ true → signs.before_end depth (signs_of (first ∷ others)) ≡ Some i
     → item ≡ get_or (first ∷ others) i item → arguments.separates item ≡ true → nat_lt 0 left ≡ true
@@ -207,7 +199,7 @@ comma-here left depth first others i item is found at tells some =
     let at-first : 0 ≡ i = first-place i (sym (end-here depth (sign_of first) (signs_of others) is) ∙ found) in
     let outside : depth ≡ 0 = eqb-true depth 0 (and_parts _ _ is).1 in
     let same : item ≡ first = at ∙ ap (λ n. get_or (first ∷ others) n item) (sym at-first) in
-    separated-here left depth first others (and_from _ _ (and_from _ _ (ap arguments.separates (sym same) ∙ tells) (and_parts _ _ is).1) some)
+    separated-comma left depth first others (and_from _ _ (and_from _ _ (ap arguments.separates (sym same) ∙ tells) (and_parts _ _ is).1) some)
     ∙ ap (λ d. [] ∷ arguments.separated (left - 1) d others) outside
     ∙ ap (λ n. take n (first ∷ others) ∷ arguments.separated (left - 1) 0 (drop (n + 1) (first ∷ others))) at-first
 
@@ -215,7 +207,7 @@ comma-further : (left depth : ℕ) (first : Item) (others : List Item) (i j : �
     → arguments.separated left (arguments.depth_behind depth first) others ≡ take j others ∷ arguments.separated (left - 1) 0 (drop (j + 1) others)
     → arguments.separated left depth (first ∷ others) ≡ take i (first ∷ others) ∷ arguments.separated (left - 1) 0 (drop (i + 1) (first ∷ others))
 comma-further left depth first others i j is next inside =
-    further-in left depth first others (no-comma depth left first is)
+    separated-goes_on left depth first others (no-comma depth left first is)
     ∙ ap (arguments.in_first first) inside
     ∙ in_first-more first (take j others) (arguments.separated (left - 1) 0 (drop (j + 1) others))
     ∙ ap (λ k. (first ∷ take j others) ∷ arguments.separated (left - 1) 0 (drop k (first ∷ others))) (let one-more : suc (j + 1) ≡ suc j + 1 = omega arith in one-more)
@@ -233,17 +225,13 @@ separated-found left depth (first ∷ others) i item found at tells some =
           (separated-found left (arguments.depth_behind depth first) others next.0 item next.1 (at ∙ ap (λ n. get_or (first ∷ others) n item) next.2) tells some))
     ]
 
-separated-nothing : (left depth : ℕ) → arguments.separated left depth [] ≡ [] ∷ []
-unfolding arguments.separated
-separated-nothing left depth = refl
-
 -- all tokens are one argument, where no end of one is found
 pub separated-nowhere : (left depth : ℕ) (items : List Item) → signs.before_end depth (signs_of items) ≡ None → arguments.separated left depth items ≡ items ∷ []
 separated-nowhere left depth [] none = separated-nothing left depth
 separated-nowhere left depth (item ∷ others) none =
     elim (cases_Bool (signs.ends (sign_of item) && eqb depth 0)) [
       | inl is ↦ absurd (not-some 0 (sym (end-here depth (sign_of item) (signs_of others) is) ∙ none))
-      | inr is ↦ further-in left depth item others (no-comma depth left item is)
+      | inr is ↦ separated-goes_on left depth item others (no-comma depth left item is)
           ∙ ap (arguments.in_first item) (separated-nowhere left (arguments.depth_behind depth item) others (none-further _ (sym (end-further depth item others is) ∙ none)))
           ∙ in_first-more item others []
     ]
@@ -256,7 +244,7 @@ no-left false = refl
 pub separated-no_left : (depth : ℕ) (items : List Item) → arguments.separated 0 depth items ≡ items ∷ []
 separated-no_left depth [] = separated-nothing 0 depth
 separated-no_left depth (item ∷ others) =
-    further-in 0 depth item others (no-left (arguments.separates item && eqb depth 0))
+    separated-goes_on 0 depth item others (no-left (arguments.separates item && eqb depth 0))
     ∙ ap (arguments.in_first item) (separated-no_left (arguments.depth_behind depth item) others)
     ∙ in_first-more item others []
 

@@ -1,6 +1,5 @@
 -- Where parentheses and arguments end: at which tokens, and what the first tokens of a list tell of it.
-use Rattle.std.proofs.Common.{◌≡◌, ℕ, zero, suc, ◌<◌, ◌≤◌, Bool, true, false, ◌&&◌, ◌==◌, nat_lt, List, [], ◌∷◌, Option, None, Some, option_map, if◌then◌else◌, length, take, slice_get, refl, sym, ap, ◌∙◌, subst, arith}
-use Rattle.std.proofs.lemmas.Option.{same_Some}
+use Rattle.std.proofs.Common.{◌≡◌, ℕ, zero, suc, ◌<◌, Bool, true, false, ◌&&◌, ◌==◌, nat_lt, List, [], ◌∷◌, Option, None, Some, option_map, if◌then◌else◌, length, take, refl, sym, ap, ◌∙◌, arith}
 use Rattle.dm_parentheses.specs.declared.sign.Sign.{Sign}
 use Rattle.dm_parentheses.specs.Parentheses.{closes, ends, depth_behind, before_closing, before_end}
 
@@ -76,50 +75,3 @@ before_end-take depth k signs = before_end-before_stop depth (take k signs) ∙ 
 -- the same for the closing parenthesis
 pub before_closing-take : (depth k : ℕ) (signs : List Sign) → before_closing depth (take k signs) ≡ index_below k (before_closing depth signs)
 before_closing-take depth k signs = before_closing-before_stop depth (take k signs) ∙ before_stop-take closes depth k signs ∙ ap (index_below k) (sym (before_closing-before_stop depth signs))
-
-index_below-within : (found : Option ℕ) (k i : ℕ) → found ≡ Some i → i < k → index_below k found ≡ Some i
-index_below-within found k i is within = ap (index_below k) is ∙ grind arith
-
-index_below-past : (found : Option ℕ) (k i : ℕ) → found ≡ Some i → k ≤ i → index_below k found ≡ None
-index_below-past found k i is past = ap (index_below k) is ∙ grind arith
-
-pub before_end-take-within : (depth k : ℕ) (signs : List Sign) (i : ℕ) → before_end depth signs ≡ Some i → i < k → before_end depth (take k signs) ≡ Some i
-before_end-take-within depth k signs i is within = before_end-take depth k signs ∙ index_below-within (before_end depth signs) k i is within
-
-pub before_end-take-past : (depth k : ℕ) (signs : List Sign) (i : ℕ) → before_end depth signs ≡ Some i → k ≤ i → before_end depth (take k signs) ≡ None
-before_end-take-past depth k signs i is past = before_end-take depth k signs ∙ index_below-past (before_end depth signs) k i is past
-
-pub before_end-take-none : (depth k : ℕ) (signs : List Sign) → before_end depth signs ≡ None → before_end depth (take k signs) ≡ None
-before_end-take-none depth k signs is = before_end-take depth k signs ∙ ap (index_below k) is
-
-pub before_closing-take-within : (depth k : ℕ) (signs : List Sign) (i : ℕ) → before_closing depth signs ≡ Some i → i < k → before_closing depth (take k signs) ≡ Some i
-before_closing-take-within depth k signs i is within = before_closing-take depth k signs ∙ index_below-within (before_closing depth signs) k i is within
-
-pub before_closing-take-past : (depth k : ℕ) (signs : List Sign) (i : ℕ) → before_closing depth signs ≡ Some i → k ≤ i → before_closing depth (take k signs) ≡ None
-before_closing-take-past depth k signs i is past = before_closing-take depth k signs ∙ index_below-past (before_closing depth signs) k i is past
-
-pub before_closing-take-none : (depth k : ℕ) (signs : List Sign) → before_closing depth signs ≡ None → before_closing depth (take k signs) ≡ None
-before_closing-take-none depth k signs is = before_closing-take depth k signs ∙ ap (index_below k) is
-
--- at the end of an argument stands a comma or a `)`
-stops-at : (here : Bool) (rest : Option ℕ) (stops : Sign → Bool) (sign : Sign) (others : List Sign) (i : ℕ) → (here ≡ true → stops sign ≡ true)
-    → ((j : ℕ) → rest ≡ Some j → option_map stops (slice_get others j) ≡ Some true) → step here rest ≡ Some i → option_map stops (slice_get (sign ∷ others) i) ≡ Some true
-stops-at true rest stops sign others i first later is = subst (λ n. option_map stops (slice_get (sign ∷ others) n) ≡ Some true) (same_Some 0 i is) (ap Some (first refl))
-stops-at false None stops sign others i first later is = absurd (cc)
-stops-at false (Some j) stops sign others i first later is = subst (λ n. option_map stops (slice_get (sign ∷ others) n) ≡ Some true) (same_Some (suc j) i is) (later j refl)
-
-and-left : (one other : Bool) → (one && other) ≡ true → one ≡ true
-and-left true other is = refl
-and-left false other is = is
-
-before_stop-stops : (stops : Sign → Bool) (depth : ℕ) (signs : List Sign) (i : ℕ) → before_stop stops depth signs ≡ Some i → option_map stops (slice_get signs i) ≡ Some true
-before_stop-stops stops depth [] i is = absurd (cc)
-before_stop-stops stops depth (sign ∷ others) i is =
-    stops-at (stops sign && (depth == 0)) (before_stop stops (depth_behind depth sign) others) stops sign others i (and-left (stops sign) (depth == 0)) (before_stop-stops stops (depth_behind depth sign) others) is
-
-pub before_end-ends : (depth : ℕ) (signs : List Sign) (i : ℕ) → before_end depth signs ≡ Some i → option_map ends (slice_get signs i) ≡ Some true
-before_end-ends depth signs i is = before_stop-stops ends depth signs i (sym (before_end-before_stop depth signs) ∙ is)
-
--- at the closing parenthesis stands a `)`
-pub before_closing-closes : (depth : ℕ) (signs : List Sign) (i : ℕ) → before_closing depth signs ≡ Some i → option_map closes (slice_get signs i) ≡ Some true
-before_closing-closes depth signs i is = before_stop-stops closes depth signs i (sym (before_closing-before_stop depth signs) ∙ is)
