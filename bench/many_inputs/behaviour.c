@@ -9,7 +9,7 @@
 #include "folder.h"
 #include "totals.h"
 
-enum { NEW_ORDERS = 2, OLD_ORDERS = 64 };
+enum { NEW_ORDERS = 2, OLD_ORDERS = 4096 };
 
 static void run(const char *project, const char *unit, size_t order, struct end *end)
 {

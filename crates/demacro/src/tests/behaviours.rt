@@ -1,6 +1,6 @@
 //! What programs do before and after their macros became declarations (ISO/IEC 9899:2011, 5.1.2.3, 6.5p3).
 
-use super::calls::{call, expect};
+use super::cases::{call, check};
 use super::{folder_with, numbers};
 use dm_io::MemoryFolder;
 use dm_token::Text;
@@ -20,7 +20,7 @@ fn outputs(alloc: Global, program: &[u8]) -> Result<Vec<Vec<u8>>, Fail> {
     for order in 0..8_u8 {
         let line = format!(in alloc; "run a.c a.c --order {order}")?;
         let mut folder = folder_of(alloc, program)?;
-        let ended = call(alloc, line.as_str(), &mut folder, &[])?;
+        let ended = call(alloc, line.as_str(), &mut folder, numbers(alloc, &[])?)?;
         outputs.push(ended.output)?;
     }
     Ok(outputs)
@@ -29,7 +29,7 @@ fn outputs(alloc: Global, program: &[u8]) -> Result<Vec<Vec<u8>>, Fail> {
 /// The program that becomes of one.
 fn rewritten(alloc: Global, program: &str) -> Result<Vec<u8>, Fail> {
     let mut folder = folder_of(alloc, program.as_bytes())?;
-    let applied = call(alloc, "apply a.c", &mut folder, &[])?;
+    let applied = call(alloc, "apply a.c", &mut folder, numbers(alloc, &[])?)?;
     if !applied.output.ends_with(b"rewritten 1 kept 0\n") {
         return Err(program.into());
     }
@@ -69,101 +69,131 @@ fn rewritten_programs_do_what_they_did(rt: HostRuntime) -> Result<(), Fail> {
     Ok(())
 }
 
-/// A program with a macro that breaks a rule, and what it would do with a declaration in the macro's place.
-#[derive(Clone, Copy)]
-struct Kept<'a> {
-    report: &'a str,
-    definition: &'a str,
-    declaration: &'a str,
-    rest: &'a str,
-    output: &'a str,
-    other: &'a str,
-}
+/// Programs `a.c` with a macro that breaks a rule on runs, and `b.c` with a declaration in its place, which does something else.
+const KEPT: &str = r#"@@ a.c
+#define ADD(a, b) a + b
+int main(void) { return ADD(1, 2) * 3; }
+@@ b.c
+static inline int ADD(int a, int b) { return a + b; }
+int main(void) { return ADD(1, 2) * 3; }
+$ plan a.c
+kept a.c:1 ADD rule 9 Subtree a.c:2:25
+rewritten 0 kept 1
+$ run a.c a.c
+[exit 7]
+$ run b.c b.c
+[exit 9]
+%%
+@@ a.c
+#define U 10u
+int main(void) { switch (10) { case U: return 1; } return 0; }
+@@ b.c
+static const unsigned int U = 10u;
+int main(void) { switch (10) { case U: return 1; } return 0; }
+$ plan a.c
+kept a.c:1 U rule 10 Constant a.c:2:37
+rewritten 0 kept 1
+$ run a.c a.c
+[exit 1]
+$ run b.c b.c => 3
+b.c:2:37: refusal 17 Type C30
+%%
+@@ a.c
+#define SET(v) ((v) = 1)
+int main(void) { int a = 0; SET(a); return a; }
+@@ b.c
+static inline int SET(int v) { return ((v) = 1); }
+int main(void) { int a = 0; SET(a); return a; }
+$ plan a.c
+kept a.c:1 SET rule 11 Lvalue a.c:2:29
+rewritten 0 kept 1
+$ run a.c a.c
+[exit 1]
+$ run b.c b.c
+[exit 0]
+%%
+@@ a.c
+#define HALF(x) ((x) / 2)
+int main(void) { return HALF(6) + (HALF(0u - 2) < 0xffffffffu); }
+@@ b.c
+static inline int HALF(int x) { return ((x) / 2); }
+int main(void) { return HALF(6) + (HALF(0u - 2) < 0xffffffffu); }
+$ plan a.c
+kept a.c:1 HALF rule 12 Type a.c:2:36
+rewritten 0 kept 1
+$ run a.c a.c
+[exit 4]
+$ run b.c b.c
+[exit 3]
+%%
+@@ a.c
+int g = 1;
+#define INC(x) ((x) + g)
+int f(int a) { return INC(a); }
+int main(void) { int g = 2; return INC(f(4)) + g; }
+@@ b.c
+int g = 1;
+static inline int INC(int x) { return ((x) + g); }
+int f(int a) { return INC(a); }
+int main(void) { int g = 2; return INC(f(4)) + g; }
+$ plan a.c
+kept a.c:2 INC rule 13 Capture a.c:4:36
+rewritten 0 kept 1
+$ run a.c a.c
+[exit 9]
+$ run b.c b.c
+[exit 8]
+%%
+@@ a.c
+#define SQ(x) ((x) * (x))
+int k = 1;
+int next(void) { k = k + 1; return k; }
+int main(void) { return SQ(next()); }
+@@ b.c
+static inline int SQ(int x) { return ((x) * (x)); }
+int k = 1;
+int next(void) { k = k + 1; return k; }
+int main(void) { return SQ(next()); }
+$ plan a.c
+kept a.c:1 SQ rule 14 Evaluation a.c:4:25
+rewritten 0 kept 1
+$ run a.c a.c
+[exit 6]
+$ run b.c b.c
+[exit 4]
+%%
+@@ a.c
+#define AND(a, b) ((a) && (b))
+int main(void) { int z = 0; return AND(z, 1 / z); }
+@@ b.c
+static inline int AND(int a, int b) { return ((a) && (b)); }
+int main(void) { int z = 0; return AND(z, 1 / z); }
+$ plan a.c
+kept a.c:1 AND rule 14 Evaluation a.c:2:36
+rewritten 0 kept 1
+$ run a.c a.c
+[exit 0]
+$ run b.c b.c
+[undefined division b.c:2:43]
+%%
+@@ a.c
+#define THEN(a, b) ((a), (b))
+int main(void) { int k = 0; return THEN(k = 1, k); }
+@@ b.c
+static inline int THEN(int a, int b) { return ((a), (b)); }
+int main(void) { int k = 0; return THEN(k = 1, k); }
+$ plan a.c
+kept a.c:1 THEN rule 14 Evaluation a.c:2:36
+rewritten 0 kept 1
+$ run a.c a.c
+[exit 1]
+$ run b.c b.c
+[undefined conflict b.c:2:48]
+"#;
 
 #[test]
 fn each_rule_on_runs_keeps_a_program_from_doing_something_else(
     rt: HostRuntime,
 ) -> Result<(), Fail> {
-    for kept in [
-        Kept {
-            report: "kept a.c:1 ADD rule 9 Subtree a.c:2:25\nrewritten 0 kept 1\n",
-            definition: "#define ADD(a, b) a + b\n",
-            declaration: "static inline int ADD(int a, int b) { return a + b; }\n",
-            rest: "int main(void) { return ADD(1, 2) * 3; }\n",
-            output: "[exit 7]\n",
-            other: "[exit 9]\n",
-        },
-        Kept {
-            report: "kept a.c:1 U rule 10 Constant a.c:2:37\nrewritten 0 kept 1\n",
-            definition: "#define U 10u\n",
-            declaration: "static const unsigned int U = 10u;\n",
-            rest: "int main(void) { switch (10) { case U: return 1; } return 0; }\n",
-            output: "[exit 1]\n",
-            other: "a.c:2:37: refusal 17 Type C30\n",
-        },
-        Kept {
-            report: "kept a.c:1 SET rule 11 Lvalue a.c:2:29\nrewritten 0 kept 1\n",
-            definition: "#define SET(v) ((v) = 1)\n",
-            declaration: "static inline int SET(int v) { return ((v) = 1); }\n",
-            rest: "int main(void) { int a = 0; SET(a); return a; }\n",
-            output: "[exit 1]\n",
-            other: "[exit 0]\n",
-        },
-        Kept {
-            report: "kept a.c:1 HALF rule 12 Type a.c:2:36\nrewritten 0 kept 1\n",
-            definition: "#define HALF(x) ((x) / 2)\n",
-            declaration: "static inline int HALF(int x) { return ((x) / 2); }\n",
-            rest: "int main(void) { return HALF(6) + (HALF(0u - 2) < 0xffffffffu); }\n",
-            output: "[exit 4]\n",
-            other: "[exit 3]\n",
-        },
-        Kept {
-            report: "kept a.c:2 INC rule 13 Capture a.c:4:36\nrewritten 0 kept 1\n",
-            definition: "int g = 1;\n#define INC(x) ((x) + g)\n",
-            declaration: "int g = 1;\nstatic inline int INC(int x) { return ((x) + g); }\n",
-            rest: "int f(int a) { return INC(a); }\nint main(void) { int g = 2; return INC(f(4)) + g; }\n",
-            output: "[exit 9]\n",
-            other: "[exit 8]\n",
-        },
-        Kept {
-            report: "kept a.c:1 SQ rule 14 Evaluation a.c:4:25\nrewritten 0 kept 1\n",
-            definition: "#define SQ(x) ((x) * (x))\n",
-            declaration: "static inline int SQ(int x) { return ((x) * (x)); }\n",
-            rest: "int k = 1;\nint next(void) { k = k + 1; return k; }\nint main(void) { return SQ(next()); }\n",
-            output: "[exit 6]\n",
-            other: "[exit 4]\n",
-        },
-        Kept {
-            report: "kept a.c:1 AND rule 14 Evaluation a.c:2:36\nrewritten 0 kept 1\n",
-            definition: "#define AND(a, b) ((a) && (b))\n",
-            declaration: "static inline int AND(int a, int b) { return ((a) && (b)); }\n",
-            rest: "int main(void) { int z = 0; return AND(z, 1 / z); }\n",
-            output: "[exit 0]\n",
-            other: "[undefined division a.c:2:43]\n",
-        },
-        Kept {
-            report: "kept a.c:1 THEN rule 14 Evaluation a.c:2:36\nrewritten 0 kept 1\n",
-            definition: "#define THEN(a, b) ((a), (b))\n",
-            declaration: "static inline int THEN(int a, int b) { return ((a), (b)); }\n",
-            rest: "int main(void) { int k = 0; return THEN(k = 1, k); }\n",
-            output: "[exit 1]\n",
-            other: "[undefined conflict a.c:2:48]\n",
-        },
-    ] {
-        let Kept {
-            report,
-            definition,
-            declaration,
-            rest,
-            output,
-            other,
-        } = kept;
-        let old = format!(in rt.alloc(); "== a.c\n{definition}{rest}")?;
-        let new = format!(in rt.alloc(); "== a.c\n{declaration}{rest}")?;
-        expect(&rt, "plan a.c", old.as_str(), 0, report)?;
-        expect(&rt, "run a.c a.c", old.as_str(), 0, output)?;
-        let status = if other.starts_with("[") { 0 } else { 3 };
-        expect(&rt, "run a.c a.c", new.as_str(), status, other)?;
-    }
-    Ok(())
+    check(&rt, KEPT)
 }

@@ -1,277 +1,252 @@
 //! Calls of `expand` on small projects.
 
-use super::USAGE;
-use super::calls::{expect, expect_failing, expect_stops};
+use super::cases::check;
 use std::test::Fail;
 
-/// The file `a.c`, and behind an arrow its tokens.
-const LISTED: &str = r#"=>
+const LISTED: &str = r#"@@ a.c
+$ expand a.c a.c
 %%
+@@ a.c
 #define f(a) a*g
 #define g(a) f(a)
 f(2)(9)
-=>
+$ expand a.c a.c
 2 * 9 * g
 %%
+@@ a.c
 #define SQ(x) ((x)*(x))
 #define STR(x) #x
 #define XSTR(x) STR(x)
 const char *s = XSTR(SQ(3));
-=>
+$ expand a.c a.c
 const char * s = "((3)*(3))" ;
 %%
+@@ a.c
 #if 0
 don't
 #else
 int a;
 #endif
-=>
+$ expand a.c a.c
 int a ;
 %%
+@@ a.c
 #define P x y
 P
 z P
-=>
+$ expand a.c a.c
 x y
 z x y
 %%
+@@ a.c
 #define F(a) a b
 F(1
 )
 c
-=>
+$ expand a.c a.c
 1 b
 c
 %%
+@@ a.c
 
 __LINE__ __FILE__
 __STDC__
-=>
+$ expand a.c a.c
 2 "a.c"
 1
+%%
+@@ m.json
+{"units":[{"file":"a.c"},{"file":"b.c"}]}
+@@ h.h
+#define TWICE(x) ((x)+(x))
+@@ a.c
+#include "h.h"
+int f(int k) { return TWICE(k); }
+@@ b.c
+int b;
+$ expand m.json a.c
+int f ( int k ) { return ( ( k ) + ( k ) ) ; }
+$ expand m.json b.c
+int b ;
+%%
+@@ m.json
+{"units":[{"file":"s/a.c","include":["inc"],"define":["N=3","D"]}]}
+@@ inc/h.h
+#pragma once
+int D = N;
+@@ s/a.c
+#include <h.h>
+#include <h.h>
+end
+$ expand m.json s/a.c
+int 1 = 3 ;
+end
 "#;
 
 #[test]
-fn lists_the_tokens_of_one_file(rt: HostRuntime) -> Result<(), Fail> {
-    for row in LISTED.split("%%\n") {
-        let Some((lines, output)) = row.split_once("=>\n") else {
-            return Err("a row has no arrow".into());
-        };
-        let files = format!(in rt.alloc(); "== a.c\n{lines}")?;
-        expect(&rt, "expand a.c a.c", files.as_str(), 0, output)?;
-    }
-    Ok(())
+fn lists_the_tokens_of_a_unit(rt: HostRuntime) -> Result<(), Fail> {
+    check(&rt, LISTED)
 }
 
-#[test]
-fn lists_a_unit_of_a_project(rt: HostRuntime) -> Result<(), Fail> {
-    let two =
-        "== m.json\n{\"units\":[{\"file\":\"a.c\"},{\"file\":\"b.c\"}]}\n== h.h\n#define TWICE(x) ((x)+(x))\n== a.c\n#include \"h.h\"\nint f(int k) { return TWICE(k); }\n== b.c\nint b;\n";
-    expect(
-        &rt,
-        "expand m.json a.c",
-        two,
-        0,
-        "int f ( int k ) { return ( ( k ) + ( k ) ) ; }\n",
-    )?;
-    expect(&rt, "expand m.json b.c", two, 0, "int b ;\n")?;
-    let set =
-        "== m.json\n{\"units\":[{\"file\":\"s/a.c\",\"include\":[\"inc\"],\"define\":[\"N=3\",\"D\"]}]}\n== inc/h.h\n#pragma once\nint D = N;\n== s/a.c\n#include <h.h>\n#include <h.h>\nend\n";
-    expect(&rt, "expand m.json s/a.c", set, 0, "int 1 = 3 ;\nend\n")
-}
-
-const REFUSED: &str = r#"expand a.c a.c
-a.c:1:8: refusal 2 Comment
-== a.c
+const REFUSED: &str = r#"@@ a.c
 int a; /* x
+$ expand a.c a.c => 3
+a.c:1:8: refusal 2 Comment
 %%
-expand a.c a.c
-a.c:1:1: refusal 4 Directive
-== a.c
+@@ a.c
 #foo
-
+$ expand a.c a.c => 3
+a.c:1:1: refusal 4 Directive
 %%
-expand a.c a.c
-a.c:1:1: refusal 5 Form
-== a.c
+@@ a.c
 #define F(a,a) a
-
+$ expand a.c a.c => 3
+a.c:1:1: refusal 5 Form
 %%
-expand a.c a.c
-a.c:1:1: refusal 6 Conditionals
-== a.c
+@@ a.c
 #endif
-
+$ expand a.c a.c => 3
+a.c:1:1: refusal 6 Conditionals
 %%
-expand a.c a.c
-a.c:2:1: refusal 7 NotFound
-== a.c
+@@ a.c
 
 #include "h.h"
-
+$ expand a.c a.c => 3
+a.c:2:1: refusal 7 NotFound
 %%
-expand a.c a.c
-a.c:1:2: refusal 8 Splice
-== a.c
+@@ a.c
 a\
-
+$ expand a.c a.c => 3
+a.c:1:2: refusal 8 Splice
 %%
-expand a.c a.c
-a.c:2:9: refusal 9 Arguments
-== a.c
+@@ a.c
 #define F(x) x
 int a = F(1
+$ expand a.c a.c => 3
+a.c:2:9: refusal 9 Arguments
 %%
-expand a.c a.c
-a.c:2:1: refusal 10 Paste
-== a.c
+@@ a.c
 #define P(a,b) a##b
 P(+,x)
-
+$ expand a.c a.c => 3
+a.c:2:1: refusal 10 Paste
 %%
-expand a.c a.c
-a.c:1:14: refusal 11 HashOperand
-== a.c
+@@ a.c
 #define G(a) #b
-
+$ expand a.c a.c => 3
+a.c:1:14: refusal 11 HashOperand
 %%
-expand a.c a.c
-a.c:2:9: refusal 12 Redefinition
-== a.c
+@@ a.c
 #define N 1
 #define N 2
-
+$ expand a.c a.c => 3
+a.c:2:9: refusal 12 Redefinition
 %%
-expand a.c a.c
-a.c:1:1: refusal 13 Condition
-== a.c
+@@ a.c
 #if 1/0
 #endif
-
+$ expand a.c a.c => 3
+a.c:1:1: refusal 13 Condition
 %%
-expand a.c a.c
-a.c:1:1: refusal 14 Error
-== a.c
+@@ a.c
 #error no
-
+$ expand a.c a.c => 3
+a.c:1:1: refusal 14 Error
 %%
-expand a.c a.c
-a.c:1:1: refusal 18 OutOfSubset
-== a.c
+@@ a.c
 #line 3
+$ expand a.c a.c => 3
+a.c:1:1: refusal 18 OutOfSubset
+%%
+@@ a.c
+#include "h.h"
+@@ h.h
+
+#if 1
+$ expand a.c a.c => 3
+h.h:2:1: refusal 6 Conditionals
+$ expand b.c b.c => 3
+b.c:1:1: refusal 7 NotFound
+%%
+@@ a.c
+#include "a.c"
+$ expand a.c a.c => 4
+limit L4 a.c
+"#;
+
+const FAULTY: &str = r#"@@ m.json
+{"units":[
+$ expand m.json a.c => 2
+manifest M2 m.json
+%%
+@@ m.json
+{"units":[{"file":"a.c","x":1}]}
+$ expand m.json a.c => 2
+manifest M3 units/0/x
+%%
+@@ m.json
+[]
+$ expand m.json a.c => 2
+manifest M3 /
+%%
+@@ m.json
+{"units":[{"file":"../a.c"}]}
+$ expand m.json a.c => 2
+manifest M4 units/0/file
+%%
+@@ m.json
+{"units":[{"file":"a.c","define":["1N"]}]}
+$ expand m.json a.c => 2
+manifest M5 units/0/define/0
+%%
+@@ m.json
+{"units":[{"file":"a.c"},{"file":"a.c"}]}
+$ expand m.json a.c => 2
+manifest M6 units/1
+%%
+@@ m.json
+{"units":[{"file":"b.c"}]}
+$ expand m.json a.c => 2
+manifest M7 a.c
+%%
+$ expand m.json a.c => 2
+manifest M1 m.json
+$ expand ../m.json a.c => 2
+manifest M4 ../m.json
+$ expand a.c b.c => 2
+manifest M7 b.c
+$ expand a.c  => 1
+usage: demacro plan M [--json] | apply M [--json] | expand M UNIT | run M UNIT [--order N] [--steps N] [--input FILE] | gen N
+%%
+@@ m.json
+@1048576  |
+$ expand m.json a.c => 4
+limit L1 m.json
+"#;
+
+const FAILING: &str = r#"@@ m.json
+{"units":[{"file":"a.c"}]}
+@@ a.c
+#include "h.h"
+@@ h.h
+int a;
+$ expand m.json a.c => 5, folder 0
+read fault m.json
+$ expand m.json a.c => 5, folder 1
+read fault a.c
+$ expand m.json a.c => 5, folder 2
+read fault h.h
+$ expand m.json a.c => 5, folder 0, sink 0
+$ expand m.json a.c => 5, folder 1, sink 0
+$ expand m.json a.c => 5, folder 2, sink 0
+$ expand m.json a.c => 7, sink 0
+$ expand m.json a.c => 0, folder 3, sink 1
+int a ;
 "#;
 
 #[test]
-fn says_why_a_unit_is_refused(rt: HostRuntime) -> Result<(), Fail> {
-    expect_stops(&rt, 3, REFUSED)?;
-    let open = "== a.c\n#include \"h.h\"\n== h.h\n\n#if 1\n";
-    expect(
-        &rt,
-        "expand a.c a.c",
-        open,
-        3,
-        "h.h:2:1: refusal 6 Conditionals\n",
-    )?;
-    expect(
-        &rt,
-        "expand b.c b.c",
-        open,
-        3,
-        "b.c:1:1: refusal 7 NotFound\n",
-    )?;
-    let itself = "== a.c\n#include \"a.c\"\n";
-    expect(&rt, "expand a.c a.c", itself, 4, "limit L4 a.c\n")
-}
-
-const FAULTY: &str = r#"expand m.json a.c
-manifest M2 m.json
-== m.json
-{"units":[
-%%
-expand m.json a.c
-manifest M3 units/0/x
-== m.json
-{"units":[{"file":"a.c","x":1}]}
-%%
-expand m.json a.c
-manifest M3 /
-== m.json
-[]
-%%
-expand m.json a.c
-manifest M4 units/0/file
-== m.json
-{"units":[{"file":"../a.c"}]}
-%%
-expand m.json a.c
-manifest M5 units/0/define/0
-== m.json
-{"units":[{"file":"a.c","define":["1N"]}]}
-%%
-expand m.json a.c
-manifest M6 units/1
-== m.json
-{"units":[{"file":"a.c"},{"file":"a.c"}]}
-%%
-expand m.json a.c
-manifest M7 a.c
-== m.json
-{"units":[{"file":"b.c"}]}"#;
-
-#[test]
-fn says_what_is_wrong_with_a_manifest(rt: HostRuntime) -> Result<(), Fail> {
-    expect_stops(&rt, 2, FAULTY)?;
-    expect(&rt, "expand m.json a.c", "", 2, "manifest M1 m.json\n")?;
-    expect(
-        &rt,
-        "expand ../m.json a.c",
-        "",
-        2,
-        "manifest M4 ../m.json\n",
-    )?;
-    expect(&rt, "expand a.c b.c", "", 2, "manifest M7 b.c\n")?;
-    let long = format!(in rt.alloc();
-        "== m.json\n{}",
-        "\n".repeat(rt.alloc(), 1_048_577)?.as_str()
-    )?;
-    expect(
-        &rt,
-        "expand m.json a.c",
-        long.as_str(),
-        4,
-        "limit L1 m.json\n",
-    )
-}
-
-#[test]
-fn tells_faults_of_the_folder_and_the_sink(rt: HostRuntime) -> Result<(), Fail> {
-    let files =
-        "== m.json\n{\"units\":[{\"file\":\"a.c\"}]}\n== a.c\n#include \"h.h\"\n== h.h\nint a;\n";
-    for (call, output) in [
-        (0, "read fault m.json\n"),
-        (1, "read fault a.c\n"),
-        (2, "read fault h.h\n"),
-    ] {
-        expect_failing(&rt, "expand m.json a.c", files, &[call], &[], 5, output)?;
-        expect_failing(&rt, "expand m.json a.c", files, &[call], &[0], 5, "")?;
-    }
-    expect_failing(&rt, "expand m.json a.c", files, &[], &[0], 7, "")?;
-    expect_failing(&rt, "expand m.json a.c", files, &[3], &[1], 0, "int a ;\n")
-}
-
-#[test]
-fn refuses_words_that_name_no_unit(rt: HostRuntime) -> Result<(), Fail> {
-    for line in [
-        "expand",
-        "expand a.c",
-        "expand a.c a.c a.c",
-        "expand -a.c a.c",
-        "expand a.c --",
-        "expand  a.c",
-        "expand a.c ",
-        "Expand a.c a.c",
-    ] {
-        expect(&rt, line, "== a.c\nint a;\n", 1, USAGE)?;
-    }
-    Ok(())
+fn says_why_a_unit_is_not_listed(rt: HostRuntime) -> Result<(), Fail> {
+    check(&rt, REFUSED)?;
+    check(&rt, FAULTY)?;
+    check(&rt, FAILING)
 }
